@@ -1,0 +1,68 @@
+-- Bytes by what they are, and the longest run of them that passes a test (document 01, "Words").
+use mathlib.Core.List.{List, [], _∷_}
+use mathlib.Core.Bool.{Bool, true, false, not, cond, _&&_, _||_}
+use Prim.Native.Nat.{ℕ, _-_}
+use lib.Dec.{leb, eqb}
+use lib.ListN.{take, drop}
+
+-- what a byte is where it stands outside strings and comments; `letter` is a byte of a plain word
+pub data Class : Type 0 where
+  blank opener closer quote semicolon letter other : Class
+
+unfoldable pub isBlank : ℕ → Bool
+isBlank b = eqb b 9 || eqb b 10 || eqb b 13 || eqb b 32
+
+unfoldable pub classOf : ℕ → Class
+unfolding isBlank
+classOf b =
+    cond (isBlank b) blank
+    (cond (eqb b 40) opener
+    (cond (eqb b 41) closer
+    (cond (eqb b 34) quote
+    (cond (eqb b 59) semicolon
+    (cond (leb 33 b && leb b 126) letter other)))))
+
+unfoldable pub letterClass : Class → Bool
+letterClass blank = false
+letterClass opener = false
+letterClass closer = false
+letterClass quote = false
+letterClass semicolon = false
+letterClass letter = true
+letterClass other = false
+
+-- a byte of a plain word
+unfoldable pub isLetter : ℕ → Bool
+unfolding letterClass classOf
+isLetter b = letterClass (classOf b)
+
+-- a byte of a comment's line
+unfoldable pub inLine : ℕ → Bool
+inLine b = not (eqb b 10)
+
+-- a byte before a string's closing quote
+unfoldable pub inString : ℕ → Bool
+inString b = not (eqb b 34)
+
+unfoldable pub isDigit : ℕ → Bool
+isDigit b = leb 48 b && leb b 57
+
+-- a byte that a string may hold
+unfoldable pub isContent : ℕ → Bool
+isContent b = leb 32 b && leb b 126
+
+-- the bytes up to the first that fails a test
+unfoldable pub run : (ℕ → Bool) → List ℕ → List ℕ
+run t [] = []
+run t (b ∷ bs) = elim (t b) [ true ↦ b ∷ run t bs | false ↦ [] ]
+
+-- the bytes from one offset up to another
+unfoldable pub part : List ℕ → ℕ → ℕ → List ℕ
+part text start end = take (end - start) (drop start text)
+
+-- two lists of bytes are the same
+unfoldable pub same : List ℕ → List ℕ → Bool
+same [] [] = true
+same [] (b ∷ bs) = false
+same (a ∷ as') [] = false
+same (a ∷ as') (b ∷ bs) = eqb a b && same as' bs

@@ -1,0 +1,66 @@
+-- The faults 1 to 4 of a text, in document 01's order.
+use mathlib.Core.List.{List, [], _∷_}
+use mathlib.Core.Bool.{Bool, true, false}
+use Prim.Native.Nat.{ℕ, suc}
+use lib.Dec.{leb, ltb, eqb}
+use lib.ListN.{length, take, drop}
+use Rattle.lexer.specs.Bytes.{Class, blank, opener, closer, quote, semicolon, letter, other, classOf, isBlank, isContent, same}
+
+-- a refusal's number and its offset (01's "place"), or none
+pub data Fault : Type 0 where
+  clear : Fault
+  fault : ℕ → ℕ → Fault
+
+-- where a byte stands: outside strings and comments, in a comment, or in the string whose quote stands at an offset, after so many bytes of it
+pub data Within : Type 0 where
+  outside comment : Within
+  string : ℕ → ℕ → Within
+
+-- the first fault 3 or 4 of the bytes that stand at offset p
+unfoldable pub faultIn : Within → ℕ → List ℕ → Fault
+unfolding classOf isContent
+faultIn outside p [] = clear
+faultIn comment p [] = clear
+faultIn (string q n) p [] = fault 4 q
+faultIn outside p (b ∷ bs) =
+    elim (classOf b) [
+      blank ↦ faultIn outside (suc p) bs
+    | opener ↦ faultIn outside (suc p) bs
+    | closer ↦ faultIn outside (suc p) bs
+    | quote ↦ faultIn (string p 0) (suc p) bs
+    | semicolon ↦ faultIn comment (suc p) bs
+    | letter ↦ faultIn outside (suc p) bs
+    | other ↦ fault 3 p ]
+faultIn comment p (b ∷ bs) = elim (eqb b 10) [ true ↦ faultIn outside (suc p) bs | false ↦ faultIn comment (suc p) bs ]
+faultIn (string q n) p (b ∷ bs) =
+    elim (eqb b 34) [
+      true ↦ faultIn outside (suc p) bs
+    | false ↦ elim (ltb n 255) [
+        true ↦ elim (isContent b) [ true ↦ faultIn (string q (suc n)) (suc p) bs | false ↦ fault 3 p ]
+      | false ↦ fault 4 q ] ]
+
+-- the two formats, by the first four bytes of their texts
+pub data Format : Type 0 where
+  bac tra : Format
+
+-- ;BAC and ;TRA
+unfoldable pub markOf : Format → List ℕ
+markOf bac = 59 ∷ 66 ∷ 65 ∷ 67 ∷ []
+markOf tra = 59 ∷ 84 ∷ 82 ∷ 65 ∷ []
+
+unfoldable pub blankOrEnd : List ℕ → Bool
+unfolding isBlank
+blankOrEnd [] = true
+blankOrEnd (b ∷ bs) = isBlank b
+
+-- the mark, and then a blank or the text's end
+unfoldable pub marked : Format → List ℕ → Bool
+unfolding markOf same blankOrEnd
+marked f text = elim (same (take 4 text) (markOf f)) [ true ↦ blankOrEnd (drop 4 text) | false ↦ false ]
+
+unfoldable pub textFault : Format → List ℕ → Fault
+unfolding marked faultIn
+textFault f text =
+    elim (leb (length text) 65536) [
+      true ↦ elim (marked f text) [ true ↦ faultIn outside 0 text | false ↦ fault 2 0 ]
+    | false ↦ fault 1 0 ]

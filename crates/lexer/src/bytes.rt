@@ -1,0 +1,121 @@
+// What a byte is, and the longest run of bytes of one kind.
+ghost use mathlib.Core.Path.{_≡_};
+ghost use Prim.Native.Nat.{_+_};
+ghost use lib.ListN.{length, drop};
+ghost use Rattle.lexer.specs.Bytes.{classOf, run, isContent};
+ghost use Rattle.lexer.specs.Bytes.{part as partOf, same as sameBytes};
+ghost use Rattle.lexer.specs.Answers.{classNamed, testNamed};
+
+// What a byte is outside strings and comments.
+pub(crate) enum Class {
+    Blank,
+    Opener,
+    Closer,
+    Quote,
+    Semicolon,
+    Letter,
+    Other,
+}
+
+pub(crate) fn class_of(b: u8) -> Class
+    ensures { λ r. ⌜ classNamed r ≡ classOf b ⌝ }
+{
+    if b == 9 {
+        return Class::Blank;
+    }
+    if b == 10 {
+        return Class::Blank;
+    }
+    if b == 13 {
+        return Class::Blank;
+    }
+    if b == 32 {
+        return Class::Blank;
+    }
+    if b == 40 {
+        return Class::Opener;
+    }
+    if b == 41 {
+        return Class::Closer;
+    }
+    if b == 34 {
+        return Class::Quote;
+    }
+    if b == 59 {
+        return Class::Semicolon;
+    }
+    if b < 33 {
+        return Class::Other;
+    }
+    if 126 < b {
+        return Class::Other;
+    }
+    Class::Letter
+}
+
+// Runs of bytes: a plain word's letters, a comment's line, a string's content, digits.
+pub(crate) enum Run {
+    Letters,
+    Line,
+    Content,
+    Digits,
+}
+
+pub(crate) fn belongs(kind: Run, b: u8) -> bool
+    ensures { λ r. ⌜ r ≡ testNamed kind b ⌝ }
+{
+    match kind {
+        Run::Letters => {
+            if let Class::Letter = class_of(b) { true } else { false }
+        }
+        Run::Line => b != 10,
+        Run::Content => b != 34,
+        Run::Digits => {
+            if b < 48 {
+                false
+            } else {
+                b <= 57
+            }
+        }
+    }
+}
+
+// Where the run of bytes of a kind that begins at `from` ends.
+pub(crate) fn run_end(text: &[u8], from: usize, kind: Run) -> usize
+    ensures { λ r. ⌜ r ≡ from + length (run (testNamed kind) (drop from (now (text .entry)))) ⌝ }
+{
+    let mut i = from;
+    while i < text.len() {
+        if !belongs(kind, text[i]) {
+            return i;
+        }
+        i += 1;
+    }
+    i
+}
+
+// The bytes from `start` up to `end`, or as many of them as there are.
+pub fn part(text: &[u8], start: usize, end: usize) -> &[u8]
+    ensures { λ r. ⌜ now r ≡ partOf (now (text .entry)) start end ⌝ }
+{
+    let last = if end < text.len() { end } else { text.len() };
+    let first = if start < last { start } else { last };
+    &text[first..last]
+}
+
+// Whether two lists of bytes are the same: a plain token's and a keyword's.
+pub fn same(a: &[u8], b: &[u8]) -> bool
+    ensures { λ r. ⌜ r ≡ sameBytes (now (a .entry)) (now (b .entry)) ⌝ }
+{
+    if a.len() != b.len() {
+        return false;
+    }
+    let mut i = 0;
+    while i < a.len() {
+        if a[i] != b[i] {
+            return false;
+        }
+        i += 1;
+    }
+    true
+}
