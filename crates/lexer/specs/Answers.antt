@@ -34,7 +34,6 @@ classNamed Other = other
 
 -- the test that a run's bytes pass
 unfoldable pub testNamed : Run → ℕ → Bool
-unfolding isLetter inLine inString isDigit
 testNamed Letters = isLetter
 testNamed Line = inLine
 testNamed Content = inString

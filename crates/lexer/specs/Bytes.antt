@@ -5,36 +5,25 @@ use Prim.Native.Nat.{ℕ, _-_}
 use lib.Dec.{leb, eqb}
 use lib.ListN.{take, drop}
 
--- what a byte is where it stands outside strings and comments; `letter` is a byte of a plain word
+-- what a byte is where it stands outside strings and comments
 pub data Class : Type 0 where
   blank opener closer quote semicolon letter other : Class
 
 unfoldable pub isBlank : ℕ → Bool
 isBlank b = eqb b 9 || eqb b 10 || eqb b 13 || eqb b 32
 
+-- a byte of a plain word: 33 to 126 without ( ) " ;
+unfoldable pub isLetter : ℕ → Bool
+isLetter b = leb 33 b && leb b 126 && not (eqb b 40 || eqb b 41 || eqb b 34 || eqb b 59)
+
 unfoldable pub classOf : ℕ → Class
-unfolding isBlank
 classOf b =
     cond (isBlank b) blank
     (cond (eqb b 40) opener
     (cond (eqb b 41) closer
     (cond (eqb b 34) quote
     (cond (eqb b 59) semicolon
-    (cond (leb 33 b && leb b 126) letter other)))))
-
-unfoldable pub letterClass : Class → Bool
-letterClass blank = false
-letterClass opener = false
-letterClass closer = false
-letterClass quote = false
-letterClass semicolon = false
-letterClass letter = true
-letterClass other = false
-
--- a byte of a plain word
-unfoldable pub isLetter : ℕ → Bool
-unfolding letterClass classOf
-isLetter b = letterClass (classOf b)
+    (cond (isLetter b) letter other)))))
 
 -- a byte of a comment's line
 unfoldable pub inLine : ℕ → Bool
@@ -60,7 +49,7 @@ run t (b ∷ bs) = elim (t b) [ true ↦ b ∷ run t bs | false ↦ [] ]
 unfoldable pub part : List ℕ → ℕ → ℕ → List ℕ
 part text start end = take (end - start) (drop start text)
 
--- two lists of bytes are the same
+-- whether two lists of bytes are the same
 unfoldable pub same : List ℕ → List ℕ → Bool
 same [] [] = true
 same [] (b ∷ bs) = false

@@ -18,7 +18,6 @@ pub data Within : Type 0 where
 
 -- the first fault 3 or 4 of the bytes that stand at offset p
 unfoldable pub faultIn : Within → ℕ → List ℕ → Fault
-unfolding classOf isContent
 faultIn outside p [] = clear
 faultIn comment p [] = clear
 faultIn (string q n) p [] = fault 4 q
@@ -49,17 +48,14 @@ markOf bac = 59 ∷ 66 ∷ 65 ∷ 67 ∷ []
 markOf tra = 59 ∷ 84 ∷ 82 ∷ 65 ∷ []
 
 unfoldable pub blankOrEnd : List ℕ → Bool
-unfolding isBlank
 blankOrEnd [] = true
 blankOrEnd (b ∷ bs) = isBlank b
 
 -- the mark, and then a blank or the text's end
 unfoldable pub marked : Format → List ℕ → Bool
-unfolding markOf same blankOrEnd
 marked f text = elim (same (take 4 text) (markOf f)) [ true ↦ blankOrEnd (drop 4 text) | false ↦ false ]
 
 unfoldable pub textFault : Format → List ℕ → Fault
-unfolding marked faultIn
 textFault f text =
     elim (leb (length text) 65536) [
       true ↦ elim (marked f text) [ true ↦ faultIn outside 0 text | false ↦ fault 2 0 ]

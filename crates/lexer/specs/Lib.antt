@@ -3,4 +3,3 @@ pub mod Tokens
 pub mod Faults
 pub mod Numbers
 pub mod Answers
-pub mod Scratch

@@ -18,7 +18,6 @@ decimalFrom n [] = n
 decimalFrom n (b ∷ bs) = decimalFrom (n * 10 + (b - 48)) bs
 
 unfoldable pub decimal : List ℕ → ℕ
-unfolding decimalFrom
 decimal bs = decimalFrom 0 bs
 
 unfoldable pub signed : Bool → ℕ → ℤ
@@ -37,31 +36,25 @@ someDigits (b ∷ bs) = true
 
 -- what stands after the digits that a word begins with
 unfoldable pub afterDigits : List ℕ → List ℕ
-unfolding isDigit run
 afterDigits bs = drop (length (run isDigit bs)) bs
 
 -- the sign, the digits, and what stands after them
 unfoldable pub intFrom : Bool → List ℕ → List ℕ → Number
-unfolding decimal signed intMost
 intFrom s ds [] = cond (leb (length ds) 10 && leb (decimal ds) (intMost s)) (value (signed s (decimal ds))) beyond
 intFrom s ds (b ∷ bs) = wrong
 
 -- the digits before the point and those after it
 unfoldable pub millionths : List ℕ → List ℕ → ℕ
-unfolding decimal
 millionths ds fs = decimal ds * 10 ^ 6 + decimal fs * 10 ^ (6 - length fs)
 
 unfoldable pub floatOf : Bool → List ℕ → List ℕ → Number
-unfolding millionths signed
 floatOf s ds fs = cond (leb (length ds) 7 && leb (length fs) 6) (value (signed s (millionths ds fs))) beyond
 
 -- nothing but digits, and one at least
 unfoldable pub onlyDigits : List ℕ → Bool
-unfolding someDigits isDigit run
 onlyDigits bs = someDigits bs && eqb (length (run isDigit bs)) (length bs)
 
 unfoldable pub floatFrom : Bool → List ℕ → List ℕ → Number
-unfolding floatOf onlyDigits
 floatFrom s ds [] = floatOf s ds []
 floatFrom s ds (b ∷ bs) = cond (eqb b 46 && onlyDigits bs) (floatOf s ds bs) wrong
 
@@ -69,17 +62,14 @@ pub data Form : Type 0 where
   INT FLOAT : Form
 
 unfoldable pub numberFrom : Form → Bool → List ℕ → List ℕ → Number
-unfolding intFrom floatFrom
 numberFrom INT s ds rest = intFrom s ds rest
 numberFrom FLOAT s ds rest = floatFrom s ds rest
 
 unfoldable pub unsigned : Form → Bool → List ℕ → Number
-unfolding numberFrom someDigits afterDigits isDigit run
 unsigned f s bs = elim (someDigits (run isDigit bs)) [ true ↦ numberFrom f s (run isDigit bs) (afterDigits bs) | false ↦ wrong ]
 
 -- a word as a number of a form
 unfoldable pub numberOf : Form → List ℕ → Number
-unfolding unsigned
 numberOf f [] = wrong
 numberOf f (b ∷ bs) = elim (eqb b 45) [ true ↦ unsigned f true bs | false ↦ unsigned f false (b ∷ bs) ]
 

@@ -18,7 +18,6 @@ lexeme p t = record { offset = p; token = t }
 
 -- the tokens of the bytes that stand at offset p, of which the first k belong to what stands before them
 unfoldable pub tokens : ℕ → ℕ → List ℕ → List Lexeme
-unfolding lexeme classOf isLetter inLine inString run
 tokens k p [] = lexeme p ending ∷ []
 tokens (suc k) p (b ∷ bs) = tokens k (suc p) bs
 tokens zero p (b ∷ bs) =
@@ -33,12 +32,10 @@ tokens zero p (b ∷ bs) =
 
 -- the tokens from an offset on
 unfoldable pub lexAt : List ℕ → ℕ → List Lexeme
-unfolding tokens
 lexAt text at = tokens 0 (min at (length text)) (drop at text)
 
 -- the tokens of a text
 unfoldable pub lex : List ℕ → List Lexeme
-unfolding tokens
 lex text = tokens 0 0 text
 
 -- what a string or a plain word holds

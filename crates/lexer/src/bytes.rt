@@ -2,7 +2,7 @@
 ghost use mathlib.Core.Path.{_≡_};
 ghost use Prim.Native.Nat.{_+_};
 ghost use lib.ListN.{length, drop};
-ghost use Rattle.lexer.specs.Bytes.{classOf, run, isContent};
+ghost use Rattle.lexer.specs.Bytes.{isBlank, isLetter, isDigit, classOf, run};
 ghost use Rattle.lexer.specs.Bytes.{part as partOf, same as sameBytes};
 ghost use Rattle.lexer.specs.Answers.{classNamed, testNamed};
 
@@ -17,19 +17,46 @@ pub(crate) enum Class {
     Other,
 }
 
+fn is_blank(b: u8) -> bool
+    ensures { λ r. ⌜ r ≡ isBlank b ⌝ }
+{
+    if b == 9 {
+        return true;
+    }
+    if b == 10 {
+        return true;
+    }
+    if b == 13 {
+        return true;
+    }
+    b == 32
+}
+
+fn is_letter(b: u8) -> bool
+    ensures { λ r. ⌜ r ≡ isLetter b ⌝ }
+{
+    if b < 33 {
+        return false;
+    }
+    if 126 < b {
+        return false;
+    }
+    if b == 40 {
+        return false;
+    }
+    if b == 41 {
+        return false;
+    }
+    if b == 34 {
+        return false;
+    }
+    b != 59
+}
+
 pub(crate) fn class_of(b: u8) -> Class
     ensures { λ r. ⌜ classNamed r ≡ classOf b ⌝ }
 {
-    if b == 9 {
-        return Class::Blank;
-    }
-    if b == 10 {
-        return Class::Blank;
-    }
-    if b == 13 {
-        return Class::Blank;
-    }
-    if b == 32 {
+    if is_blank(b) {
         return Class::Blank;
     }
     if b == 40 {
@@ -44,13 +71,19 @@ pub(crate) fn class_of(b: u8) -> Class
     if b == 59 {
         return Class::Semicolon;
     }
-    if b < 33 {
-        return Class::Other;
+    if is_letter(b) {
+        return Class::Letter;
     }
-    if 126 < b {
-        return Class::Other;
+    Class::Other
+}
+
+fn is_digit(b: u8) -> bool
+    ensures { λ r. ⌜ r ≡ isDigit b ⌝ }
+{
+    if b < 48 {
+        return false;
     }
-    Class::Letter
+    b <= 57
 }
 
 // Runs of bytes: a plain word's letters, a comment's line, a string's content, digits.
@@ -65,18 +98,10 @@ pub(crate) fn belongs(kind: Run, b: u8) -> bool
     ensures { λ r. ⌜ r ≡ testNamed kind b ⌝ }
 {
     match kind {
-        Run::Letters => {
-            if let Class::Letter = class_of(b) { true } else { false }
-        }
+        Run::Letters => is_letter(b),
         Run::Line => b != 10,
         Run::Content => b != 34,
-        Run::Digits => {
-            if b < 48 {
-                false
-            } else {
-                b <= 57
-            }
-        }
+        Run::Digits => is_digit(b),
     }
 }
 
