@@ -123,9 +123,16 @@ pub(crate) fn run_end(text: &[u8], from: usize, kind: Run) -> usize
 pub fn part(text: &[u8], start: usize, end: usize) -> &[u8]
     ensures { λ r. ⌜ now r ≡ partOf (now (text .entry)) start end ⌝ }
 {
-    let last = if end < text.len() { end } else { text.len() };
-    let first = if start < last { start } else { last };
-    &text[first..last]
+    if end < start {
+        return &text[..0];
+    }
+    if text.len() < start {
+        return &text[..0];
+    }
+    if text.len() < end {
+        return &text[start..];
+    }
+    &text[start..end]
 }
 
 // Whether two lists of bytes are the same: a plain token's and a keyword's.
