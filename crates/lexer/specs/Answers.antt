@@ -1,8 +1,8 @@
 -- What each answer of the code says in the definitions' terms.
 use mathlib.Core.Path.{_≡_}
 use mathlib.Core.List.{List, [], _∷_}
-use mathlib.Core.Bool.{Bool}
-use Prim.Native.Nat.{ℕ, _+_, _≤_, _<_, min}
+use mathlib.Core.Bool.{Bool, true, false}
+use Prim.Native.Nat.{ℕ, suc, _+_, _≤_, _<_, min}
 use lib.ListN.{length}
 use lib.IntN.{ℤ}
 use Rattle.lexer.specs.declared.bytes.Class.{Class as ByteClass}
@@ -19,7 +19,7 @@ use Rattle.lexer.specs.declared.check.Checked.the-variants.{Clear, Refus
 use Rattle.lexer.specs.declared.number.Parsed.{Parsed}
 use Rattle.lexer.specs.declared.number.Parsed.the-variants.{Value, Beyond, Malformed}
 use Rattle.lexer.specs.Bytes.{Class, blank, opener, closer, quote, semicolon, letter, other, isLetter, inLine, inString, isDigit, part}
-use Rattle.lexer.specs.Tokens.{Token, opening, closing, ending, quoted, plain, Lexeme, lexeme, lexAt, bytesOf, widthOf}
+use Rattle.lexer.specs.Tokens.{Token, opening, closing, ending, quoted, plain, Lexeme, lexeme, first, lexAt, bytesOf, widthOf}
 use Rattle.lexer.specs.Faults.{Fault, clear, fault, Format, bac, tra}
 use Rattle.lexer.specs.Numbers.{Number, value, beyond, wrong}
 
@@ -53,6 +53,7 @@ numberNamed (Value z) = value z
 numberNamed Beyond = beyond
 numberNamed Malformed = wrong
 
+-- a token by its kind and the bytes that it holds
 unfoldable pub tokenOf : Kind → List ℕ → Token
 tokenOf Opening bs = opening
 tokenOf Closing bs = closing
@@ -60,5 +61,50 @@ tokenOf Quoted bs = quoted bs
 tokenOf Plain bs = plain bs
 tokenOf Ending bs = ending
 
-pub record Found (text : List ℕ) (at : ℕ) (r : Span) : Type 0 where
-  pub start-known : r .start ≡ r .start
+unfoldable pub kindOf : Token → Kind
+kindOf opening = Opening
+kindOf closing = Closing
+kindOf ending = Ending
+kindOf (quoted bs) = Quoted
+kindOf (plain bs) = Plain
+
+-- where the bytes that a token holds begin: a string's after its quote
+unfoldable pub contentStart : Kind → ℕ → ℕ
+contentStart Opening p = p
+contentStart Closing p = p
+contentStart Quoted p = suc p
+contentStart Plain p = p
+contentStart Ending p = p
+
+unfoldable pub isEnding : Kind → Bool
+isEnding Opening = false
+isEnding Closing = false
+isEnding Quoted = false
+isEnding Plain = false
+isEnding Ending = true
+
+-- where a lexeme lies in a text of n bytes: an unended string ends with the text
+unfoldable pub spanOf : ℕ → Lexeme → Span
+spanOf n m = record { kind = kindOf (m .token); start = m .offset; end = min (m .offset + widthOf (m .token)) n; length = length (bytesOf (m .token)) }
+
+-- the first token at or after an offset
+unfoldable pub spanAt : List ℕ → ℕ → Span
+spanAt text at = spanOf (length text) (first (lexAt text at))
+
+-- the bytes that a span's token holds
+unfoldable pub heldBytes : List ℕ → Span → List ℕ
+heldBytes text s = part text (contentStart (s .kind) (s .start)) (contentStart (s .kind) (s .start) + s .length)
+
+unfoldable pub lexemeOf : List ℕ → Span → Lexeme
+lexemeOf text s = lexeme (s .start) (tokenOf (s .kind) (heldBytes text s))
+
+-- the tokens from a span's end on: none after the last
+unfoldable pub after : List ℕ → Span → List Lexeme
+after text s = elim (isEnding (s .kind)) [ true ↦ [] | false ↦ lexAt text (s .end) ]
+
+-- what the next token at or after an offset is
+pub record Next (text : List ℕ) (at : ℕ) (r : Span) : Type 0 where
+  pub is : r ≡ spanAt text at
+  pub tokens : lexAt text at ≡ lexemeOf text r ∷ after text r
+  pub within : r .end ≤ length text
+  pub moves : isEnding (r .kind) ≡ false → (at ≤ r .start) × (r .start < r .end)

@@ -38,6 +38,11 @@ lexAt text at = tokens 0 (min at (length text)) (drop at text)
 unfoldable pub lex : List ℕ → List Lexeme
 lex text = tokens 0 0 text
 
+-- the first of some tokens; there is always one
+unfoldable pub first : List Lexeme → Lexeme
+first [] = lexeme 0 ending
+first (m ∷ ms) = m
+
 -- what a string or a plain word holds
 unfoldable pub bytesOf : Token → List ℕ
 bytesOf opening = []

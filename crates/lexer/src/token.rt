@@ -1,6 +1,6 @@
 // The next token at or after an offset.
 ghost use mathlib.Core.Path.{_≡_};
-ghost use Rattle.lexer.specs.Answers.{Found};
+ghost use Rattle.lexer.specs.Answers.{Next};
 
 use crate::bytes::Class;
 use crate::bytes::Run;
@@ -22,7 +22,7 @@ pub struct Span {
 }
 
 pub fn next(text: &[u8], at: usize) -> Span
-    ensures { λ r. ⌜ Found (now (text .entry)) at r ⌝ }
+    ensures { λ r. ⌜ Next (now (text .entry)) at r ⌝ }
 {
     let mut i = at;
     while i < text.len() {
