@@ -49,30 +49,38 @@ module _ (text : List ℕ) (at : ℕ) (h : at < length text) where
       go true e = near (leb-true _ _ e)
       go false e = far (le-of-lt (leb-false _ _ e))
 
-  lexAt-blank : classOf (getD text at 0) ≡ blank → lexAt text at ≡ lexAt text (suc at + 0)
-  unfolding tokens
-  lexAt-blank e = lexAt-byte ∙ rw (e, tokens) (jump 0)
+  -- the same, where the code or a definition counts otherwise
+  jump-to : (k n : ℕ) → suc at + k ≡ n → tokens k (suc at) (drop (suc at) text) ≡ lexAt text n
+  jump-to k n e = jump k ∙ ap (lexAt text) e
 
-  lexAt-other : classOf (getD text at 0) ≡ other → lexAt text at ≡ lexAt text (suc at + 0)
+  pub lexAt-blank : classOf (getD text at 0) ≡ blank → lexAt text at ≡ lexAt text (at + 1)
   unfolding tokens
-  lexAt-other e = lexAt-byte ∙ rw (e, tokens) (jump 0)
+  lexAt-blank e = lexAt-byte ∙ rw (e, tokens) (jump-to 0 (at + 1) (omega arith))
 
-  lexAt-comment : classOf (getD text at 0) ≡ semicolon → lexAt text at ≡ lexAt text (suc at + length (run inLine (drop (suc at) text)))
+  pub lexAt-other : classOf (getD text at 0) ≡ other → lexAt text at ≡ lexAt text (at + 1)
+  unfolding tokens
+  lexAt-other e = lexAt-byte ∙ rw (e, tokens) (jump-to 0 (at + 1) (omega arith))
+
+  pub lexAt-comment : classOf (getD text at 0) ≡ semicolon → lexAt text at ≡ lexAt text (suc at + length (run inLine (drop (suc at) text)))
   unfolding tokens
   lexAt-comment e = lexAt-byte ∙ rw (e, tokens) (jump _)
 
-  lexAt-opening : classOf (getD text at 0) ≡ opener → lexAt text at ≡ lexeme at opening ∷ lexAt text (suc at + 0)
-  unfolding tokens
-  lexAt-opening e = lexAt-byte ∙ rw (e, tokens) (ap (λ (l : List Lexeme). lexeme at opening ∷ l) (jump 0))
+  -- a token, and the tokens from its end on
+  followed : (t : Token) (k n : ℕ) → suc at + k ≡ n → lexeme at t ∷ tokens k (suc at) (drop (suc at) text) ≡ lexeme at t ∷ lexAt text n
+  followed t k n e = ap (λ (l : List Lexeme). lexeme at t ∷ l) (jump-to k n e)
 
-  lexAt-closing : classOf (getD text at 0) ≡ closer → lexAt text at ≡ lexeme at closing ∷ lexAt text (suc at + 0)
+  pub lexAt-opening : classOf (getD text at 0) ≡ opener → lexAt text at ≡ lexeme at opening ∷ lexAt text (at + 1)
   unfolding tokens
-  lexAt-closing e = lexAt-byte ∙ rw (e, tokens) (ap (λ (l : List Lexeme). lexeme at closing ∷ l) (jump 0))
+  lexAt-opening e = lexAt-byte ∙ rw (e, tokens) (followed opening 0 (at + 1) (omega arith))
 
-  lexAt-quoted : classOf (getD text at 0) ≡ quote → lexAt text at ≡ lexeme at (quoted (run inString (drop (suc at) text))) ∷ lexAt text (suc at + suc (length (run inString (drop (suc at) text))))
+  pub lexAt-closing : classOf (getD text at 0) ≡ closer → lexAt text at ≡ lexeme at closing ∷ lexAt text (at + 1)
   unfolding tokens
-  lexAt-quoted e = lexAt-byte ∙ rw (e, tokens) (ap (λ (l : List Lexeme). lexeme at (quoted (run inString (drop (suc at) text))) ∷ l) (jump _))
+  lexAt-closing e = lexAt-byte ∙ rw (e, tokens) (followed closing 0 (at + 1) (omega arith))
 
-  lexAt-plain : classOf (getD text at 0) ≡ letter → lexAt text at ≡ lexeme at (plain (getD text at 0 ∷ run isLetter (drop (suc at) text))) ∷ lexAt text (suc at + length (run isLetter (drop (suc at) text)))
+  pub lexAt-quoted : classOf (getD text at 0) ≡ quote → lexAt text at ≡ lexeme at (quoted (run inString (drop (suc at) text))) ∷ lexAt text (at + (length (run inString (drop (suc at) text)) + 2))
   unfolding tokens
-  lexAt-plain e = lexAt-byte ∙ rw (e, tokens) (ap (λ (l : List Lexeme). lexeme at (plain (getD text at 0 ∷ run isLetter (drop (suc at) text))) ∷ l) (jump _))
+  lexAt-quoted e = lexAt-byte ∙ rw (e, tokens) (followed (quoted (run inString (drop (suc at) text))) _ _ (omega arith))
+
+  pub lexAt-plain : classOf (getD text at 0) ≡ letter → lexAt text at ≡ lexeme at (plain (getD text at 0 ∷ run isLetter (drop (suc at) text))) ∷ lexAt text (at + suc (length (run isLetter (drop (suc at) text))))
+  unfolding tokens
+  lexAt-plain e = lexAt-byte ∙ rw (e, tokens) (followed (plain (getD text at 0 ∷ run isLetter (drop (suc at) text))) _ _ (omega arith))

@@ -2,3 +2,4 @@
 pub mod Runs
 pub mod Parts
 pub mod Lexing
+pub mod Spans

@@ -4,7 +4,7 @@ use mathlib.Core.List.{List, [], _∷_}
 use mathlib.Core.Bool.{Bool, true, false}
 use Prim.Native.Nat.{ℕ, zero, suc, _+_, _≤_, _<_}
 use native.Mathlib.Omega.{arith}
-use lib.ListN.{length, drop, getD, drop-of-length-le}
+use lib.ListN.{length, take, drop, getD, drop-of-length-le}
 use lib.Seq.{drop-cons}
 use Rattle.lexer.specs.Bytes.{run}
 
@@ -38,3 +38,13 @@ run-length t (b ∷ bs) = go (t b) refl (run-length t bs)
     go : (v : Bool) → t b ≡ v → length (run t bs) ≤ length bs → length (run t (b ∷ bs)) ≤ suc (length bs)
     go true e h = rw (run-yes t b bs e) (omega arith)
     go false e h = rw (run-no t b bs e) (omega arith)
+
+-- as many bytes as the run has are the run
+pub run-take : (t : ℕ → Bool) (bs : List ℕ) → take (length (run t bs)) bs ≡ run t bs
+unfolding run
+run-take t [] = refl
+run-take t (b ∷ bs) = go (t b) refl (run-take t bs)
+  where
+    go : (v : Bool) → t b ≡ v → take (length (run t bs)) bs ≡ run t bs → take (length (run t (b ∷ bs))) (b ∷ bs) ≡ run t (b ∷ bs)
+    go true e h = rw (run-yes t b bs e) (ap (λ (l : List ℕ). b ∷ l) h)
+    go false e h = rw (run-no t b bs e)

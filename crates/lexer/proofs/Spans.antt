@@ -1,0 +1,69 @@
+-- A span is the next token, from what the tokens at its start are.
+use mathlib.Core.Path.{_≡_, refl, ap, sym, _∙_}
+use mathlib.Core.List.{List, [], _∷_}
+use mathlib.Core.Bool.{Bool, true, false}
+use Prim.Native.Nat.{ℕ, zero, suc, _+_, _-_, _≤_, _<_, min}
+use native.Mathlib.Nat.{le-of-lt, min-eq-left, min-eq-right, add-sub-cancel-left}
+use native.Mathlib.Omega.{arith}
+use lib.Dec.{leb}
+use borrow.Author.Tests.{leb-true, leb-false}
+use lib.ListN.{length, take, drop, getD}
+use lib.Seq.{drop-cons}
+use Rattle.lexer.specs.Bytes.{opener, closer, quote, letter, classOf, isLetter, inString, run, part}
+use Rattle.lexer.specs.Tokens.{Token, opening, closing, ending, quoted, plain, Lexeme, lexeme, lexAt, first, bytesOf, widthOf}
+use Rattle.lexer.specs.declared.token.Span.{Span}
+use Rattle.lexer.specs.Answers.{Next, spanOf, spanAt, kindOf, tokenOf, contentStart, isEnding, heldBytes, lexemeOf, after}
+use Rattle.lexer.proofs.Runs.{run-take, run-length}
+use Rattle.lexer.proofs.Parts.{part-none}
+use Rattle.lexer.proofs.Lexing.{lexAt-end, lexAt-opening, lexAt-closing, lexAt-quoted, lexAt-plain}
+
+-- past the text's end an offset is as good as the end
+pub lexAt-min : (text : List ℕ) (at : ℕ) → lexAt text (min at (length text)) ≡ lexAt text at
+lexAt-min text at = go (leb at (length text)) refl
+  where
+    go : (v : Bool) → leb at (length text) ≡ v → lexAt text (min at (length text)) ≡ lexAt text at
+    go true e = rw (min-eq-left (leb-true _ _ e))
+    go false e = let h = le-of-lt (leb-false _ _ e) in rw (min-eq-right h, lexAt-end text at h, lexAt-end text (length text) (omega arith))
+
+pub token-again : (t : Token) → tokenOf (kindOf t) (bytesOf t) ≡ t
+unfolding tokenOf kindOf bytesOf
+token-again opening = refl
+token-again closing = refl
+token-again ending = refl
+token-again (quoted bs) = refl
+token-again (plain bs) = refl
+
+-- after any token but the last stand the tokens from its end on
+pub after-more : (text : List ℕ) (s : Span) → isEnding (s .kind) ≡ false → after text s ≡ lexAt text (s .end)
+unfolding after
+after-more text s e = rw (e, after)
+
+-- a token that begins within the text, where the tokens after it are those from its end on
+module _ (text : List ℕ) (at : ℕ) (t : Token) (h : at < length text) where
+  next-from : isEnding (kindOf t) ≡ false → 0 < widthOf t → heldBytes text (spanOf (length text) (lexeme at t)) ≡ bytesOf t → lexAt text at ≡ lexeme at t ∷ lexAt text (at + widthOf t) → Next text at (spanOf (length text) (lexeme at t))
+  unfolding spanOf spanAt first lexemeOf lexeme
+  next-from n w b e =
+      record {
+        is = rw e;
+        tokens = e ∙ rw (after-more text (spanOf (length text) (lexeme at t)) n, b, token-again t, lexAt-min text (at + widthOf t));
+        within = omega arith;
+        moves = λ _. (omega arith, omega arith)
+      }
+
+-- the four kinds
+module _ (text : List ℕ) (at : ℕ) (h : at < length text) where
+  pub next-opening : classOf (getD text at 0) ≡ opener → Next text at (spanOf (length text) (lexeme at opening))
+  unfolding widthOf bytesOf kindOf isEnding heldBytes spanOf contentStart lexeme
+  next-opening e = next-from text at opening h refl (omega arith) (part-none text at (at + 0) (omega arith)) (lexAt-opening text at h e)
+
+  pub next-closing : classOf (getD text at 0) ≡ closer → Next text at (spanOf (length text) (lexeme at closing))
+  unfolding widthOf bytesOf kindOf isEnding heldBytes spanOf contentStart lexeme
+  next-closing e = next-from text at closing h refl (omega arith) (part-none text at (at + 0) (omega arith)) (lexAt-closing text at h e)
+
+  pub next-quoted : classOf (getD text at 0) ≡ quote → Next text at (spanOf (length text) (lexeme at (quoted (run inString (drop (suc at) text)))))
+  unfolding widthOf bytesOf kindOf isEnding heldBytes spanOf contentStart lexeme part
+  next-quoted e = next-from text at (quoted (run inString (drop (suc at) text))) h refl (omega arith) (rw add-sub-cancel-left (run-take inString (drop (suc at) text))) (lexAt-quoted text at h e)
+
+  pub next-plain : classOf (getD text at 0) ≡ letter → Next text at (spanOf (length text) (lexeme at (plain (getD text at 0 ∷ run isLetter (drop (suc at) text)))))
+  unfolding widthOf bytesOf kindOf isEnding heldBytes spanOf contentStart lexeme part
+  next-plain e = next-from text at (plain (getD text at 0 ∷ run isLetter (drop (suc at) text))) h refl (omega arith) (rw (add-sub-cancel-left, drop-cons text at 0 h) (ap (λ (l : List ℕ). getD text at 0 ∷ l) (run-take isLetter (drop (suc at) text)))) (lexAt-plain text at h e)
