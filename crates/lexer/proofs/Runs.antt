@@ -4,7 +4,7 @@ use mathlib.Core.List.{List, [], _∷_}
 use mathlib.Core.Bool.{Bool, true, false}
 use Prim.Native.Nat.{ℕ, zero, suc, _+_, _≤_, _<_}
 use native.Mathlib.Omega.{arith}
-use lib.ListN.{length, take, drop, getD, drop-of-length-le}
+use lib.ListN.{length, take, drop, getD, length-drop, drop-of-length-le}
 use lib.Seq.{drop-cons}
 use Rattle.lexer.specs.Bytes.{run}
 
@@ -48,3 +48,7 @@ run-take t (b ∷ bs) = go (t b) refl (run-take t bs)
     go : (v : Bool) → t b ≡ v → take (length (run t bs)) bs ≡ run t bs → take (length (run t (b ∷ bs))) (b ∷ bs) ≡ run t (b ∷ bs)
     go true e h = rw (run-yes t b bs e) (ap (λ (l : List ℕ). b ∷ l) h)
     go false e h = rw (run-no t b bs e)
+
+-- a run ends within the text
+pub run-within : (t : ℕ → Bool) (text : List ℕ) (i : ℕ) → i ≤ length text → i + length (run t (drop i text)) ≤ length text
+run-within t text i h = omega (arith, run-length t (drop i text), length-drop i text)

@@ -1,7 +1,7 @@
 -- A span is the next token, from what the tokens at its start are.
 use mathlib.Core.Path.{_≡_, refl, ap, sym, _∙_}
 use mathlib.Core.List.{List, [], _∷_}
-use mathlib.Core.Bool.{Bool, true, false}
+use mathlib.Core.Bool.{Bool, true, false, true≢false}
 use Prim.Native.Nat.{ℕ, zero, suc, _+_, _-_, _≤_, _<_, min}
 use native.Mathlib.Nat.{le-of-lt, min-eq-left, min-eq-right, add-sub-cancel-left}
 use native.Mathlib.Omega.{arith}
@@ -11,6 +11,8 @@ use lib.ListN.{length, take, drop, getD}
 use lib.Seq.{drop-cons}
 use Rattle.lexer.specs.Bytes.{opener, closer, quote, letter, classOf, isLetter, inString, run, part}
 use Rattle.lexer.specs.Tokens.{Token, opening, closing, ending, quoted, plain, Lexeme, lexeme, lexAt, first, bytesOf, widthOf}
+use Rattle.lexer.specs.declared.token.Kind.{Kind}
+use Rattle.lexer.specs.declared.token.Kind.the-variants.{Ending}
 use Rattle.lexer.specs.declared.token.Span.{Span}
 use Rattle.lexer.specs.Answers.{Next, spanOf, spanAt, kindOf, tokenOf, contentStart, isEnding, heldBytes, lexemeOf, after}
 use Rattle.lexer.proofs.Runs.{run-take, run-length}
@@ -50,6 +52,11 @@ module _ (text : List ℕ) (at : ℕ) (t : Token) (h : at < length text) where
         moves = λ _. (omega arith, omega arith)
       }
 
+-- a span by its fields
+pub spanned : (text : List ℕ) (at : ℕ) (t : Token) (k : Kind) (e l : ℕ) → k ≡ kindOf t → e ≡ min (at + widthOf t) (length text) → l ≡ length (bytesOf t) → Next text at (spanOf (length text) (lexeme at t)) → Next text at (record { kind = k; start = at; end = e; length = l })
+unfolding spanOf lexeme
+spanned text at t k e l p q r n = rw (p, q, r) n
+
 -- the four kinds
 module _ (text : List ℕ) (at : ℕ) (h : at < length text) where
   pub next-opening : classOf (getD text at 0) ≡ opener → Next text at (spanOf (length text) (lexeme at opening))
@@ -67,3 +74,28 @@ module _ (text : List ℕ) (at : ℕ) (h : at < length text) where
   pub next-plain : classOf (getD text at 0) ≡ letter → Next text at (spanOf (length text) (lexeme at (plain (getD text at 0 ∷ run isLetter (drop (suc at) text)))))
   unfolding widthOf bytesOf kindOf isEnding heldBytes spanOf contentStart lexeme part
   next-plain e = next-from text at (plain (getD text at 0 ∷ run isLetter (drop (suc at) text))) h refl (omega arith) (rw (add-sub-cancel-left, drop-cons text at 0 h) (ap (λ (l : List ℕ). getD text at 0 ∷ l) (run-take isLetter (drop (suc at) text)))) (lexAt-plain text at h e)
+
+-- past the last token
+pub next-ending : (text : List ℕ) (at : ℕ) → length text ≤ at → Next text at (record { kind = Ending; start = length text; end = length text; length = 0 })
+unfolding spanAt spanOf first lexeme lexemeOf tokenOf kindOf widthOf bytesOf after isEnding
+next-ending text at h =
+    record {
+      is = rw (lexAt-end text at h) (spans (length text) (min (length text + 0) (length text)) (omega arith));
+      tokens = lexAt-end text at h;
+      within = omega arith;
+      moves = λ e. absurd (true≢false e)
+    }
+  where
+    spans : (n m : ℕ) → n ≡ m → _≡_ {A = Span} (record { kind = Ending; start = n; end = n; length = 0 }) (record { kind = Ending; start = n; end = m; length = 0 })
+    spans n m e = rw e
+
+-- what is passed over before a token changes nothing
+pub next-earlier : (text : List ℕ) (at i : ℕ) (r : Span) → lexAt text at ≡ lexAt text i → at ≤ i → Next text i r → Next text at r
+unfolding spanAt
+next-earlier text at i r e l n =
+    record {
+      is = n .is ∙ ap (λ (ms : List Lexeme). spanOf (length text) (first ms)) (sym e);
+      tokens = e ∙ n .tokens;
+      within = n .within;
+      moves = λ m. let s = n .moves m in (omega arith, s .1)
+    }

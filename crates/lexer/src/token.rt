@@ -1,9 +1,14 @@
 // The next token at or after an offset.
 ghost use mathlib.Core.Path.{_≡_};
+ghost use Prim.Native.Nat.{_<_};
+ghost use lib.ListN.{length, getD};
+ghost use Rattle.lexer.specs.Bytes.{classOf, quote, letter};
 ghost use Rattle.lexer.specs.Answers.{Next};
 
 use crate::bytes::Class;
 use crate::bytes::Run;
+use crate::bytes::class_of;
+use crate::bytes::run_end;
 
 pub enum Kind {
     Opening,
@@ -21,36 +26,71 @@ pub struct Span {
     pub length: usize,
 }
 
+// The first token at or after an offset; past the last token, one of kind `Ending` at the text's length.
 pub fn next(text: &[u8], at: usize) -> Span
     ensures { λ r. ⌜ Next (now (text .entry)) at r ⌝ }
 {
     let mut i = at;
     while i < text.len() {
-        match crate::bytes::class_of(text[i]) {
+        match class_of(text[i]) {
             Class::Blank => i += 1,
             Class::Other => i += 1,
-            Class::Semicolon => i = crate::bytes::run_end(text, i + 1, Run::Line),
-            Class::Opener => return bracket(Kind::Opening, i),
-            Class::Closer => return bracket(Kind::Closing, i),
+            Class::Semicolon => i = run_end(text, i + 1, Run::Line),
+            Class::Opener => {
+                return Span {
+                    kind: Kind::Opening,
+                    start: i,
+                    end: i + 1,
+                    length: 0,
+                };
+            }
+            Class::Closer => {
+                return Span {
+                    kind: Kind::Closing,
+                    start: i,
+                    end: i + 1,
+                    length: 0,
+                };
+            }
             Class::Quote => return quoted(text, i),
             Class::Letter => return plain(text, i),
         }
     }
-    Span { kind: Kind::Ending, start: text.len(), end: text.len(), length: 0 }
+    Span {
+        kind: Kind::Ending,
+        start: text.len(),
+        end: text.len(),
+        length: 0,
+    }
 }
 
-fn bracket(kind: Kind, at: usize) -> Span
+// The string whose opening quote stands at `at`.
+fn quoted(text: &[u8], at: usize) -> Span
+    requires { ⌜ at < length (now text) ⌝ }
+    requires { ⌜ classOf (getD (now text) at 0) ≡ quote ⌝ }
+    ensures { λ r. ⌜ Next (now (text .entry)) at r ⌝ }
 {
-    Span { kind, start: at, end: at + 1, length: 0 }
-}
-
-fn quoted(text: &[u8], at: usize) -> Span {
-    let last = crate::bytes::run_end(text, at + 1, Run::Content);
+    let last = run_end(text, at + 1, Run::Content);
     let end = if last < text.len() { last + 1 } else { last };
-    Span { kind: Kind::Quoted, start: at, end, length: last - at - 1 }
+    Span {
+        kind: Kind::Quoted,
+        start: at,
+        end,
+        length: last - at - 1,
+    }
 }
 
-fn plain(text: &[u8], at: usize) -> Span {
-    let end = crate::bytes::run_end(text, at + 1, Run::Letters);
-    Span { kind: Kind::Plain, start: at, end, length: end - at }
+// The plain word that begins at `at`.
+fn plain(text: &[u8], at: usize) -> Span
+    requires { ⌜ at < length (now text) ⌝ }
+    requires { ⌜ classOf (getD (now text) at 0) ≡ letter ⌝ }
+    ensures { λ r. ⌜ Next (now (text .entry)) at r ⌝ }
+{
+    let end = run_end(text, at + 1, Run::Letters);
+    Span {
+        kind: Kind::Plain,
+        start: at,
+        end,
+        length: end - at,
+    }
 }
