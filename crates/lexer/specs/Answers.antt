@@ -3,7 +3,7 @@ use mathlib.Core.Path.{_≡_}
 use mathlib.Core.List.{List, [], _∷_}
 use mathlib.Core.Bool.{Bool, true, false}
 use Prim.Native.Nat.{ℕ, suc, _+_, _≤_, _<_, min}
-use lib.ListN.{length}
+use lib.ListN.{length, drop}
 use lib.IntN.{ℤ}
 use Rattle.lexer.specs.declared.bytes.Class.{Class as ByteClass}
 use Rattle.lexer.specs.declared.bytes.Class.the-variants.{Blank, Opener, Closer, Quote, Semicolon, Letter, Other}
@@ -16,11 +16,13 @@ use Rattle.lexer.specs.declared.check.Format.{Format as FormatName}
 use Rattle.lexer.specs.declared.check.Format.the-variants.{Bac, Tra}
 use Rattle.lexer.specs.declared.check.Checked.{Checked}
 use Rattle.lexer.specs.declared.check.Checked.the-variants.{Clear, Refused}
+use Rattle.lexer.specs.declared.check.Scan.{Scan}
+use Rattle.lexer.specs.declared.check.Scan.the-variants.{Ended, Faulty}
 use Rattle.lexer.specs.declared.number.Parsed.{Parsed}
 use Rattle.lexer.specs.declared.number.Parsed.the-variants.{Value, Beyond, Malformed}
 use Rattle.lexer.specs.Bytes.{Class, blank, opener, closer, quote, semicolon, letter, other, isLetter, inLine, inString, isDigit, part}
 use Rattle.lexer.specs.Tokens.{Token, opening, closing, ending, quoted, plain, Lexeme, lexeme, first, lexAt, bytesOf, widthOf}
-use Rattle.lexer.specs.Faults.{Fault, clear, fault, Format, bac, tra}
+use Rattle.lexer.specs.Faults.{Fault, clear, fault, faultIn, outside, Format, bac, tra}
 use Rattle.lexer.specs.Numbers.{Number, value, beyond, wrong}
 
 unfoldable pub classNamed : ByteClass → Class
@@ -47,6 +49,16 @@ formatNamed Tra = tra
 unfoldable pub refusal : Checked → Fault
 refusal Clear = clear
 refusal (Refused n o) = fault n o
+
+-- what a scanned string leaves: the first fault from its end on, or its own
+unfoldable pub scanned : List ℕ → Scan → Fault
+scanned text (Ended n) = faultIn outside n (drop n text)
+scanned text (Faulty n o) = fault n o
+
+-- a string that ends does so after its quote and within n bytes
+unfoldable pub Ahead : ℕ → ℕ → Scan → Type 0
+Ahead q n (Ended e) = (q < e) × (e ≤ n)
+Ahead q n (Faulty k o) = Unit {0}
 
 unfoldable pub numberNamed : Parsed → Number
 numberNamed (Value z) = value z

@@ -2,8 +2,15 @@
 use mathlib.Core.List.{List, [], _∷_}
 use mathlib.Core.Bool.{Bool, true, false, not, cond, _&&_, _||_}
 use Prim.Native.Nat.{ℕ, _-_}
+use Prim.Native.String.{String}
+use Prim.Native.Char.{code}
 use lib.Dec.{leb, eqb}
 use lib.ListN.{take, drop}
+
+-- the bytes of an ASCII text
+unfoldable pub bytes : String → List ℕ
+bytes String.[] = []
+bytes (String._∷_ c s) = code c ∷ bytes s
 
 -- what a byte is where it stands outside strings and comments
 pub data Class : Type 0 where
@@ -12,9 +19,12 @@ pub data Class : Type 0 where
 unfoldable pub isBlank : ℕ → Bool
 isBlank b = eqb b 9 || eqb b 10 || eqb b 13 || eqb b 32
 
+unfoldable pub between : ℕ → ℕ → ℕ → Bool
+between low high b = leb low b && leb b high
+
 -- a byte of a plain word: 33 to 126 without ( ) " ;
 unfoldable pub isLetter : ℕ → Bool
-isLetter b = leb 33 b && leb b 126 && not (eqb b 40 || eqb b 41 || eqb b 34 || eqb b 59)
+isLetter b = between 33 126 b && not (eqb b 40 || eqb b 41 || eqb b 34 || eqb b 59)
 
 unfoldable pub classOf : ℕ → Class
 classOf b =
@@ -34,11 +44,11 @@ unfoldable pub inString : ℕ → Bool
 inString b = not (eqb b 34)
 
 unfoldable pub isDigit : ℕ → Bool
-isDigit b = leb 48 b && leb b 57
+isDigit b = between 48 57 b
 
 -- a byte that a string may hold
 unfoldable pub isContent : ℕ → Bool
-isContent b = leb 32 b && leb b 126
+isContent b = between 32 126 b
 
 -- the bytes up to the first that fails a test
 unfoldable pub run : (ℕ → Bool) → List ℕ → List ℕ

@@ -4,7 +4,7 @@ use mathlib.Core.Bool.{Bool, true, false}
 use Prim.Native.Nat.{ℕ, suc}
 use lib.Dec.{leb, ltb, eqb}
 use lib.ListN.{length, take, drop}
-use Rattle.lexer.specs.Bytes.{Class, blank, opener, closer, quote, semicolon, letter, other, classOf, isBlank, isContent, same}
+use Rattle.lexer.specs.Bytes.{Class, blank, opener, closer, quote, semicolon, letter, other, classOf, isBlank, isContent, bytes, same}
 
 -- a refusal's number and its offset (01's "place"), or none
 pub data Fault : Type 0 where
@@ -42,18 +42,20 @@ faultIn (string q n) p (b ∷ bs) =
 pub data Format : Type 0 where
   bac tra : Format
 
--- ;BAC and ;TRA
 unfoldable pub markOf : Format → List ℕ
-markOf bac = 59 ∷ 66 ∷ 65 ∷ 67 ∷ []
-markOf tra = 59 ∷ 84 ∷ 82 ∷ 65 ∷ []
+markOf bac = bytes ";BAC"
+markOf tra = bytes ";TRA"
 
 unfoldable pub blankOrEnd : List ℕ → Bool
 blankOrEnd [] = true
 blankOrEnd (b ∷ bs) = isBlank b
 
--- the mark, and then a blank or the text's end
+-- a mark of four bytes, and then a blank or the text's end
+unfoldable pub begins : List ℕ → List ℕ → Bool
+begins mark text = elim (same (take 4 text) mark) [ true ↦ blankOrEnd (drop 4 text) | false ↦ false ]
+
 unfoldable pub marked : Format → List ℕ → Bool
-marked f text = elim (same (take 4 text) (markOf f)) [ true ↦ blankOrEnd (drop 4 text) | false ↦ false ]
+marked f text = begins (markOf f) text
 
 unfoldable pub textFault : Format → List ℕ → Fault
 textFault f text =

@@ -2,7 +2,7 @@
 ghost use mathlib.Core.Path.{_≡_};
 ghost use Prim.Native.Nat.{_+_};
 ghost use lib.ListN.{length, drop};
-ghost use Rattle.lexer.specs.Bytes.{isBlank, isLetter, isDigit, classOf, run};
+ghost use Rattle.lexer.specs.Bytes.{isBlank, between, isLetter, classOf, run};
 ghost use Rattle.lexer.specs.Bytes.{part as partOf, same as sameBytes};
 ghost use Rattle.lexer.specs.Answers.{classNamed, testNamed};
 
@@ -17,7 +17,7 @@ pub(crate) enum Class {
     Other,
 }
 
-fn is_blank(b: u8) -> bool
+pub(crate) fn is_blank(b: u8) -> bool
     ensures { λ r. ⌜ r ≡ isBlank b ⌝ }
 {
     if b == 9 {
@@ -32,13 +32,19 @@ fn is_blank(b: u8) -> bool
     b == 32
 }
 
+pub(crate) fn is_between(b: u8, low: u8, high: u8) -> bool
+    ensures { λ r. ⌜ r ≡ between low high b ⌝ }
+{
+    if b < low {
+        return false;
+    }
+    b <= high
+}
+
 fn is_letter(b: u8) -> bool
     ensures { λ r. ⌜ r ≡ isLetter b ⌝ }
 {
-    if b < 33 {
-        return false;
-    }
-    if 126 < b {
+    if !is_between(b, 33, 126) {
         return false;
     }
     if b == 40 {
@@ -77,15 +83,6 @@ pub(crate) fn class_of(b: u8) -> Class
     Class::Other
 }
 
-fn is_digit(b: u8) -> bool
-    ensures { λ r. ⌜ r ≡ isDigit b ⌝ }
-{
-    if b < 48 {
-        return false;
-    }
-    b <= 57
-}
-
 // Runs of bytes: a plain word's letters, a comment's line, a string's content, digits.
 pub(crate) enum Run {
     Letters,
@@ -101,7 +98,7 @@ pub(crate) fn belongs(kind: Run, b: u8) -> bool
         Run::Letters => is_letter(b),
         Run::Line => b != 10,
         Run::Content => b != 34,
-        Run::Digits => is_digit(b),
+        Run::Digits => is_between(b, 48, 57),
     }
 }
 

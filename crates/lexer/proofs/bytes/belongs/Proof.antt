@@ -1,5 +1,5 @@
 -- `belongs` is the test that its kind names.
-use Rattle.lexer.specs.Bytes.{inLine, inString}
+use Rattle.lexer.specs.Bytes.{inLine, inString, isDigit}
 use Rattle.lexer.specs.Answers.{testNamed}
 use borrow.Author.Needs.{needs}
 use Rattle.lexer.proofs.bytes.belongs.Statement.{statement}
@@ -20,8 +20,8 @@ enum-told-3 c = search needs
 enum-told-4 : tie.Need-enum-told-4
 enum-told-4 c = search needs
 
-is-digit-requires : tie.Need-is-digit-requires
-is-digit-requires c κs = search needs
+is-between-requires : tie.Need-is-between-requires
+is-between-requires c κs = search needs
 
 returns : tie.Need-returns
 unfolding testNamed
@@ -36,8 +36,8 @@ unfolding testNamed inString
 returns-3 c = rw (c .enum-told3 .given .1)
 
 returns-4 : tie.Need-returns-4
-unfolding testNamed
-returns-4 c = rw (c .before .enum-told4 .given .1) (c .is-digit .ensures)
+unfolding testNamed isDigit
+returns-4 c = rw (c .before .enum-told4 .given .1) (c .is-between .ensures)
 
 pub belongs-spec : {M : Type 1} → statement M
 belongs-spec =
@@ -48,7 +48,7 @@ belongs-spec =
     enum-told-2
     enum-told-3
     enum-told-4
-    is-digit-requires
+    is-between-requires
     returns
     returns-2
     returns-3
