@@ -3,3 +3,4 @@ pub mod Runs
 pub mod Parts
 pub mod Lexing
 pub mod Spans
+pub mod Scanning
