@@ -20,10 +20,11 @@ use Rattle.lexer.specs.declared.check.Scan.{Scan}
 use Rattle.lexer.specs.declared.check.Scan.the-variants.{Ended, Faulty}
 use Rattle.lexer.specs.declared.number.Parsed.{Parsed}
 use Rattle.lexer.specs.declared.number.Parsed.the-variants.{Value, Beyond, Malformed}
-use Rattle.lexer.specs.Bytes.{Class, blank, opener, closer, quote, semicolon, letter, other, isLetter, inLine, inString, isDigit, part}
+use Rattle.lexer.specs.declared.number.Leading.{Leading}
+use Rattle.lexer.specs.Bytes.{Class, blank, opener, closer, quote, semicolon, letter, other, isLetter, inLine, inString, isDigit, run, part}
 use Rattle.lexer.specs.Tokens.{Token, opening, closing, ending, quoted, plain, Lexeme, lexeme, first, lexAt, bytesOf, widthOf}
 use Rattle.lexer.specs.Faults.{Fault, clear, fault, faultIn, outside, Format, bac, tra}
-use Rattle.lexer.specs.Numbers.{Number, value, beyond, wrong}
+use Rattle.lexer.specs.Numbers.{Number, value, beyond, wrong, negative, magnitude}
 
 unfoldable pub classNamed : ByteClass → Class
 classNamed Blank = blank
@@ -64,6 +65,13 @@ unfoldable pub numberNamed : Parsed → Number
 numberNamed (Value z) = value z
 numberNamed Beyond = beyond
 numberNamed Malformed = wrong
+
+-- a word's sign, and where the digits after it begin and end
+pub record Leads (word : List ℕ) (r : Leading) : Type 0 where
+  pub sign : r .negative ≡ negative word
+  pub digits : drop (r .start) word ≡ magnitude word
+  pub within : r .start ≤ length word
+  pub ends : r .end ≡ r .start + length (run isDigit (drop (r .start) word))
 
 -- a token by its kind and the bytes that it holds
 unfoldable pub tokenOf : Kind → List ℕ → Token

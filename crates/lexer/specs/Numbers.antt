@@ -12,6 +12,15 @@ pub data Number : Type 0 where
   value : ℤ → Number
   beyond wrong : Number
 
+-- 01's refusal number, 0 for none
+unfoldable pub refusalOf : Number → ℕ
+refusalOf (value z) = 0
+refusalOf beyond = 6
+refusalOf wrong = 5
+
+pub data Form : Type 0 where
+  INT FLOAT : Form
+
 -- the value of digits
 unfoldable pub decimalFrom : ℕ → List ℕ → ℕ
 decimalFrom n [] = n
@@ -24,24 +33,21 @@ unfoldable pub signed : Bool → ℕ → ℤ
 signed false n = pos n
 signed true n = negℤ (pos n)
 
+unfoldable pub notEmpty : List ℕ → Bool
+notEmpty [] = false
+notEmpty (b ∷ bs) = true
+
+unfoldable pub allDigits : List ℕ → Bool
+allDigits [] = true
+allDigits (b ∷ bs) = isDigit b && allDigits bs
+
 -- INT's greatest magnitude, by sign
 unfoldable pub intMost : Bool → ℕ
 intMost false = 2147483647
 intMost true = 2147483648
 
--- one digit or more
-unfoldable pub someDigits : List ℕ → Bool
-someDigits [] = false
-someDigits (b ∷ bs) = true
-
--- what stands after the digits that a word begins with
-unfoldable pub afterDigits : List ℕ → List ℕ
-afterDigits bs = drop (length (run isDigit bs)) bs
-
--- the sign, the digits, and what stands after them
-unfoldable pub intFrom : Bool → List ℕ → List ℕ → Number
-intFrom s ds [] = cond (leb (length ds) 10 && leb (decimal ds) (intMost s)) (value (signed s (decimal ds))) beyond
-intFrom s ds (b ∷ bs) = wrong
+unfoldable pub intOf : Bool → List ℕ → Number
+intOf s ds = cond (leb (length ds) 10 && leb (decimal ds) (intMost s)) (value (signed s (decimal ds))) beyond
 
 -- the digits before the point and those after it
 unfoldable pub millionths : List ℕ → List ℕ → ℕ
@@ -50,30 +56,33 @@ millionths ds fs = decimal ds * 10 ^ 6 + decimal fs * 10 ^ (6 - length fs)
 unfoldable pub floatOf : Bool → List ℕ → List ℕ → Number
 floatOf s ds fs = cond (leb (length ds) 7 && leb (length fs) 6) (value (signed s (millionths ds fs))) beyond
 
--- nothing but digits, and one at least
-unfoldable pub onlyDigits : List ℕ → Bool
-onlyDigits bs = someDigits bs && eqb (length (run isDigit bs)) (length bs)
-
-unfoldable pub floatFrom : Bool → List ℕ → List ℕ → Number
-floatFrom s ds [] = floatOf s ds []
-floatFrom s ds (b ∷ bs) = cond (eqb b 46 && onlyDigits bs) (floatOf s ds bs) wrong
-
-pub data Form : Type 0 where
-  INT FLOAT : Form
-
+-- a sign, one digit or more, and what stands after them
 unfoldable pub numberFrom : Form → Bool → List ℕ → List ℕ → Number
-numberFrom INT s ds rest = intFrom s ds rest
-numberFrom FLOAT s ds rest = floatFrom s ds rest
+numberFrom INT s ds [] = intOf s ds
+numberFrom INT s ds (b ∷ bs) = wrong
+numberFrom FLOAT s ds [] = floatOf s ds []
+numberFrom FLOAT s ds (b ∷ bs) = cond (eqb b 46 && notEmpty bs && allDigits bs) (floatOf s ds bs) wrong
+
+-- what stands after the digits that bytes begin with
+unfoldable pub afterDigits : List ℕ → List ℕ
+afterDigits bs = drop (length (run isDigit bs)) bs
 
 unfoldable pub unsigned : Form → Bool → List ℕ → Number
-unsigned f s bs = elim (someDigits (run isDigit bs)) [ true ↦ numberFrom f s (run isDigit bs) (afterDigits bs) | false ↦ wrong ]
+unsigned f s bs = elim (notEmpty (run isDigit bs)) [ true ↦ numberFrom f s (run isDigit bs) (afterDigits bs) | false ↦ wrong ]
+
+unfoldable pub negative : List ℕ → Bool
+negative [] = false
+negative (b ∷ bs) = eqb b 45
+
+-- a word without its minus sign
+unfoldable pub magnitude : List ℕ → List ℕ
+magnitude word = elim (negative word) [ true ↦ drop 1 word | false ↦ word ]
 
 -- a word as a number of a form
 unfoldable pub numberOf : Form → List ℕ → Number
-numberOf f [] = wrong
-numberOf f (b ∷ bs) = elim (eqb b 45) [ true ↦ unsigned f true bs | false ↦ unsigned f false (b ∷ bs) ]
+numberOf f word = unsigned f (negative word) (magnitude word)
 
--- a value that INT or FLOAT can give
+-- a value that INT or FLOAT can have
 unfoldable pub inForm : Form → ℤ → Bool
 inForm INT (pos n) = leb n 2147483647
 inForm INT (negsuc n) = leb n 2147483647
