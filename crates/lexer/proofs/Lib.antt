@@ -4,3 +4,5 @@ pub mod Parts
 pub mod Lexing
 pub mod Spans
 pub mod Scanning
+pub mod Numerals
+pub mod Signed
