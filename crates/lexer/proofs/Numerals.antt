@@ -1,22 +1,29 @@
 -- Laws of digits, their values and the words that they make.
 use mathlib.Core.Path.{_≡_, refl, ap, sym, _∙_}
 use mathlib.Core.List.{List, [], _∷_, _++_}
-use mathlib.Core.Bool.{Bool, true, false, _&&_, false≢true, true≢false}
+use mathlib.Core.Bool.{Bool, true, false, cond, _&&_, false≢true}
 use Prim.Native.Nat.{ℕ, zero, suc, _+_, _-_, _*_, _^_, _≤_, _<_}
-use native.Mathlib.Nat.{one-mul, mul-assoc, pow-zero, pow-succ', mul-le-mul-right, pow-le-pow-right, lt-of-lt-of-le}
+use native.Mathlib.Nat.{add-sub-cancel-left, one-mul, mul-assoc, pow-zero, pow-succ', mul-le-mul-right, pow-le-pow-right, lt-of-lt-of-le}
 use native.Mathlib.Omega.{arith}
-use borrow.Author.Tests.{leb-true}
+use borrow.Author.Tests.{leb-true, leb-false, eq-eqb, ne-eqb}
 use lib.Dec.{leb, eqb}
-use lib.ListN.{length, take, drop, getD}
+use lib.ListN.{length, take, drop, getD, length-drop, drop-of-length-le}
+use lib.Seq.{drop-cons, drop-drop, take-all}
 use lib.IntN.{ℤ, pos, negsuc, negℤ}
 use Rattle.lexer.specs.Bytes.{between, isDigit, run, part}
-use Rattle.lexer.proofs.Runs.{run-yes, run-no}
-use Rattle.lexer.specs.Numbers.{Number, value, beyond, wrong, decimalFrom, decimal, allDigits, notEmpty, negative, magnitude}
+use Rattle.lexer.proofs.Runs.{run-yes, run-no, run-take, run-within}
+use Rattle.lexer.proofs.Parts.{part-none}
+use Rattle.lexer.specs.Numbers.{Number, value, beyond, wrong, Form, INT, FLOAT, decimalFrom, decimal, allDigits, notEmpty, intOf, floatOf, numberFrom, afterDigits, unsigned, negative, magnitude, numberOf}
 
 pub negative-none : (word : List ℕ) → length word ≡ 0 → negative word ≡ false
 unfolding negative
 negative-none [] e = refl
 negative-none (b ∷ bs) e = absurd (omega arith)
+
+pub negative-some : (word : List ℕ) → negative word ≡ true → 0 < length word
+unfolding negative
+negative-some [] e = absurd (false≢true e)
+negative-some (b ∷ bs) e = omega arith
 
 pub negative-first : (word : List ℕ) → 0 < length word → negative word ≡ eqb (getD word 0 0) 45
 unfolding negative
@@ -96,3 +103,85 @@ decimal-bound bs e = rw (one-mul (10 ^ length bs)) at (decimalFrom-bound 0 bs e)
 -- at most k digits are below 10 ^ k
 pub decimal-below : (bs : List ℕ) (k : ℕ) → allDigits bs ≡ true → length bs ≤ k → decimal bs < 10 ^ k
 decimal-below bs k e h = lt-of-lt-of-le (decimal-bound bs e) (pow-le-pow-right (omega arith) h)
+
+-- ---- words, by their sign and the digits from `start` to `end`
+
+pub magnitude-yes : (word : List ℕ) → negative word ≡ true → magnitude word ≡ drop 1 word
+unfolding magnitude
+magnitude-yes word e = rw (e, magnitude)
+
+pub magnitude-no : (word : List ℕ) → negative word ≡ false → magnitude word ≡ word
+unfolding magnitude
+magnitude-no word e = rw (e, magnitude)
+
+notEmpty-some : (bs : List ℕ) → 0 < length bs → notEmpty bs ≡ true
+unfolding notEmpty
+notEmpty-some [] h = absurd (omega arith)
+notEmpty-some (b ∷ bs) h = refl
+
+notEmpty-none : (bs : List ℕ) → length bs ≡ 0 → notEmpty bs ≡ false
+unfolding notEmpty
+notEmpty-none [] h = refl
+notEmpty-none (b ∷ bs) h = absurd (omega arith)
+
+module _ (word : List ℕ) (start end : ℕ) (d : drop start word ≡ magnitude word) (e : end ≡ start + length (run isDigit (drop start word))) where
+  -- the digits, and what stands after them
+  lead-digits : part word start end ≡ run isDigit (magnitude word)
+  unfolding part
+  lead-digits = rw (e, add-sub-cancel-left, ← d) (run-take isDigit (drop start word))
+
+  lead-after : afterDigits (magnitude word) ≡ drop end word
+  unfolding afterDigits
+  lead-after = rw (← d, drop-drop (length (run isDigit (drop start word))) start word, e)
+
+  pub lead-none : (f : Form) → end ≡ start → numberOf f word ≡ wrong
+  unfolding numberOf unsigned
+  lead-none f n = rw (notEmpty-none (run isDigit (magnitude word)) (rw (← d) (omega arith)), unsigned)
+
+  lead-some : (f : Form) → start < end → numberOf f word ≡ numberFrom f (negative word) (part word start end) (drop end word)
+  unfolding numberOf unsigned
+  lead-some f n = rw (notEmpty-some (run isDigit (magnitude word)) (rw (← d) (omega arith)), unsigned, lead-digits, lead-after)
+
+  pub lead-int-more : start < end → end < length word → numberOf INT word ≡ wrong
+  unfolding numberFrom
+  lead-int-more n h = lead-some INT n ∙ rw (drop-cons word end 0 h)
+
+  pub lead-int : start < end → length word ≤ end → numberOf INT word ≡ intOf (negative word) (part word start end)
+  unfolding numberFrom
+  lead-int n h = lead-some INT n ∙ rw (drop-of-length-le word h)
+
+  pub lead-float : start < end → length word ≤ end → numberOf FLOAT word ≡ floatOf (negative word) (part word start end) (part word end end)
+  unfolding numberFrom
+  lead-float n h = lead-some FLOAT n ∙ rw (drop-of-length-le word h, part-none word end end (omega arith))
+
+  -- a point, and what stands after it
+  lead-point : start < end → end < length word → numberOf FLOAT word ≡ cond (eqb (getD word end 0) 46 && notEmpty (drop (suc end) word) && allDigits (drop (suc end) word)) (floatOf (negative word) (part word start end) (drop (suc end) word)) wrong
+  unfolding numberFrom
+  lead-point n h = lead-some FLOAT n ∙ rw (drop-cons word end 0 h)
+
+  pub lead-pointless : start < end → end < length word → (getD word end 0 ≡ 46 → ⊥) → numberOf FLOAT word ≡ wrong
+  lead-pointless n h p = lead-point n h ∙ rw (ne-eqb _ _ p)
+
+  -- digits after the point, up to `last`
+  module _ (n : start < end) (h : end < length word) (p : getD word end 0 ≡ 46) (last : ℕ) (l : last ≡ suc end + length (run isDigit (drop (suc end) word))) where
+    pub lead-rest : last < length word → numberOf FLOAT word ≡ wrong
+    lead-rest k = lead-point n h ∙ rw (eq-eqb _ _ p, digits-short (drop (suc end) word) (rw length-drop (omega arith))) (go (notEmpty (drop (suc end) word)))
+      where
+        go : (v : Bool) → cond (v && false) (floatOf (negative word) (part word start end) (drop (suc end) word)) wrong ≡ wrong
+        go true = refl
+        go false = refl
+
+    pub lead-bare : last ≡ suc end → numberOf FLOAT word ≡ wrong
+    lead-bare k = go (leb (length word) (suc end)) refl
+      where
+        go : (v : Bool) → leb (length word) (suc end) ≡ v → numberOf FLOAT word ≡ wrong
+        go true e = lead-point n h ∙ rw (eq-eqb _ _ p, notEmpty-none (drop (suc end) word) (rw length-drop (omega (arith, leb-true))))
+        go false e = lead-rest (omega (arith, leb-false))
+
+    pub lead-parts : suc end < last → length word ≤ last → numberOf FLOAT word ≡ floatOf (negative word) (part word start end) (part word (suc end) last)
+    lead-parts k m =
+        let all : length (drop (suc end) word) ≤ length (run isDigit (drop (suc end) word)) = rw length-drop (omega arith) in
+        let same : run isDigit (drop (suc end) word) ≡ drop (suc end) word = sym (run-take isDigit (drop (suc end) word)) ∙ take-all _ (drop (suc end) word) all in
+        let whole : part word (suc end) last ≡ drop (suc end) word = unfold part in take-all (last - suc end) (drop (suc end) word) (rw length-drop (omega arith)) in
+        lead-point n h
+        ∙ rw (eq-eqb _ _ p, notEmpty-some (drop (suc end) word) (rw length-drop (omega (arith, run-within isDigit word (suc end) h))), rw same at (digits-run (drop (suc end) word)), whole)
