@@ -3,9 +3,10 @@ use mathlib.Core.Path.{_≡_, refl, ap, sym, _∙_}
 use mathlib.Core.List.{List, [], _∷_, _++_}
 use mathlib.Core.Bool.{Bool, true, false, cond, _&&_, false≢true}
 use Prim.Native.Nat.{ℕ, zero, suc, _+_, _-_, _*_, _^_, _≤_, _<_}
-use native.Mathlib.Nat.{add-sub-cancel-left, one-mul, mul-assoc, pow-zero, pow-succ', mul-le-mul-right, pow-le-pow-right, lt-of-lt-of-le}
+use native.Mathlib.Nat.{add-sub-cancel-left, one-mul, mul-assoc, pow-zero, pow-succ', mul-le-mul-right, mul-lt-mul-of-pos-right, pow-le-pow-right, lt-of-lt-of-le}
 use native.Mathlib.Omega.{arith}
-use borrow.Author.Tests.{leb-true, leb-false, eq-eqb, ne-eqb}
+use borrow.Author.Tests.{leb-true, leb-false, le-leb, lt-leb, eq-eqb, ne-eqb}
+use lib.Pow.{pow-add}
 use lib.Dec.{leb, eqb}
 use lib.ListN.{length, take, drop, getD, length-drop, drop-of-length-le}
 use lib.Seq.{drop-cons, drop-drop, take-all}
@@ -13,7 +14,7 @@ use lib.IntN.{ℤ, pos, negsuc, negℤ}
 use Rattle.lexer.specs.Bytes.{between, isDigit, run, part}
 use Rattle.lexer.proofs.Runs.{run-yes, run-no, run-take, run-within}
 use Rattle.lexer.proofs.Parts.{part-none}
-use Rattle.lexer.specs.Numbers.{Number, value, beyond, wrong, Form, INT, FLOAT, decimalFrom, decimal, allDigits, notEmpty, intOf, floatOf, numberFrom, afterDigits, unsigned, negative, magnitude, numberOf}
+use Rattle.lexer.specs.Numbers.{Number, value, beyond, wrong, Form, INT, FLOAT, decimalFrom, decimal, allDigits, notEmpty, signed, intMost, intOf, millionths, floatOf, numberFrom, afterDigits, unsigned, negative, magnitude, numberOf}
 
 pub negative-none : (word : List ℕ) → length word ≡ 0 → negative word ≡ false
 unfolding negative
@@ -134,6 +135,15 @@ module _ (word : List ℕ) (start end : ℕ) (d : drop start word ≡ magnitude 
   unfolding afterDigits
   lead-after = rw (← d, drop-drop (length (run isDigit (drop start word))) start word, e)
 
+  pub lead-order : start ≤ end
+  lead-order = omega arith
+
+  pub lead-within : start ≤ length word → end ≤ length word
+  lead-within h = rw e (run-within isDigit word start h)
+
+  pub lead-all : allDigits (part word start end) ≡ true
+  lead-all = rw lead-digits (digits-run (magnitude word))
+
   pub lead-none : (f : Form) → end ≡ start → numberOf f word ≡ wrong
   unfolding numberOf unsigned
   lead-none f n = rw (notEmpty-none (run isDigit (magnitude word)) (rw (← d) (omega arith)), unsigned)
@@ -171,6 +181,10 @@ module _ (word : List ℕ) (start end : ℕ) (d : drop start word ≡ magnitude 
         go true = refl
         go false = refl
 
+    pub lead-more-all : allDigits (part word (suc end) last) ≡ true
+    unfolding part
+    lead-more-all = rw (l, add-sub-cancel-left, run-take isDigit (drop (suc end) word)) (digits-run (drop (suc end) word))
+
     pub lead-bare : last ≡ suc end → numberOf FLOAT word ≡ wrong
     lead-bare k = go (leb (length word) (suc end)) refl
       where
@@ -185,3 +199,44 @@ module _ (word : List ℕ) (start end : ℕ) (d : drop start word ≡ magnitude 
         let whole : part word (suc end) last ≡ drop (suc end) word = unfold part in take-all (last - suc end) (drop (suc end) word) (rw length-drop (omega arith)) in
         lead-point n h
         ∙ rw (eq-eqb _ _ p, notEmpty-some (drop (suc end) word) (rw length-drop (omega (arith, run-within isDigit word (suc end) h))), rw same at (digits-run (drop (suc end) word)), whole)
+
+-- ---- INT and FLOAT of digits
+
+pub float-whole-long : (s : Bool) (ds fs : List ℕ) → 7 < length ds → floatOf s ds fs ≡ beyond
+unfolding floatOf
+float-whole-long s ds fs h = rw (lt-leb (length ds) 7 h)
+
+pub float-fraction-long : (s : Bool) (ds fs : List ℕ) → length ds ≤ 7 → 6 < length fs → floatOf s ds fs ≡ beyond
+unfolding floatOf
+float-fraction-long s ds fs h k = rw (le-leb (length ds) 7 h, lt-leb (length fs) 6 k)
+
+pub float-value : (s : Bool) (ds fs : List ℕ) → length ds ≤ 7 → length fs ≤ 6 → floatOf s ds fs ≡ value (signed s (millionths ds fs))
+unfolding floatOf
+float-value s ds fs h k = rw (le-leb (length ds) 7 h, le-leb (length fs) 6 k)
+
+pub fraction-below : (fs : List ℕ) → allDigits fs ≡ true → length fs ≤ 6 → decimal fs * 10 ^ (6 - length fs) < 10 ^ 6
+fraction-below fs e h =
+    let scaled = mul-lt-mul-of-pos-right (decimal-bound fs e) (pow-le-pow-right {n = 10} (omega arith) {i = 0} {j = 6 - length fs} (omega arith)) in
+    let six : length fs + (6 - length fs) ≡ 6 = omega arith in
+    lt-of-lt-of-le scaled (rw (← pow-add 10 (length fs) (6 - length fs), six) (omega arith))
+
+pub millionths-below : (ds fs : List ℕ) → allDigits ds ≡ true → allDigits fs ≡ true → length ds ≤ 7 → length fs ≤ 6 → millionths ds fs < 10 ^ 13
+unfolding millionths
+millionths-below ds fs d f h k = let w = decimal-below ds 7 d h in let r = fraction-below fs f k in omega arith
+
+pub int-long : (s : Bool) (ds : List ℕ) → 10 < length ds → intOf s ds ≡ beyond
+unfolding intOf
+int-long s ds h = rw (lt-leb (length ds) 10 h)
+
+pub int-large : (s : Bool) (ds : List ℕ) → length ds ≤ 10 → intMost s < decimal ds → intOf s ds ≡ beyond
+unfolding intOf
+int-large s ds h k = rw (le-leb (length ds) 10 h, lt-leb (decimal ds) (intMost s) k)
+
+pub int-value : (s : Bool) (ds : List ℕ) → length ds ≤ 10 → decimal ds ≤ intMost s → intOf s ds ≡ value (signed s (decimal ds))
+unfolding intOf
+int-value s ds h k = rw (le-leb (length ds) 10 h, le-leb (decimal ds) (intMost s) k)
+
+pub intMost-below : (s : Bool) → intMost s < 2 ^ 63
+unfolding intMost
+intMost-below false = omega arith
+intMost-below true = omega arith

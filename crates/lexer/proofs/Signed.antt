@@ -5,6 +5,7 @@ use Prim.Native.Nat.{ℕ, zero, suc, _+_, _-_, _^_, _≤_, _<_}
 use native.Mathlib.Omega.{arith}
 use lib.IntN.{ℤ, pos, negsuc, negℤ, _-ℤ_, +ℤ-idl}
 use lib.Signed.{mag}
+use Rattle.lexer.specs.Numbers.{signed}
 use mir.Syntax.{w64}
 use mir.Val.{SFits, toZ, ofZ}
 use mir.Facts.{toZ-pos, toZ-ofZ}
@@ -26,3 +27,9 @@ bits-pos n h = toZ-pos w64 h
 
 pub bits-neg : (n : ℕ) → n < 2 ^ 63 → toZ w64 (ofZ w64 (pos 0 -ℤ toZ w64 n)) ≡ negℤ (pos n)
 bits-neg n h = rw (bits-pos n h, zero-minus (pos n)) (toZ-ofZ (neg-fits n h))
+
+-- a signed magnitude comes back from its bits
+pub signed-back : (s : Bool) (n : ℕ) → n < 2 ^ 63 → toZ w64 (ofZ w64 (signed s n)) ≡ signed s n
+unfolding signed
+signed-back false n h = toZ-ofZ (pos-fits n h)
+signed-back true n h = toZ-ofZ (neg-fits n h)
