@@ -43,8 +43,10 @@ module _ (text : List ℕ) (at : ℕ) (h : at < length text) where
     where
       near : suc at + k ≤ length text → tokens k (suc at) (drop (suc at) text) ≡ lexAt text (suc at + k)
       near l = tokens-skip k (suc at) (drop (suc at) text) (rw length-drop (omega arith)) ∙ rw (drop-drop k (suc at) text, min-eq-left l)
+
       far : length text ≤ suc at + k → tokens k (suc at) (drop (suc at) text) ≡ lexAt text (suc at + k)
       far l = tokens-over k (suc at) (drop (suc at) text) (rw length-drop (omega arith)) ∙ rw (lexAt-end text (suc at + k) l, length-drop) (ap (λ (q : ℕ). lexeme q ending ∷ []) (omega arith))
+
       go : (v : Bool) → leb (suc at + k) (length text) ≡ v → tokens k (suc at) (drop (suc at) text) ≡ lexAt text (suc at + k)
       go true e = near (leb-true _ _ e)
       go false e = far (le-of-lt (leb-false _ _ e))

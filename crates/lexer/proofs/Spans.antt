@@ -49,7 +49,7 @@ module _ (text : List ℕ) (at : ℕ) (t : Token) (h : at < length text) where
         is = rw e;
         tokens = e ∙ rw (after-more text (spanOf (length text) (lexeme at t)) n, b, token-again t, lexAt-min text (at + widthOf t));
         within = omega arith;
-        moves = λ _. (omega arith, omega arith)
+        moves = λ _. (omega arith, omega arith);
       }
 
 -- a span by its fields
@@ -83,7 +83,7 @@ next-ending text at h =
       is = rw (lexAt-end text at h) (spans (length text) (min (length text + 0) (length text)) (omega arith));
       tokens = lexAt-end text at h;
       within = omega arith;
-      moves = λ e. absurd (true≢false e)
+      moves = λ e. absurd (true≢false e);
     }
   where
     spans : (n m : ℕ) → n ≡ m → _≡_ {A = Span} (record { kind = Ending; start = n; end = n; length = 0 }) (record { kind = Ending; start = n; end = m; length = 0 })
@@ -97,5 +97,5 @@ next-earlier text at i r e l n =
       is = n .is ∙ ap (λ (ms : List Lexeme). spanOf (length text) (first ms)) (sym e);
       tokens = e ∙ n .tokens;
       within = n .within;
-      moves = λ m. let s = n .moves m in (omega arith, s .1)
+      moves = λ m. let s = n .moves m in (omega arith, s .1);
     }

@@ -23,20 +23,23 @@ faultIn comment p [] = clear
 faultIn (string q n) p [] = fault 4 q
 faultIn outside p (b ∷ bs) =
     elim (classOf b) [
-      blank ↦ faultIn outside (suc p) bs
-    | opener ↦ faultIn outside (suc p) bs
-    | closer ↦ faultIn outside (suc p) bs
-    | quote ↦ faultIn (string p 0) (suc p) bs
-    | semicolon ↦ faultIn comment (suc p) bs
-    | letter ↦ faultIn outside (suc p) bs
-    | other ↦ fault 3 p ]
+      | blank ↦ faultIn outside (suc p) bs
+      | opener ↦ faultIn outside (suc p) bs
+      | closer ↦ faultIn outside (suc p) bs
+      | quote ↦ faultIn (string p 0) (suc p) bs
+      | semicolon ↦ faultIn comment (suc p) bs
+      | letter ↦ faultIn outside (suc p) bs
+      | other ↦ fault 3 p
+    ]
 faultIn comment p (b ∷ bs) = elim (eqb b 10) [ true ↦ faultIn outside (suc p) bs | false ↦ faultIn comment (suc p) bs ]
 faultIn (string q n) p (b ∷ bs) =
     elim (eqb b 34) [
-      true ↦ faultIn outside (suc p) bs
-    | false ↦ elim (ltb n 255) [
-        true ↦ elim (isContent b) [ true ↦ faultIn (string q (suc n)) (suc p) bs | false ↦ fault 3 p ]
-      | false ↦ fault 4 q ] ]
+      | true ↦ faultIn outside (suc p) bs
+      | false ↦ elim (ltb n 255) [
+        | true ↦ elim (isContent b) [ true ↦ faultIn (string q (suc n)) (suc p) bs | false ↦ fault 3 p ]
+        | false ↦ fault 4 q
+      ]
+    ]
 
 -- the two formats, by the first four bytes of their texts
 pub data Format : Type 0 where
@@ -60,5 +63,6 @@ marked f text = begins (markOf f) text
 unfoldable pub textFault : Format → List ℕ → Fault
 textFault f text =
     elim (leb (length text) 65536) [
-      true ↦ elim (marked f text) [ true ↦ faultIn outside 0 text | false ↦ fault 2 0 ]
-    | false ↦ fault 1 0 ]
+      | true ↦ elim (marked f text) [ true ↦ faultIn outside 0 text | false ↦ fault 2 0 ]
+      | false ↦ fault 1 0
+    ]

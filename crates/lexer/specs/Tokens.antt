@@ -22,13 +22,14 @@ tokens k p [] = lexeme p ending ∷ []
 tokens (suc k) p (b ∷ bs) = tokens k (suc p) bs
 tokens zero p (b ∷ bs) =
     elim (classOf b) [
-      blank ↦ tokens 0 (suc p) bs
-    | opener ↦ lexeme p opening ∷ tokens 0 (suc p) bs
-    | closer ↦ lexeme p closing ∷ tokens 0 (suc p) bs
-    | quote ↦ lexeme p (quoted (run inString bs)) ∷ tokens (suc (length (run inString bs))) (suc p) bs
-    | semicolon ↦ tokens (length (run inLine bs)) (suc p) bs
-    | letter ↦ lexeme p (plain (b ∷ run isLetter bs)) ∷ tokens (length (run isLetter bs)) (suc p) bs
-    | other ↦ tokens 0 (suc p) bs ]
+      | blank ↦ tokens 0 (suc p) bs
+      | opener ↦ lexeme p opening ∷ tokens 0 (suc p) bs
+      | closer ↦ lexeme p closing ∷ tokens 0 (suc p) bs
+      | quote ↦ lexeme p (quoted (run inString bs)) ∷ tokens (suc (length (run inString bs))) (suc p) bs
+      | semicolon ↦ tokens (length (run inLine bs)) (suc p) bs
+      | letter ↦ lexeme p (plain (b ∷ run isLetter bs)) ∷ tokens (length (run isLetter bs)) (suc p) bs
+      | other ↦ tokens 0 (suc p) bs
+    ]
 
 -- the tokens from an offset on
 unfoldable pub lexAt : List ℕ → ℕ → List Lexeme

@@ -4,7 +4,6 @@ ghost use Prim.Native.Nat.{suc, _<_};
 ghost use lib.ListN.{length, drop};
 ghost use Rattle.lexer.specs.Faults.{textFault, faultIn, outside, string, begins, marked};
 ghost use Rattle.lexer.specs.Answers.{refusal, scanned, Ahead, formatNamed};
-
 use crate::bytes::Class;
 use crate::bytes::Run;
 use crate::bytes::class_of;

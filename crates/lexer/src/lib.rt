@@ -12,6 +12,7 @@ pub use check::check_text;
 pub use number::Parsed;
 pub use number::float;
 pub use number::int;
+pub use number::magnitude;
 pub use token::Kind;
 pub use token::Span;
 pub use token::next;

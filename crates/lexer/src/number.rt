@@ -2,12 +2,12 @@
 ghost use mathlib.Core.Path.{_≡_};
 ghost use mathlib.Core.Bool.{true};
 ghost use Prim.Native.Nat.{_+_, _-_, _≤_, _<_, _^_};
+ghost use lib.IntN.{natAbs};
 ghost use lib.ListN.{length};
 ghost use Rattle.lexer.specs.Bytes.{part};
 ghost use Rattle.lexer.specs.Numbers.{numberOf, INT, FLOAT, floatOf, allDigits, negative, signed, intMost};
 ghost use Rattle.lexer.specs.Numbers.{decimal as decimalOf};
 ghost use Rattle.lexer.specs.Answers.{numberNamed, Leads};
-
 use crate::bytes::Run;
 use crate::bytes::run_end;
 
@@ -118,10 +118,7 @@ fn float_of(word: &[u8], n: Leading, from: usize, last: usize) -> Parsed
     }
     let whole = decimal(word, start, end);
     let fraction = decimal(word, from, last);
-    Parsed::Value(with_sign(
-        n.negative,
-        whole * 1000000 + fraction * scale(last - from),
-    ))
+    Parsed::Value(with_sign(n.negative, whole * 1000000 + fraction * scale(last - from)))
 }
 
 // The value of the digits from `start` to `end`.
@@ -168,4 +165,16 @@ fn with_sign(negative: bool, n: u64) -> i64
 {
     let value = n as i64;
     if negative { 0 - value } else { value }
+}
+
+// How far a number is from zero.
+pub fn magnitude(z: i64) -> u64
+    ensures { λ r. ⌜ r ≡ natAbs z ⌝ }
+{
+    if z < 0 {
+        let below = 0 - (z + 1);
+        below as u64 + 1
+    } else {
+        z as u64
+    }
 }

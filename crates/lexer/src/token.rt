@@ -4,7 +4,6 @@ ghost use Prim.Native.Nat.{_<_};
 ghost use lib.ListN.{length, getD};
 ghost use Rattle.lexer.specs.Bytes.{classOf, quote, letter};
 ghost use Rattle.lexer.specs.Answers.{Next};
-
 use crate::bytes::Class;
 use crate::bytes::Run;
 use crate::bytes::class_of;

@@ -74,14 +74,14 @@ enum-known-next c = search needs
 
 loop-less : tie.Need-loop-less Inv-loop μ-loop
 unfolding Ahead
-loop-less c = 
+loop-less c =
     let m = c .before .before .before in
     let a = ahead m (c .before .next .given .1) in
     omega arith
 
 loop-again : tie.Need-loop-again Inv-loop μ-loop
 unfolding classNamed scanned
-loop-again c = 
+loop-again c =
     let m = c .before .before .before in
     let k = m .before .before .before in
     k .before .before .before .loop .inv ∙ fault-quote _ _ (inside k) (named k (m .before .enum-told .given .1)) ∙ sym (ap (scanned _) (sym (c .before .next .given .1)) ∙ m .string-end .ensures .0)
@@ -91,7 +91,7 @@ enum-known-number c = search needs
 
 returns : tie.Need-returns Inv-loop μ-loop
 unfolding classNamed scanned refusal
-returns c = 
+returns c =
     let m = c .before .before .before in
     let k = m .before .before .before in
     sym (k .before .before .before .loop .inv ∙ fault-quote _ _ (inside k) (named k (m .before .enum-told .given .1)) ∙ sym (ap (scanned _) (sym (c .before .number .given .1)) ∙ m .string-end .ensures .0))
@@ -110,7 +110,7 @@ loop-less-2 c = let k = c .before .before .before in let h = inside k in omega (
 
 loop-again-2 : tie.Need-loop-again-2 Inv-loop μ-loop
 unfolding classNamed testNamed
-loop-again-2 c = 
+loop-again-2 c =
     let k = c .before .before .before in
     let i = k .before .before .before .loop .i in
     let end : c .run-end .result ≡ suc i + length (run inLine (drop (suc i) (now (k .before .before .before .before .before .args .text)))) = rw (← add-one i) (c .run-end .ensures) in
@@ -121,7 +121,7 @@ enum-told-3 c = search needs
 
 returns-2 : tie.Need-returns-2 Inv-loop μ-loop
 unfolding classNamed refusal
-returns-2 c = 
+returns-2 c =
     let k = c .before .before in
     sym (k .before .before .before .loop .inv ∙ fault-other _ _ (inside k) (named k (c .enum-told3 .given .1)))
 
@@ -132,7 +132,7 @@ loop-less-3 : tie.Need-loop-less-3 Inv-loop μ-loop
 loop-less-3 c = search needs
 
 loop-again-3 : tie.Need-loop-again-3 Inv-loop μ-loop
-loop-again-3 c = 
+loop-again-3 c =
     let k = c .before in
     rw add-one (k .before .before .before .loop .inv ∙ fault-pass _ _ (inside k) (ap passes (sym (k .class-of .ensures)) ∙ ordinary _ (c .match .keys4)))
 

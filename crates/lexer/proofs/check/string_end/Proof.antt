@@ -37,7 +37,7 @@ add-t9 c = search needs
 
 returns : tie.Need-returns Inv-loop μ-loop
 unfolding scanned Ahead
-returns c = 
+returns c =
     let l = c .before .before .before .loop in
     (rw add-one (sym (l .inv .1 ∙ string-closed _ (l .i) (c .before .before .loop-test .taken) _ _ (c .if1 .taken))), (omega arith, omega arith))
 
@@ -46,7 +46,7 @@ sub-if2 c = search needs
 
 returns-2 : tie.Need-returns-2 Inv-loop μ-loop
 unfolding scanned Ahead
-returns-2 c = 
+returns-2 c =
     let l = c .before .before .before .before .loop in
     (sym (l .inv .1 ∙ string-long _ (l .i) (c .before .before .before .loop-test .taken) _ _ (c .before .if1 .left) (omega arith)), tt)
 
@@ -55,7 +55,7 @@ is-between-requires c κs = search needs
 
 returns-3 : tie.Need-returns-3 Inv-loop μ-loop
 unfolding scanned Ahead isContent
-returns-3 c = 
+returns-3 c =
     let l = c .before .before .before .before .before .before .loop in
     (sym (l .inv .1 ∙ string-stray _ (l .i) (c .before .before .before .before .before .loop-test .taken) _ _ (c .before .before .before .if1 .left) (omega arith) (sym (c .before .is-between .ensures) ∙ not-true _ (c .if3 .taken))), tt)
 
@@ -67,13 +67,13 @@ loop-less c = search needs
 
 loop-again : tie.Need-loop-again Inv-loop μ-loop
 unfolding isContent
-loop-again c = 
+loop-again c =
     let l = c .before .before .before .before .before .before .loop in
     (search needs, l .inv .1 ∙ string-more _ (l .i) (c .before .before .before .before .before .loop-test .taken) _ _ (c .before .before .before .if1 .left) (omega arith) (sym (c .before .is-between .ensures) ∙ not-false _ (c .if3 .left)) ∙ string-same _ _ _ _ _ _ (omega arith) (omega arith))
 
 returns-4 : tie.Need-returns-4 Inv-loop μ-loop
 unfolding scanned Ahead
-returns-4 c = 
+returns-4 c =
     let l = c .before .loop in
     (sym (l .inv .1 ∙ string-open _ (l .i) _ _ (c .loop-test .left)), tt)
 

@@ -39,13 +39,13 @@ returns c = let l = c .before .lead .ensures in sym (lead-none _ _ _ (l .digits)
 
 float-of-requires : tie.Need-float-of-requires
 unfolding allDigits
-float-of-requires c κs = 
+float-of-requires c κs =
     let l = c .before .before .lead .ensures in
     let w = lead-within _ _ _ (l .digits) (l .ends) (l .within) in
     ((lead-order _ _ _ (l .digits) (l .ends), w), ((omega arith, w), (lead-all _ _ _ (l .digits) (l .ends), rw (part-none (now (c .before .before .before .before .args .word)) (c .before .before .lead .result .end) (c .before .before .lead .result .end) (omega arith)))))
 
 returns-2 : tie.Need-returns-2
-returns-2 c = 
+returns-2 c =
     let l = c .before .before .before .lead .ensures in
     c .float-of .ensures ∙ sym (rw (l .sign) (lead-float _ _ _ (l .digits) (l .ends) (some (c .before .before)) (c .before .if2 .taken)))
 
@@ -54,7 +54,7 @@ shared-slice-read-if3 c = search needs
 
 returns-3 : tie.Need-returns-3
 unfolding numberNamed
-returns-3 c = 
+returns-3 c =
     let b = c .before .before .before in
     let l = b .before .lead .ensures in
     sym (lead-pointless _ _ _ (l .digits) (l .ends) (some b) (c .before .before .if2 .left) (c .if3 .taken))
@@ -67,20 +67,20 @@ run-end-requires c κs = search needs
 
 returns-4 : tie.Need-returns-4
 unfolding numberNamed
-returns-4 c = 
+returns-4 c =
     let r = c .before in
     let l = r .before .before .before .before .before .lead .ensures in
     sym (lead-bare _ _ _ (l .digits) (l .ends) (some (r .before .before .before .before)) (r .before .before .before .if2 .left) (r .before .if3 .left) _ (ended r) (c .if4 .taken ∙ add-one _))
 
 returns-5 : tie.Need-returns-5
 unfolding numberNamed
-returns-5 c = 
+returns-5 c =
     let r = c .before .before in
     let l = r .before .before .before .before .before .lead .ensures in
     sym (lead-rest _ _ _ (l .digits) (l .ends) (some (r .before .before .before .before)) (r .before .before .before .if2 .left) (r .before .if3 .left) _ (ended r) (c .if5 .taken))
 
 float-of-requires-2 : tie.Need-float-of-requires-2
-float-of-requires-2 c κs = 
+float-of-requires-2 c κs =
     let r = c .before .before in
     let l = r .before .before .before .before .before .lead .ensures in
     let w = lead-within _ _ _ (l .digits) (l .ends) (l .within) in
@@ -88,7 +88,7 @@ float-of-requires-2 c κs =
     ((lead-order _ _ _ (l .digits) (l .ends), w), ((omega (arith, ended r), rw (ended r) (run-within isDigit (now (r .before .before .before .before .before .before .before .args .word)) _ h)), (lead-all _ _ _ (l .digits) (l .ends), rw add-one (lead-more-all _ _ _ (l .digits) (l .ends) (some (r .before .before .before .before)) (r .before .before .before .if2 .left) (r .before .if3 .left) _ (ended r)))))
 
 returns-6 : tie.Need-returns-6
-returns-6 c = 
+returns-6 c =
     let r = c .before .before .before in
     let l = r .before .before .before .before .before .lead .ensures in
     c .float-of2 .ensures ∙ sym (rw (l .sign, add-one) (lead-parts _ _ _ (l .digits) (l .ends) (some (r .before .before .before .before)) (r .before .before .before .if2 .left) (r .before .if3 .left) _ (ended r) (omega (arith, ended r, c .before .before .if4 .left)) (c .before .if5 .left)))

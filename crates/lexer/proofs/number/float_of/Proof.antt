@@ -60,7 +60,7 @@ decimal-requires-2 : tie.Need-decimal-requires-2
 decimal-requires-2 c κs = search needs
 
 mul-with-sign : tie.Need-mul-with-sign
-mul-with-sign c = 
+mul-with-sign c =
     let b = c .before .before .before .before .before in
     let h = decimal-below _ 7 (b .pre .1 .1 .0) (rw (wholes b) (c .before .before .before .if1 .left)) in
     omega (arith, rw (← c .before .decimal .ensures) at h)
@@ -82,7 +82,7 @@ with-sign-requires c κs = let h = below c in omega arith
 
 returns-3 : tie.Need-returns-3
 unfolding numberNamed
-returns-3 c = 
+returns-3 c =
     let b = c .before .before .before .before .before .before .before in
     let h : c .before .before .before .decimal .result * 1000000 + c .before .before .decimal2 .result * c .before .scale .result < 2 ^ 63 = omega (arith, below (c .before)) in
     rw (c .with-sign .ensures, signed-back _ _ h, small (c .before))

@@ -52,7 +52,7 @@ unfolding numberNamed
 returns-3 c = sym (digits (c .before) ∙ int-long _ _ (rw (count (c .before)) (c .if3 .taken)))
 
 decimal-requires : tie.Need-decimal-requires
-decimal-requires c κs = 
+decimal-requires c κs =
     let l = c .before .before .before .lead .ensures in
     ((lead-order _ _ _ (l .digits) (l .ends), lead-within _ _ _ (l .digits) (l .ends) (l .within)), (omega arith, lead-all _ _ _ (l .digits) (l .ends)))
 
@@ -61,7 +61,7 @@ int-most-requires c κs = search needs
 
 returns-4 : tie.Need-returns-4
 unfolding numberNamed
-returns-4 c = 
+returns-4 c =
     let b = c .before .before .before in
     sym (digits (b .before) ∙ int-large _ _ (rw (count (b .before)) (b .if3 .left)) (rw (← c .before .int-most .ensures, ← c .before .before .decimal .ensures) (c .if4 .taken)))
 
@@ -70,7 +70,7 @@ with-sign-requires c κs = lt-of-le-of-lt (c .if4 .left) (rw (c .before .int-mos
 
 returns-5 : tie.Need-returns-5
 unfolding numberNamed
-returns-5 c = 
+returns-5 c =
     let b = c .before .before .before .before in
     let n = c .before .before .before .decimal in
     let most = c .before .before .int-most .ensures in

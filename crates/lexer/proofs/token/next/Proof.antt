@@ -54,7 +54,7 @@ loop-less c = search needs
 
 loop-again : tie.Need-loop-again Inv-loop μ-loop
 unfolding classNamed
-loop-again c = 
+loop-again c =
     let m = c .before .before in
     let e = named m (c .enum-told .given .1) in
     (m .before .before .before .loop .inv .0 ∙ lexAt-blank _ _ (inside m) e, search needs)
@@ -70,7 +70,7 @@ loop-less-2 c = search needs
 
 loop-again-2 : tie.Need-loop-again-2 Inv-loop μ-loop
 unfolding classNamed
-loop-again-2 c = 
+loop-again-2 c =
     let m = c .before .before in
     let e = named m (c .enum-told2 .given .1) in
     (m .before .before .before .loop .inv .0 ∙ lexAt-other _ _ (inside m) e, search needs)
@@ -89,7 +89,7 @@ loop-less-3 c = search needs
 
 loop-again-3 : tie.Need-loop-again-3 Inv-loop μ-loop
 unfolding classNamed testNamed
-loop-again-3 c = 
+loop-again-3 c =
     let m = c .before .before .before in
     let a = m .before .before .before .before .before .args in
     let i = m .before .before .before .loop .i in
@@ -105,7 +105,7 @@ add-t12 c = search needs
 
 returns : tie.Need-returns Inv-loop μ-loop
 unfolding classNamed kindOf widthOf bytesOf
-returns c = 
+returns c =
     let m = c .before .before in
     let l = m .before .before .before .loop in
     let h = inside m in
@@ -120,7 +120,7 @@ add-t14 c = search needs
 
 returns-2 : tie.Need-returns-2 Inv-loop μ-loop
 unfolding classNamed kindOf widthOf bytesOf
-returns-2 c = 
+returns-2 c =
     let m = c .before .before in
     let l = m .before .before .before .loop in
     let h = inside m in
@@ -135,7 +135,7 @@ unfolding classNamed
 quoted-requires c κs = let m = c .before .before in (inside m, named m (c .enum-told6 .given .1))
 
 returns-3 : tie.Need-returns-3 Inv-loop μ-loop
-returns-3 c = 
+returns-3 c =
     let l = c .before .before .before .before .before .before .loop in
     next-earlier _ _ (l .i) _ (l .inv .0) (l .inv .1) (c .quoted .ensures)
 
@@ -147,12 +147,12 @@ unfolding classNamed
 plain-requires c κs = let m = c .before .before in (inside m, named m (c .enum-told7 .given .1))
 
 returns-4 : tie.Need-returns-4 Inv-loop μ-loop
-returns-4 c = 
+returns-4 c =
     let l = c .before .before .before .before .before .before .loop in
     next-earlier _ _ (l .i) _ (l .inv .0) (l .inv .1) (c .plain .ensures)
 
 returns-5 : tie.Need-returns-5 Inv-loop μ-loop
-returns-5 c = 
+returns-5 c =
     let l = c .before .loop in
     next-earlier _ _ (l .i) _ (l .inv .0) (l .inv .1) (next-ending _ (l .i) (c .loop-test .left))
 
