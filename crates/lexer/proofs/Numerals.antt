@@ -14,7 +14,7 @@ use lib.IntN.{ℤ, pos, negsuc, negℤ}
 use Rattle.lexer.specs.Bytes.{between, isDigit, run, part}
 use Rattle.lexer.proofs.Runs.{run-yes, run-no, run-take, run-within}
 use Rattle.lexer.proofs.Parts.{part-none}
-use Rattle.lexer.specs.Numbers.{Number, value, beyond, wrong, Form, INT, FLOAT, decimalFrom, decimal, allDigits, notEmpty, signed, intMost, intOf, millionths, floatOf, numberFrom, afterDigits, unsigned, negative, magnitude, numberOf}
+use Rattle.lexer.specs.Numbers.{Number, value, beyond, wrong, Form, INT, FLOAT, decimalFrom, decimal, allDigits, notEmpty, signed, intMost, intOf, millionths, floatOf, numberFrom, afterDigits, unsigned, negative, magnitude, numberOf, inForm}
 
 pub negative-none : (word : List ℕ) → length word ≡ 0 → negative word ≡ false
 unfolding negative
@@ -240,3 +240,62 @@ pub intMost-below : (s : Bool) → intMost s < 2 ^ 63
 unfolding intMost
 intMost-below false = omega arith
 intMost-below true = omega arith
+
+-- ---- the values that a form can give
+
+signed-int : (s : Bool) (n : ℕ) → n ≤ intMost s → inForm INT (signed s n) ≡ true
+unfolding intMost inForm signed
+signed-int false n h = le-leb n 2147483647 h
+signed-int true zero h = refl
+signed-int true (suc n) h = le-leb n 2147483647 (omega arith)
+
+signed-float : (s : Bool) (n : ℕ) → n < 10 ^ 13 → inForm FLOAT (signed s n) ≡ true
+unfolding inForm signed
+signed-float false n h = le-leb n 9999999999999 (omega arith)
+signed-float true zero h = refl
+signed-float true (suc n) h = le-leb n 9999999999998 (omega arith)
+
+-- what a choice between a value and a refusal says where it is a value
+chosen : (t : Bool) (a z : ℤ) (other : Number) → (other ≡ value z → ⊥) → cond t (value a) other ≡ value z → (t ≡ true) × (a ≡ z)
+chosen true a z other n e = (refl, cc)
+chosen false a z other n e = absurd (n e)
+
+beyond-no : (z : ℤ) → beyond ≡ value z → ⊥
+beyond-no z e = let w : _≡_ {A = ℕ} 0 1 = cc in omega arith
+
+wrong-no : (z : ℤ) → wrong ≡ value z → ⊥
+wrong-no z e = let w : _≡_ {A = ℕ} 0 1 = cc in omega arith
+
+int-range : (s : Bool) (ds : List ℕ) (z : ℤ) → intOf s ds ≡ value z → inForm INT z ≡ true
+unfolding intOf
+int-range s ds z e =
+    let p = chosen _ _ z beyond (beyond-no z) e in
+    let t = and-true (leb (length ds) 10) (leb (decimal ds) (intMost s)) (p .0) in
+    rw (← p .1) (signed-int s (decimal ds) (leb-true _ _ (t .1)))
+
+float-range : (s : Bool) (ds fs : List ℕ) (z : ℤ) → allDigits ds ≡ true → allDigits fs ≡ true → floatOf s ds fs ≡ value z → inForm FLOAT z ≡ true
+unfolding floatOf
+float-range s ds fs z d f e =
+    let p = chosen _ _ z beyond (beyond-no z) e in
+    let t = and-true (leb (length ds) 7) (leb (length fs) 6) (p .0) in
+    rw (← p .1) (signed-float s (millionths ds fs) (millionths-below ds fs d f (leb-true _ _ (t .0)) (leb-true _ _ (t .1))))
+
+from-range : (f : Form) (s : Bool) (ds rest : List ℕ) (z : ℤ) → allDigits ds ≡ true → numberFrom f s ds rest ≡ value z → inForm f z ≡ true
+unfolding numberFrom
+from-range INT s ds [] z d e = int-range s ds z e
+from-range INT s ds (b ∷ rest) z d e = absurd (wrong-no z e)
+from-range FLOAT s ds [] z d e = float-range s ds [] z d (unfold allDigits in refl) e
+from-range FLOAT s ds (b ∷ rest) z d e = go (eqb b 46 && notEmpty rest && allDigits rest) refl e
+  where
+    go : (t : Bool) → (eqb b 46 && notEmpty rest && allDigits rest) ≡ t → cond t (floatOf s ds rest) wrong ≡ value z → inForm FLOAT z ≡ true
+    go true c e = float-range s ds rest z d (and-true (eqb b 46 && notEmpty rest) (allDigits rest) c .1) e
+    go false c e = absurd (wrong-no z e)
+
+-- a word's value lies in its form's range
+pub number-range : (f : Form) (word : List ℕ) (z : ℤ) → numberOf f word ≡ value z → inForm f z ≡ true
+unfolding numberOf unsigned
+number-range f word z e = go (notEmpty (run isDigit (magnitude word))) refl
+  where
+    go : (t : Bool) → notEmpty (run isDigit (magnitude word)) ≡ t → inForm f z ≡ true
+    go true c = from-range f (negative word) _ _ z (digits-run (magnitude word)) (rw (c, unsigned) at e)
+    go false c = absurd (wrong-no z (rw (c, unsigned) at e))

@@ -1,4 +1,6 @@
 // Runs the lines of document 01's "Both sides of each line" that concern tokens and numbers, and prints an answer a line.
+ghost use mathlib.Core.Path.{_≡_};
+ghost use Rattle.lexer.specs.Answers.{isEnding};
 use lexer::Checked;
 use lexer::Format;
 use lexer::Kind;
@@ -120,7 +122,7 @@ fn strings() {
     bac(b"string with byte 31 as its 255th", &text[..263]);
     text[260] = 127;
     bac(b"string with byte 127 as its 255th", &text[..263]);
-    bac(b"string unended", b";BAC\n(\"abc)\n");
+    bac(b"string unended", b";BAC\n(\"abc)");
     bac(b"string with a line feed", b";BAC\n(\"ab\nc\")");
     bac(b"empty string", b";BAC\n\"\"");
 }
@@ -167,27 +169,52 @@ fn floats() {
     tell_float(b"1.5x");
 }
 
+// Writes a kind's name, and answers whether it is the last token's.
+fn put_kind(kind: Kind) -> bool
+    ensures { λ r. ⌜ r ≡ isEnding kind ⌝ }
+{
+    match kind {
+        Kind::Opening => {
+            put(b"opening\t");
+            false
+        }
+        Kind::Closing => {
+            put(b"closing\t");
+            false
+        }
+        Kind::Quoted => {
+            put(b"quoted\t");
+            false
+        }
+        Kind::Plain => {
+            put(b"plain\t");
+            false
+        }
+        Kind::Ending => {
+            put(b"ending\t");
+            true
+        }
+    }
+}
+
+fn put_numbers(a: u64, b: u64, c: u64) {
+    put_number(a);
+    put(b"\t");
+    put_number(b);
+    put(b"\t");
+    put_number(c);
+    put(b"\n");
+}
+
 // The tokens of a text, a line each: the kind, the offset, where it ends, how many bytes it holds.
 fn tokens(text: &[u8]) {
     let mut at = 0;
     loop {
         let t = lexer::next(text, at);
         let kind = t.kind;
-        match kind {
-            Kind::Opening => put(b"opening"),
-            Kind::Closing => put(b"closing"),
-            Kind::Quoted => put(b"quoted"),
-            Kind::Plain => put(b"plain"),
-            Kind::Ending => put(b"ending"),
-        }
-        put(b"\t");
-        put_number(t.start as u64);
-        put(b"\t");
-        put_number(t.end as u64);
-        put(b"\t");
-        put_number(t.length as u64);
-        put(b"\n");
-        if let Kind::Ending = kind {
+        let last = put_kind(kind);
+        put_numbers(t.start as u64, t.end as u64, t.length as u64);
+        if last {
             return;
         }
         at = t.end;
