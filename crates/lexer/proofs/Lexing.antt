@@ -2,7 +2,7 @@
 use mathlib.Core.Path.{_≡_, refl, ap, sym, _∙_}
 use mathlib.Core.List.{List, [], _∷_}
 use mathlib.Core.Bool.{Bool, true, false}
-use Prim.Native.Nat.{ℕ, zero, suc, _+_, _-_, _≤_, _<_, min}
+use Prim.Native.Nat.{ℕ, zero, suc, _+_, _-_, _≤_, _<_, min, zero-le}
 use native.Mathlib.Nat.{add-zero, add-suc, le-refl, le-of-lt, min-eq-left, min-eq-right}
 use native.Mathlib.Omega.{arith}
 use lib.ListN.{length, drop, getD, length-drop, drop-of-length-le}
@@ -10,7 +10,7 @@ use lib.Seq.{drop-cons, drop-drop}
 use lib.Dec.{leb}
 use borrow.Author.Tests.{leb-true, leb-false}
 use Rattle.lexer.specs.Bytes.{Class, blank, opener, closer, quote, semicolon, letter, other, classOf, isLetter, inLine, inString, run}
-use Rattle.lexer.specs.Tokens.{Token, opening, closing, ending, quoted, plain, Lexeme, lexeme, tokens, lexAt}
+use Rattle.lexer.specs.Tokens.{Token, opening, closing, ending, quoted, plain, Lexeme, lexeme, tokens, lex, lexAt}
 
 -- bytes passed over
 tokens-skip : (k p : ℕ) (bs : List ℕ) → k ≤ length bs → tokens k p bs ≡ tokens 0 (p + k) (drop k bs)
@@ -86,3 +86,8 @@ module _ (text : List ℕ) (at : ℕ) (h : at < length text) where
   pub lexAt-plain : classOf (getD text at 0) ≡ letter → lexAt text at ≡ lexeme at (plain (getD text at 0 ∷ run isLetter (drop (suc at) text))) ∷ lexAt text (at + suc (length (run isLetter (drop (suc at) text))))
   unfolding tokens
   lexAt-plain e = lexAt-byte ∙ rw (e, tokens) (followed (plain (getD text at 0 ∷ run isLetter (drop (suc at) text))) _ _ (omega arith))
+
+-- a text's tokens are those from its start on
+pub lex-start : (text : List ℕ) → lex text ≡ lexAt text 0
+unfolding lex lexAt
+lex-start text = rw (min-eq-left (zero-le {n = length text}))
