@@ -14,8 +14,8 @@ use Rattle.lexer.specs.Tokens.{Token, opening, closing, ending, quoted, 
 use Rattle.lexer.specs.declared.token.Kind.{Kind}
 use Rattle.lexer.specs.declared.token.Kind.the-variants.{Ending}
 use Rattle.lexer.specs.declared.token.Span.{Span}
-use Rattle.lexer.specs.Answers.{Next, spanOf, spanAt, kindOf, tokenOf, contentStart, isEnding, heldBytes, lexemeOf, after}
-use Rattle.lexer.proofs.Runs.{run-take, run-length}
+use Rattle.lexer.specs.Answers.{Next, spanOf, spanAt, kindOf, tokenOf, isEnding, heldBytes, lexemeOf, after}
+use Rattle.lexer.proofs.Runs.{run-take, run-within}
 use Rattle.lexer.proofs.Parts.{part-none}
 use Rattle.lexer.proofs.Lexing.{lexAt-end, lexAt-opening, lexAt-closing, lexAt-quoted, lexAt-plain}
 
@@ -42,7 +42,7 @@ after-more text s e = rw (e, after)
 
 -- a token that begins within the text, where the tokens after it are those from its end on
 module _ (text : List ℕ) (at : ℕ) (t : Token) (h : at < length text) where
-  next-from : isEnding (kindOf t) ≡ false → 0 < widthOf t → heldBytes text (spanOf (length text) (lexeme at t)) ≡ bytesOf t → lexAt text at ≡ lexeme at t ∷ lexAt text (at + widthOf t) → Next text at (spanOf (length text) (lexeme at t))
+  next-from : isEnding (kindOf t) ≡ false → 0 < widthOf t → heldBytes text (kindOf t) at (min (at + widthOf t) (length text)) (length (bytesOf t)) ≡ bytesOf t → lexAt text at ≡ lexeme at t ∷ lexAt text (at + widthOf t) → Next text at (spanOf (length text) (lexeme at t))
   unfolding spanOf spanAt first lexemeOf lexeme
   next-from n w b e =
       record {
@@ -57,23 +57,26 @@ pub spanned : (text : List ℕ) (at : ℕ) (t : Token) (k : Kind) (e l : ℕ) �
 unfolding spanOf lexeme
 spanned text at t k e l p q r n = rw (p, q, r) n
 
+plain-within : (text : List ℕ) (at : ℕ) → at < length text → at + suc (length (run isLetter (drop (suc at) text))) ≤ length text
+plain-within text at h = omega (arith, run-within isLetter text (suc at) h)
+
 -- the four kinds
 module _ (text : List ℕ) (at : ℕ) (h : at < length text) where
   pub next-opening : classOf (getD text at 0) ≡ opener → Next text at (spanOf (length text) (lexeme at opening))
-  unfolding widthOf bytesOf kindOf isEnding heldBytes spanOf contentStart lexeme
-  next-opening e = next-from text at opening h refl (omega arith) (part-none text at (at + 0) (omega arith)) (lexAt-opening text at h e)
+  unfolding widthOf bytesOf kindOf isEnding heldBytes spanOf lexeme
+  next-opening e = next-from text at opening h refl (omega arith) refl (lexAt-opening text at h e)
 
   pub next-closing : classOf (getD text at 0) ≡ closer → Next text at (spanOf (length text) (lexeme at closing))
-  unfolding widthOf bytesOf kindOf isEnding heldBytes spanOf contentStart lexeme
-  next-closing e = next-from text at closing h refl (omega arith) (part-none text at (at + 0) (omega arith)) (lexAt-closing text at h e)
+  unfolding widthOf bytesOf kindOf isEnding heldBytes spanOf lexeme
+  next-closing e = next-from text at closing h refl (omega arith) refl (lexAt-closing text at h e)
 
   pub next-quoted : classOf (getD text at 0) ≡ quote → Next text at (spanOf (length text) (lexeme at (quoted (run inString (drop (suc at) text)))))
-  unfolding widthOf bytesOf kindOf isEnding heldBytes spanOf contentStart lexeme part
+  unfolding widthOf bytesOf kindOf isEnding heldBytes spanOf lexeme part
   next-quoted e = next-from text at (quoted (run inString (drop (suc at) text))) h refl (omega arith) (rw add-sub-cancel-left (run-take inString (drop (suc at) text))) (lexAt-quoted text at h e)
 
   pub next-plain : classOf (getD text at 0) ≡ letter → Next text at (spanOf (length text) (lexeme at (plain (getD text at 0 ∷ run isLetter (drop (suc at) text)))))
-  unfolding widthOf bytesOf kindOf isEnding heldBytes spanOf contentStart lexeme part
-  next-plain e = next-from text at (plain (getD text at 0 ∷ run isLetter (drop (suc at) text))) h refl (omega arith) (rw (add-sub-cancel-left, drop-cons text at 0 h) (ap (λ (l : List ℕ). getD text at 0 ∷ l) (run-take isLetter (drop (suc at) text)))) (lexAt-plain text at h e)
+  unfolding widthOf bytesOf kindOf isEnding heldBytes spanOf lexeme part
+  next-plain e = next-from text at (plain (getD text at 0 ∷ run isLetter (drop (suc at) text))) h refl (omega arith) (rw (min-eq-left (plain-within text at h), add-sub-cancel-left, drop-cons text at 0 h) (ap (λ (l : List ℕ). getD text at 0 ∷ l) (run-take isLetter (drop (suc at) text)))) (lexAt-plain text at h e)
 
 -- past the last token
 pub next-ending : (text : List ℕ) (at : ℕ) → length text ≤ at → Next text at (record { kind = Ending; start = length text; end = length text; length = 0 })

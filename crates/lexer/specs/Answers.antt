@@ -88,14 +88,6 @@ kindOf ending = Ending
 kindOf (quoted bs) = Quoted
 kindOf (plain bs) = Plain
 
--- where the bytes that a token holds begin: a string's after its quote
-unfoldable pub contentStart : Kind → ℕ → ℕ
-contentStart Opening p = p
-contentStart Closing p = p
-contentStart Quoted p = suc p
-contentStart Plain p = p
-contentStart Ending p = p
-
 unfoldable pub isEnding : Kind → Bool
 isEnding Opening = false
 isEnding Closing = false
@@ -111,12 +103,16 @@ spanOf n m = record { kind = kindOf (m .token); start = m .offset; end = min (m 
 unfoldable pub spanAt : List ℕ → ℕ → Span
 spanAt text at = spanOf (length text) (first (lexAt text at))
 
--- the bytes that a span's token holds
-unfoldable pub heldBytes : List ℕ → Span → List ℕ
-heldBytes text s = part text (contentStart (s .kind) (s .start)) (contentStart (s .kind) (s .start) + s .length)
+-- the bytes that a span's token holds: a string's stand after its quote
+unfoldable pub heldBytes : List ℕ → Kind → ℕ → ℕ → ℕ → List ℕ
+heldBytes text Opening start end n = []
+heldBytes text Closing start end n = []
+heldBytes text Quoted start end n = part text (suc start) (suc start + n)
+heldBytes text Plain start end n = part text start end
+heldBytes text Ending start end n = []
 
 unfoldable pub lexemeOf : List ℕ → Span → Lexeme
-lexemeOf text s = lexeme (s .start) (tokenOf (s .kind) (heldBytes text s))
+lexemeOf text s = lexeme (s .start) (tokenOf (s .kind) (heldBytes text (s .kind) (s .start) (s .end) (s .length)))
 
 -- the tokens from a span's end on: none after the last
 unfoldable pub after : List ℕ → Span → List Lexeme

@@ -1,8 +1,9 @@
 -- The tokens of a text (document 01's "words"), each with the offset (01's "place") of its first byte.
 use mathlib.Core.List.{List, [], _∷_}
+use mathlib.Core.Bool.{Bool, false}
 use Prim.Native.Nat.{ℕ, zero, suc, _+_, min}
 use lib.ListN.{length, drop}
-use Rattle.lexer.specs.Bytes.{Class, blank, opener, closer, quote, semicolon, letter, other, classOf, isLetter, inLine, inString, run}
+use Rattle.lexer.specs.Bytes.{Class, blank, opener, closer, quote, semicolon, letter, other, classOf, isLetter, inLine, inString, run, same}
 
 -- `ending` stands at the text's length, after the last token
 pub data Token : Type 0 where
@@ -59,3 +60,11 @@ widthOf closing = 1
 widthOf ending = 0
 widthOf (quoted bs) = length bs + 2
 widthOf (plain bs) = length bs
+
+-- whether a token is a keyword: a plain word of those bytes
+unfoldable pub isKeyword : List ℕ → Token → Bool
+isKeyword k opening = false
+isKeyword k closing = false
+isKeyword k ending = false
+isKeyword k (quoted bs) = false
+isKeyword k (plain bs) = same bs k

@@ -15,4 +15,5 @@ pub use number::int;
 pub use number::magnitude;
 pub use token::Kind;
 pub use token::Span;
+pub use token::is_keyword;
 pub use token::next;

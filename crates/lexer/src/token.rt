@@ -3,11 +3,14 @@ ghost use mathlib.Core.Path.{_≡_};
 ghost use Prim.Native.Nat.{_<_};
 ghost use lib.ListN.{length, getD};
 ghost use Rattle.lexer.specs.Bytes.{classOf, quote, letter};
-ghost use Rattle.lexer.specs.Answers.{Next};
+ghost use Rattle.lexer.specs.Tokens.{isKeyword};
+ghost use Rattle.lexer.specs.Answers.{Next, lexemeOf};
 use crate::bytes::Class;
 use crate::bytes::Run;
 use crate::bytes::class_of;
+use crate::bytes::part;
 use crate::bytes::run_end;
+use crate::bytes::same;
 
 pub enum Kind {
     Opening,
@@ -60,6 +63,20 @@ pub fn next(text: &[u8], at: usize) -> Span
         start: text.len(),
         end: text.len(),
         length: 0,
+    }
+}
+
+// Whether a token is a keyword.
+pub fn is_keyword(text: &[u8], t: Span, keyword: &[u8]) -> bool
+    ensures { λ r. ⌜ r ≡ isKeyword (now (keyword .entry)) (lexemeOf (now (text .entry)) t .token) ⌝ }
+{
+    let kind = t.kind;
+    match kind {
+        Kind::Plain => same(part(text, t.start, t.end), keyword),
+        Kind::Opening => false,
+        Kind::Closing => false,
+        Kind::Quoted => false,
+        Kind::Ending => false,
     }
 }
 
