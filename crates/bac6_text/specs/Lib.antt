@@ -1,0 +1,5 @@
+pub mod Figure
+pub mod Grammar
+pub mod Rules
+pub mod Layout
+pub mod Answer

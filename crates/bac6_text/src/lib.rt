@@ -1,0 +1,1 @@
+// The specification of figures: definitions and no code.

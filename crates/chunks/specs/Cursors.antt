@@ -1,0 +1,30 @@
+-- What a cursor of the code says of the tokens, and of a table that rows are written to.
+use mathlib.Core.Path.{_≡_}
+use mathlib.Core.List.{List, [], _∷_}
+use mathlib.Core.Bool.{Bool, true, false}
+use Prim.Native.Nat.{ℕ, zero, suc}
+use lib.Dec.{eqb}
+use lib.IntN.{ℤ}
+use Rattle.lexer.specs.Tokens.{lexAt}
+use Rattle.chunks.specs.declared.cursor.Cursor.{Cursor}
+use Rattle.chunks.specs.Readers.{Got, got, refused, Reader, pure}
+
+-- what a reader gives from a cursor on: the cursor's own refusal, where it has one
+unfoldable pub from : {A : Type 0} → List ℕ → Cursor → Reader A → Got A
+from text c r = elim (eqb (c .refusal) 0) [ true ↦ r (lexAt text (c .at)) | false ↦ refused (c .refusal) (c .at) ]
+
+-- a value and the tokens from the cursor's offset on, or its refusal
+unfoldable pub reads : {A : Type 0} → List ℕ → Cursor → A → Got A
+reads text c a = from text c (pure a)
+
+-- numbers over a table's first: those past its end are dropped
+unfoldable pub overlay : List ℤ → List ℤ → List ℤ
+overlay [] table = table
+overlay (z ∷ zs) [] = []
+overlay (z ∷ zs) (t ∷ table) = z ∷ overlay zs table
+
+-- the same from an index on
+unfoldable pub overlayAt : ℕ → List ℤ → List ℤ → List ℤ
+overlayAt zero zs table = overlay zs table
+overlayAt (suc i) zs [] = []
+overlayAt (suc i) zs (t ∷ table) = t ∷ overlayAt i zs table

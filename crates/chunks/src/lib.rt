@@ -1,0 +1,8 @@
+// Readers that figures and movements share: chunks, keywords, numbers, names and rows.
+mod cursor;
+
+pub use cursor::Cursor;
+pub use cursor::closing;
+pub use cursor::keyword;
+pub use cursor::opened;
+pub use cursor::opening;
