@@ -130,10 +130,10 @@ fn string_lengths() {
 /// `;` and brackets in a string are content; any byte may stand in a comment.
 #[test]
 fn strings_and_comments() {
-    let text = changed(FIGURE, "(Figure", "(Figure(name\"a;(\")");
+    let text = changed(FIGURE, "(Figure", "(Figure(name\"a;( ~)\")");
     let figure = figure::read(text.as_bytes(), limits::FIGURE_ROOM).unwrap();
     let name = figure.name.unwrap();
-    assert_eq!(&text[name.offset..name.offset + name.length], "a;(");
+    assert_eq!(&text[name.offset..name.offset + name.length], "a;( ~)");
     let mut text = FIGURE.as_bytes().to_vec();
     text.extend(b";\"( \x00\x80\xff\r");
     assert_eq!(figure_refusal(&text), None);

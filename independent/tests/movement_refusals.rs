@@ -159,6 +159,8 @@ fn pairs() {
     assert_eq!(pair(&one, MOVEMENT), refused(2, 20, 1));
     let two = changed(MOVEMENT, bone(), &bone().repeat(2));
     assert_eq!(pair(FIGURE, &two), refused(2, 18, 2));
+    let only_theirs = changed(MOVEMENT, "(bone", "(bone(name \"a\")");
+    assert_eq!(pair(&figure, &only_theirs), None);
     let named = changed(&figure, "(bone", "(bone(name \"a\")");
     assert_eq!(pair(&named, MOVEMENT), None);
     for (name, expected) in [

@@ -159,7 +159,7 @@ fn anything_behind_the_last_bracket() {
 #[test]
 fn the_version() {
     let before = ";BAC\n(Head(bacVersion ";
-    for word in ["6.00", "4.0", "6", "x", "-"] {
+    for word in ["6.00", "4.0", "6", "x", "-", "!", "~"] {
         figure_stops(before, &format!("{word}))"), 7);
     }
     for token in ["(", ")", "\"6.0\""] {

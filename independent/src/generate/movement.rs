@@ -43,7 +43,7 @@ pub const CHANNELS: [&str; 10] = [
 
 /// A sound movement: most are small, some have lists at their most.
 pub fn sound(rng: &mut Rng) -> Movement {
-    if rng.once_in(80) {
+    if rng.once_in(40) {
         return at_limits(rng, 0);
     }
     small(rng)
