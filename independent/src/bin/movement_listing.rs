@@ -1,0 +1,5 @@
+//! Lists the movement on standard input.
+
+fn main() -> std::io::Result<()> {
+    independent::many::run(independent::listing::movement_listing)
+}

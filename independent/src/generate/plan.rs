@@ -1,0 +1,135 @@
+//! What damage a text gets: to its lists, its tokens and its bytes.
+
+use super::piece::Piece;
+use super::render::{any_style, render, Style};
+use super::rng::Rng;
+use super::{bytes, figure, figure_damage, figure_limits, movement, movement_damage, piece_damage};
+use crate::limits;
+
+#[derive(Clone, Copy, Debug, PartialEq, Eq)]
+enum Damage {
+    Lists,
+    Tokens,
+    Number,
+    Version,
+    String,
+    Bytes,
+    UnendedString,
+    FirstLine,
+    Length,
+}
+
+/// One to three kinds of damage; often more than one to the lists.
+fn plan(rng: &mut Rng) -> Vec<Damage> {
+    let count = *rng.pick(&[1, 1, 1, 1, 1, 1, 2, 2, 3]);
+    let mut plan: Vec<Damage> = (0..count).map(|_| one(rng)).collect();
+    if plan[0] == Damage::Lists && rng.once_in(3) {
+        plan = vec![Damage::Lists; 2 + rng.below(2)];
+    }
+    plan
+}
+
+fn one(rng: &mut Rng) -> Damage {
+    match rng.below(100) {
+        0..=35 => Damage::Lists,
+        36..=60 => Damage::Tokens,
+        61..=72 => Damage::Number,
+        73..=75 => Damage::Version,
+        76..=81 => Damage::String,
+        82..=94 => Damage::Bytes,
+        95 => Damage::UnendedString,
+        96..=98 => Damage::FirstLine,
+        _ => Damage::Length,
+    }
+}
+
+/// Once in so many damaged texts is one at the limits.
+const LARGE: usize = 20;
+
+pub fn damaged_figure(rng: &mut Rng) -> Vec<u8> {
+    if rng.once_in(LARGE) {
+        return large_figure(rng).text(rng);
+    }
+    let plan = plan(rng);
+    let sizes = figure::small_sizes(rng);
+    let style = any_style(rng);
+    let mut figure = figure::of_sizes(rng, sizes, style, true);
+    for _ in plan.iter().filter(|damage| **damage == Damage::Lists) {
+        figure_damage::damage(rng, &mut figure);
+    }
+    let pieces = figure.pieces(rng);
+    damaged(rng, b";BAC", pieces, style, &plan)
+}
+
+fn large_figure(rng: &mut Rng) -> figure::Figure {
+    let room = limits::FIGURE_ROOM;
+    match rng.below(5) {
+        0 => {
+            let total = room + *rng.pick(&[0, 1, 1, 2, 500]);
+            let mut figure = figure_limits::of_total(rng, total);
+            if rng.once_in(3) {
+                figure_damage::damage(rng, &mut figure);
+            }
+            figure
+        }
+        _ => {
+            let mut figure = figure_limits::at_limits(rng);
+            if rng.once_in(4) {
+                figure_damage::damage(rng, &mut figure);
+            }
+            figure
+        }
+    }
+}
+
+pub fn damaged_movement(rng: &mut Rng) -> Vec<u8> {
+    if rng.once_in(LARGE) {
+        let past = *rng.pick(&[0, 1, 1, 2]);
+        let mut movement = movement::at_limits(rng, past);
+        if rng.once_in(3) {
+            movement_damage::damage(rng, &mut movement);
+        }
+        return movement.text(rng);
+    }
+    let plan = plan(rng);
+    let mut movement = movement::small(rng);
+    for _ in plan.iter().filter(|damage| **damage == Damage::Lists) {
+        movement_damage::damage(rng, &mut movement);
+    }
+    let pieces = movement.pieces(rng);
+    damaged(rng, b";TRA", pieces, movement.style, &plan)
+}
+
+/// Damages tokens, renders them, then damages bytes.
+fn damaged(
+    rng: &mut Rng,
+    mark: &[u8],
+    mut pieces: Vec<Piece>,
+    style: Style,
+    plan: &[Damage],
+) -> Vec<u8> {
+    for damage in plan {
+        match damage {
+            Damage::Tokens => piece_damage::damage(rng, &mut pieces),
+            Damage::Number => piece_damage::damage_number(rng, &mut pieces),
+            Damage::Version => piece_damage::damage_version(rng, &mut pieces),
+            Damage::String => piece_damage::damage_string(rng, &mut pieces),
+            _ => {}
+        }
+    }
+    let mut text = render(rng, mark, &pieces, style);
+    for damage in plan {
+        match damage {
+            Damage::Bytes => bytes::damage(rng, &mut text),
+            Damage::UnendedString => bytes::unended_string(rng, &mut text),
+            _ => {}
+        }
+    }
+    if plan.contains(&Damage::FirstLine) && text.len() > 4 {
+        bytes::first_line(rng, &mut text);
+    }
+    if plan.contains(&Damage::Length) {
+        bytes::length(rng, &mut text);
+    }
+    text
+}

@@ -1,0 +1,142 @@
+//! The listings: one row of the table a line, fields parted by tabs.
+
+use crate::cursor::Name;
+use crate::figure::{self, Face, Figure};
+use crate::figure_rules;
+use crate::limits;
+use crate::movement::{self, Movement};
+use crate::play;
+use crate::refusal::Refusal;
+
+/// A row's word, and its numbers as they stand in the table.
+pub type Row = (&'static str, Vec<i64>);
+
+fn name_pair(name: Option<Name>) -> [i64; 2] {
+    name.map_or([0, 0], |name| [name.offset as i64, name.length as i64])
+}
+
+/// The rows of a figure that has been read, in the table's order.
+pub fn figure_rows(figure: &Figure) -> Result<Vec<Row>, Refusal> {
+    let mut rows: Vec<Row> = vec![("name", name_pair(figure.name).to_vec())];
+    rows.extend(figure.textures.iter().map(|row| ("texture", row.to_vec())));
+    rows.extend(figure.colours.iter().map(|row| ("colour", row.to_vec())));
+    for material in &figure.materials {
+        let mut row = vec![material.blend];
+        row.extend(material.flags.map(i64::from));
+        row.extend([material.texture, material.colour]);
+        row.extend(material.levels);
+        rows.push(("material", row));
+    }
+    rows.extend(figure.points.iter().map(|row| ("point", row.to_vec())));
+    rows.extend(figure.normals.iter().map(|row| ("normal", row.to_vec())));
+    let parents = figure_rules::parents(&figure.bones)?;
+    for (bone, parent) in figure.bones.iter().zip(parents) {
+        let mut row = [bone.translate, bone.rotate, bone.handle].concat();
+        row.extend([bone.has_child, bone.has_brother].map(i64::from));
+        row.push(parent);
+        row.extend(name_pair(bone.name));
+        rows.push(("bone", row));
+    }
+    let owners = figure_rules::owners(&figure.bones, figure.points.len())?;
+    rows.extend(owners.iter().map(|&owner| ("owner", vec![owner])));
+    rows.extend(figure.uvs.iter().map(|row| ("uv", row.to_vec())));
+    rows.extend(figure.faces.iter().map(|face| ("face", face_row(face))));
+    let groups = figure.groups.iter();
+    rows.extend(groups.map(|&name| ("group", name_pair(name).to_vec())));
+    Ok(rows)
+}
+
+fn face_row(face: &Face) -> Vec<i64> {
+    let mut row = vec![face.material, face.vertices.len() as i64];
+    for corners in [&face.vertices, &face.uvs] {
+        row.extend((0..4).map(|corner| corners.get(corner).copied().unwrap_or(-1)));
+    }
+    row.push(face.group.map_or(-1, |group| group as i64));
+    row
+}
+
+/// The rows of a movement that has been read, in the table's order.
+pub fn movement_rows(movement: &Movement) -> Vec<Row> {
+    let mut rows: Vec<Row> = vec![
+        ("frames", vec![movement.total_frames]),
+        ("name", name_pair(movement.name).to_vec()),
+    ];
+    let mut first_key = 0;
+    for bone in &movement.bones {
+        let mut row = name_pair(bone.name).to_vec();
+        for channel in &bone.channels {
+            let count = channel.len() as i64;
+            row.extend([first_key, count]);
+            first_key += count;
+        }
+        rows.push(("bone", row));
+    }
+    for key in movement.channels().flatten() {
+        rows.push(("key", vec![key.frame, key.value]));
+    }
+    for line in &movement.patterns {
+        let row = vec![line.frame, line.group, i64::from(line.flag)];
+        rows.push(("pattern", row));
+    }
+    rows
+}
+
+fn line(word: &str, numbers: &[i64]) -> String {
+    let mut line = String::from(word);
+    for number in numbers {
+        line.push('\t');
+        line.push_str(&number.to_string());
+    }
+    line.push('\n');
+    line
+}
+
+fn refused(refusal: Refusal) -> String {
+    line("refused", &[i64::from(refusal.number), refusal.place])
+}
+
+fn listed(word: &str, total: usize, rows: &[Row]) -> String {
+    let mut listing = line(word, &[total as i64]);
+    for (word, numbers) in rows {
+        listing.push_str(&line(word, numbers));
+    }
+    listing
+}
+
+/// The listing of a figure, or its refusal.
+pub fn figure_listing(text: &[u8]) -> String {
+    let read = figure::read(text, limits::FIGURE_ROOM);
+    let rows = read.and_then(|figure| Ok((figure.total(), figure_rows(&figure)?)));
+    match rows {
+        Ok((total, rows)) => listed("figure", total, &rows),
+        Err(refusal) => refused(refusal),
+    }
+}
+
+/// The listing of a movement, or its refusal.
+pub fn movement_listing(text: &[u8]) -> String {
+    match movement::read(text, limits::MOVEMENT_ROOM) {
+        Ok(movement) => listed("movement", movement.total(), &movement_rows(&movement)),
+        Err(refusal) => refused(refusal),
+    }
+}
+
+/// Every sample of a movement, or its refusal.
+pub fn sample_listing(text: &[u8]) -> String {
+    let movement = match movement::read(text, limits::MOVEMENT_ROOM) {
+        Ok(movement) => movement,
+        Err(refusal) => return refused(refusal),
+    };
+    let mut listing = String::new();
+    for bone in 0..movement.bones.len() as i64 {
+        for channel in 0..movement::CHANNELS as i64 {
+            for frame in 0..movement.total_frames {
+                if let Some(value) = play::sample(&movement, bone, channel, frame) {
+                    let numbers = [bone, channel, frame, value.numerator, value.denominator];
+                    listing.push_str(&line("sample", &numbers));
+                }
+            }
+        }
+    }
+    listing
+}

@@ -1,0 +1,124 @@
+//! Playing: Sample, Shown, Corner and Label, worked out from the lists as the
+//! texts write them. None stands for 21, no such thing.
+
+use crate::figure::Figure;
+use crate::movement::Movement;
+use crate::pair::name_bytes;
+
+/// A fraction of millionths in lowest terms, denominator above 0.
+#[derive(Clone, Copy, Debug, PartialEq, Eq)]
+pub struct Fraction {
+    pub numerator: i64,
+    pub denominator: i64,
+}
+
+impl Fraction {
+    /// Brings a fraction to lowest terms; `denominator` is above 0.
+    fn reduced(numerator: i64, denominator: i64) -> Fraction {
+        let (mut factor, mut rest) = (denominator, numerator.abs() % denominator);
+        while rest != 0 {
+            (factor, rest) = (rest, factor % rest);
+        }
+        Fraction {
+            numerator: numerator / factor,
+            denominator: denominator / factor,
+        }
+    }
+}
+
+/// One corner of a face.
+#[derive(Clone, Copy, Debug, PartialEq, Eq)]
+pub struct Corner {
+    pub position: [i64; 3],
+    /// The owning bone, -1 for none.
+    pub owner: i64,
+    pub uv: Option<[i64; 2]>,
+    pub material: i64,
+}
+
+/// The row of a list, if it exists.
+fn row<T>(list: &[T], number: i64) -> Option<&T> {
+    list.get(usize::try_from(number).ok()?)
+}
+
+fn is_frame(movement: &Movement, frame: i64) -> bool {
+    0 <= frame && frame < movement.total_frames
+}
+
+/// A channel's value at a frame.
+pub fn sample(movement: &Movement, bone: i64, channel: i64, frame: i64) -> Option<Fraction> {
+    let keys = row(&row(&movement.bones, bone)?.channels, channel)?;
+    if !is_frame(movement, frame) {
+        return None;
+    }
+    let before = keys.iter().rev().find(|key| key.frame <= frame)?;
+    let after = keys.iter().find(|key| key.frame > frame);
+    let Some(after) = after else {
+        return Some(Fraction::reduced(before.value, 1));
+    };
+    let step = after.frame - before.frame;
+    let numerator = before.value * step + (after.value - before.value) * (frame - before.frame);
+    Some(Fraction::reduced(numerator, step))
+}
+
+/// The bone whose `vertexIndices` name a point, -1 if none.
+pub fn owner(figure: &Figure, point: i64) -> i64 {
+    let named = figure
+        .bones
+        .iter()
+        .position(|bone| bone.vertices.contains(&point));
+    named.map_or(-1, |bone| bone as i64)
+}
+
+/// Whether a face is shown at a frame.
+pub fn shown(figure: &Figure, movement: &Movement, face: i64, frame: i64) -> Option<bool> {
+    let face = row(&figure.faces, face)?;
+    if !is_frame(movement, frame) {
+        return None;
+    }
+    if face
+        .vertices
+        .iter()
+        .any(|&point| owner(figure, point) == -1)
+    {
+        return Some(false);
+    }
+    let Some(group) = face.group else {
+        return Some(true);
+    };
+    let lines = movement.patterns.iter().rev();
+    let last = lines
+        .filter(|line| line.group == group as i64)
+        .find(|line| line.frame <= frame);
+    Some(last.is_some_and(|line| line.flag))
+}
+
+/// A corner of a face.
+pub fn corner(figure: &Figure, face: i64, corner: i64) -> Option<Corner> {
+    let face = row(&figure.faces, face)?;
+    let point = *row(&face.vertices, corner)?;
+    let uv = *row(&face.uvs, corner)?;
+    Some(Corner {
+        position: *row(&figure.points, point)?,
+        owner: owner(figure, point),
+        uv: row(&figure.uvs, uv).copied(),
+        material: face.material,
+    })
+}
+
+/// A bone's name: the movement's where it is not empty, else the figure's.
+pub fn label<'a>(
+    figure: &Figure,
+    figure_text: &'a [u8],
+    movement: &Movement,
+    movement_text: &'a [u8],
+    bone: i64,
+) -> Option<&'a [u8]> {
+    let of_figure = name_bytes(figure_text, row(&figure.bones, bone)?.name);
+    let of_movement = name_bytes(movement_text, row(&movement.bones, bone)?.name);
+    if of_movement.is_empty() {
+        Some(of_figure)
+    } else {
+        Some(of_movement)
+    }
+}

@@ -1,0 +1,88 @@
+//! The programs, run as they are.
+
+mod common;
+
+use common::{changed, FIGURE, MOVEMENT};
+use independent::generate::{text, Kind};
+use independent::listing::{figure_listing, movement_listing, sample_listing};
+use independent::many;
+use std::io::Write;
+use std::process::{Command, Output, Stdio};
+
+fn run(program: &str, arguments: &[&str], input: &[u8]) -> Output {
+    let mut child = Command::new(program)
+        .args(arguments)
+        .stdin(Stdio::piped())
+        .stdout(Stdio::piped())
+        .stderr(Stdio::piped())
+        .spawn()
+        .unwrap();
+    child.stdin.take().unwrap().write_all(input).unwrap();
+    child.wait_with_output().unwrap()
+}
+
+fn output(program: &str, arguments: &[&str], input: &[u8]) -> String {
+    let output = run(program, arguments, input);
+    assert!(output.status.success());
+    String::from_utf8(output.stdout).unwrap()
+}
+
+#[test]
+fn one_text_and_many() {
+    let figure = env!("CARGO_BIN_EXE_figure_listing");
+    let movement = env!("CARGO_BIN_EXE_movement_listing");
+    let play = env!("CARGO_BIN_EXE_play");
+    let listings: [fn(&[u8]) -> String; 3] = [figure_listing, movement_listing, sample_listing];
+    for (program, listing) in [figure, movement, play].into_iter().zip(listings) {
+        let texts = [FIGURE.as_bytes(), MOVEMENT.as_bytes(), b"", b"\xff"];
+        let mut stream = Vec::new();
+        let mut expected = String::new();
+        for text in texts {
+            assert_eq!(output(program, &[], text), listing(text));
+            stream.extend(many::record(text));
+            expected += &listing(text);
+            expected += "--\n";
+        }
+        assert_eq!(output(program, &["--many"], &stream), expected);
+    }
+    assert!(!run(figure, &["--many"], b"12").status.success());
+    assert!(!run(figure, &["--other"], b"").status.success());
+}
+
+#[test]
+fn play_prints_every_sample() {
+    let printed = output(env!("CARGO_BIN_EXE_play"), &[], MOVEMENT.as_bytes());
+    let lines: Vec<&str> = printed.lines().collect();
+    assert_eq!(lines.len(), 10 * 11);
+    assert_eq!(lines[0], "sample\t0\t0\t0\t0\t1");
+    assert_eq!(lines[9 * 11 + 4], "sample\t0\t9\t4\t225403619\t3");
+    let bad = changed(MOVEMENT, "totalFrame 11", "totalFrame 0");
+    assert_eq!(
+        output(env!("CARGO_BIN_EXE_play"), &[], bad.as_bytes()),
+        "refused\t14\t0\n"
+    );
+}
+
+#[test]
+fn generate_writes_a_stream_files_and_a_summary() {
+    let program = env!("CARGO_BIN_EXE_generate");
+    let stream = run(program, &["5", "4", "damaged-figures", "-"], b"").stdout;
+    let texts: Vec<Vec<u8>> = (0..4)
+        .map(|index| text(Kind::DamagedFigures, 5, index))
+        .collect();
+    assert_eq!(many::split(&stream).unwrap(), texts);
+
+    let directory = std::path::Path::new(env!("CARGO_TARGET_TMPDIR")).join("generated");
+    let out = directory.to_str().unwrap();
+    assert!(run(program, &["5", "4", "sound-movements", out], b"")
+        .status
+        .success());
+    let written = std::fs::read(directory.join("00003.tra")).unwrap();
+    assert_eq!(written, text(Kind::SoundMovements, 5, 3));
+
+    let summary = output(program, &["--summary", "5", "4", "sound-movements"], b"");
+    assert!(summary.ends_with("\naccepted\t4\n"), "{summary}");
+    assert!(!run(program, &["5", "4", "unknown", "-"], b"")
+        .status
+        .success());
+}
