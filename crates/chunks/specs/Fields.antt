@@ -6,7 +6,7 @@ use Prim.Native.Nat.{ℕ, zero, suc}
 use Prim.Native.String.{String}
 use lib.ListN.{length}
 use Rattle.lexer.specs.Bytes.{bytes}
-use Rattle.lexer.specs.Tokens.{Lexeme, isKeyword}
+use Rattle.lexer.specs.Tokens.{Token, Lexeme, isKeyword}
 use Rattle.chunks.specs.Readers.{Got, got, refused, Reader, _>>=_, _>>_, pure, stop, tokenOf, rest, isClosing, open-bracket}
 
 -- a kind of chunk: its keyword, whether it must stand, and what stands in it up to its )
@@ -33,11 +33,6 @@ complete [] fs = true
 complete (k ∷ ks) [] = true
 complete (k ∷ ks) (f ∷ fs) = (not (k .needed) || isSome f) && complete ks fs
 
--- every kind has stood
-unfoldable pub allRead : {A : Type 0} → List (Option A) → Bool
-allRead [] = true
-allRead (f ∷ fs) = isSome f && allRead fs
-
 -- the field of the kind whose keyword comes next and that has not stood yet
 unfoldable pub kindFrom : {A : Type 0} → List (Kind A) → List (Option A) → Reader (List (Option A))
 kindFrom [] fs ms = stop 5 ms
@@ -49,17 +44,35 @@ kindFrom (k ∷ ks) (none ∷ fs) ms =
     ]
 kindFrom (k ∷ ks) (some a ∷ fs) ms = (kindFrom ks fs >>= λ gs. pure (some a ∷ gs)) ms
 
--- chunks up to ), which is taken too: where all have stood no ( may follow
+-- chunks up to ), which is taken too; n is how many may still open
 unfoldable pub fieldsIn : {A : Type 0} → ℕ → List (Kind A) → List (Option A) → Reader (List (Option A))
-fieldsIn zero ks fs ms = stop 5 ms
+fieldsIn zero ks fs ms =
+    elim (isClosing (tokenOf ms)) [
+      | true ↦ elim (complete ks fs) [ true ↦ got fs (rest ms) | false ↦ stop 5 ms ]
+      | false ↦ stop 5 ms
+    ]
 fieldsIn (suc n) ks fs ms =
     elim (isClosing (tokenOf ms)) [
       | true ↦ elim (complete ks fs) [ true ↦ got fs (rest ms) | false ↦ stop 5 ms ]
-      | false ↦ elim (allRead fs) [
-        | true ↦ stop 5 ms
-        | false ↦ (open-bracket >> kindFrom ks fs >>= λ gs. fieldsIn n ks gs) ms
-      ]
+      | false ↦ (open-bracket >> kindFrom ks fs >>= λ gs. fieldsIn n ks gs) ms
     ]
 
+-- each kind's chunk may open once
 unfoldable pub fields : {A : Type 0} → List (Kind A) → Reader (List (Option A))
-fields ks ms = fieldsIn (length ms) ks (unread ks) ms
+fields ks = fieldsIn (length ks) ks (unread ks)
+
+-- which kinds a token is the keyword of, and one of n alone (none where k is not below n)
+unfoldable pub hits : {A : Type 0} → List (Kind A) → Token → List Bool
+hits [] t = []
+hits (k ∷ ks) t = isKeyword (bytes (k .key)) t ∷ hits ks t
+
+unfoldable pub single : ℕ → ℕ → List Bool
+single zero k = []
+single (suc n) zero = true ∷ single n n
+single (suc n) (suc k) = false ∷ single n k
+
+-- what stands in the chunk of a kind
+unfoldable pub insideAt : {A : Type 0} → List (Kind A) → ℕ → Reader A
+insideAt [] k = stop 5
+insideAt (kd ∷ ks) zero = kd .inside
+insideAt (kd ∷ ks) (suc k) = insideAt ks k
