@@ -18,10 +18,13 @@ word ks = oneOf ks >>= λ n. pure (pos n)
 unfoldable pub truth : Reader ℤ
 truth = word ("false" ∷ "true" ∷ [])
 
+unfoldable pub blend : Reader ℤ
+blend = word ("normal" ∷ "add" ∷ "sub" ∷ "half" ∷ [])
+
 -- the columns of a material, in 01's order
 unfoldable pub materialKinds : List (Kind ℤ)
 materialKinds =
-    kind "blendMode" true (closed (word ("normal" ∷ "add" ∷ "sub" ∷ "half" ∷ [])))
+    kind "blendMode" true (closed blend)
     ∷ kind "doubleFace" true (closed truth)
     ∷ kind "transparent" true (closed truth)
     ∷ kind "lighting" true (closed truth)

@@ -4,12 +4,13 @@ use mathlib.Core.List.{List, [], _∷_, map}
 use mathlib.Core.Bool.{Bool, true, false, true≢false, false≢true}
 use mathlib.Core.Option.{Option, none, some}
 use Prim.Native.Nat.{ℕ, zero, suc, _≤_, _<_}
+use Prim.Native.String.{String}
 use native.Mathlib.Omega.{arith}
 use lib.ListN.{length, getD, set}
 use Rattle.lexer.specs.Bytes.{bytes}
 use Rattle.lexer.specs.Tokens.{Token, Lexeme, isKeyword}
-use Rattle.chunks.specs.Readers.{Got, got, refused, Reader, after, _>>=_, _>>_, pure, stop, tokenOf, rest, isClosing, open-bracket}
-use Rattle.chunks.specs.Fields.{Kind, isSome, complete, kindFrom, fieldsIn, hits, single, insideAt}
+use Rattle.chunks.specs.Readers.{Got, got, refused, Reader, after, _>>=_, _>>_, pure, stop, tokenOf, rest, isOpening, isClosing, take-if, open-bracket, oneFrom}
+use Rattle.chunks.specs.Fields.{Kind, isSome, complete, kindFrom, fieldsIn, hits, single, insideAt, fieldOf, fieldsOf}
 
 -- a refusal stays one
 pub after-stop : {A B : Type 0} (n : ℕ) (ms : List Lexeme) (f : A → Reader B) → after (stop n ms) f ≡ stop n ms
@@ -66,3 +67,73 @@ module _ {A : Type 0} (ms : List Lexeme) where
   kind-hit (kd ∷ ks) (some b ∷ fs) (suc n) zero h l g e = absurd (let z : _≡_ {A = ℕ} 0 1 = cc in omega arith)
   kind-hit (kd ∷ ks) (none ∷ fs) (suc n) (suc k) h l g e = rw (head-of _ _ _ _ e, kindFrom, kind-hit ks fs n k (omega arith) (omega arith) g (tail-of _ _ _ _ e)) (after-after (insideAt ks k (rest ms)) _ _)
   kind-hit (kd ∷ ks) (some b ∷ fs) (suc n) (suc k) h l g e = rw (kind-hit ks fs n k (omega arith) (omega arith) g (tail-of _ _ _ _ e)) (after-after (insideAt ks k (rest ms)) _ _)
+
+-- ---- chunks up to the closing bracket
+
+module _ {A : Type 0} (ks : List (Kind A)) (fs : List (Option A)) (ms : List Lexeme) where
+  pub fields-close : (n : ℕ) → isClosing (tokenOf ms) ≡ true → complete ks fs ≡ true → fieldsIn n ks fs ms ≡ got fs (rest ms)
+  unfolding fieldsIn
+  fields-close zero e f = rw (e, f, fieldsIn)
+  fields-close (suc n) e f = rw (e, f, fieldsIn)
+
+  pub fields-early : (n : ℕ) → isClosing (tokenOf ms) ≡ true → complete ks fs ≡ false → fieldsIn n ks fs ms ≡ stop 5 ms
+  unfolding fieldsIn
+  fields-early zero e f = rw (e, f, fieldsIn)
+  fields-early (suc n) e f = rw (e, f, fieldsIn)
+
+  -- no chunk may open any more
+  pub fields-full : isClosing (tokenOf ms) ≡ false → fieldsIn 0 ks fs ms ≡ stop 5 ms
+  unfolding fieldsIn
+  fields-full e = rw (e, fieldsIn)
+
+  pub fields-other : (n : ℕ) → isClosing (tokenOf ms) ≡ false → isOpening (tokenOf ms) ≡ false → fieldsIn n ks fs ms ≡ stop 5 ms
+  unfolding fieldsIn open-bracket take-if _>>_ _>>=_
+  fields-other zero e f = rw (e, fieldsIn)
+  fields-other (suc n) e f = rw (e, fieldsIn, f, take-if, after-stop 5 ms (λ _. kindFrom ks fs)) (after-stop 5 ms _)
+
+  pub fields-chunk : (n : ℕ) → isClosing (tokenOf ms) ≡ false → isOpening (tokenOf ms) ≡ true → fieldsIn (suc n) ks fs ms ≡ after (kindFrom ks fs (rest ms)) (λ gs. fieldsIn n ks gs)
+  unfolding fieldsIn open-bracket take-if _>>_ _>>=_ after
+  fields-chunk n e f = rw (e, fieldsIn, f, take-if)
+
+-- ---- one of some words
+
+pub one-yes : (n : ℕ) (k : String) (ks : List String) (ms : List Lexeme) → isKeyword (bytes k) (tokenOf ms) ≡ true → oneFrom n (k ∷ ks) ms ≡ got n (rest ms)
+unfolding oneFrom
+one-yes n k ks ms e = rw (e, oneFrom)
+
+pub one-no : (n : ℕ) (k : String) (ks : List String) (ms : List Lexeme) → isKeyword (bytes k) (tokenOf ms) ≡ false → oneFrom n (k ∷ ks) ms ≡ oneFrom (suc n) ks ms
+unfolding oneFrom
+one-no n k ks ms e = rw (e, oneFrom)
+
+-- ---- the fields that an array of values and one of flags hold
+
+pub fieldsOf-length : {A : Type 0} (seen : List Bool) (row : List A) → length seen ≡ length row → length (fieldsOf seen row) ≡ length row
+unfolding fieldsOf
+fieldsOf-length [] [] e = refl
+fieldsOf-length [] (z ∷ row) e = absurd (omega arith)
+fieldsOf-length (b ∷ seen) [] e = absurd (omega arith)
+fieldsOf-length (b ∷ seen) (z ∷ row) e = ap suc (fieldsOf-length seen row (omega arith))
+
+pub fieldsOf-set : {A : Type 0} (seen : List Bool) (row : List A) (k : ℕ) (a : A) → length seen ≡ length row → fieldsOf (set seen k true) (set row k a) ≡ set (fieldsOf seen row) k (some a)
+unfolding fieldsOf fieldOf
+fieldsOf-set [] [] k a e = refl
+fieldsOf-set [] (z ∷ row) k a e = absurd (omega arith)
+fieldsOf-set (b ∷ seen) [] k a e = absurd (omega arith)
+fieldsOf-set (b ∷ seen) (z ∷ row) zero a e = refl
+fieldsOf-set (b ∷ seen) (z ∷ row) (suc k) a e = ap (λ (l : List (Option _)). fieldOf b z ∷ l) (fieldsOf-set seen row k a (omega arith))
+
+pub fieldsOf-unread : {A : Type 0} (seen : List Bool) (row : List A) (k : ℕ) → getD seen k true ≡ false → length seen ≡ length row → getD (fieldsOf seen row) k none ≡ none
+unfolding fieldsOf fieldOf
+fieldsOf-unread [] [] k e l = refl
+fieldsOf-unread [] (z ∷ row) k e l = refl
+fieldsOf-unread (b ∷ seen) [] k e l = refl
+fieldsOf-unread (b ∷ seen) (z ∷ row) zero e l = rw (e, fieldOf)
+fieldsOf-unread (b ∷ seen) (z ∷ row) (suc k) e l = fieldsOf-unread seen row k e (omega arith)
+
+pub fieldsOf-read : {A : Type 0} (seen : List Bool) (row : List A) (k : ℕ) (d : A) → getD seen k false ≡ true → length seen ≡ length row → getD (fieldsOf seen row) k none ≡ some (getD row k d)
+unfolding fieldsOf fieldOf
+fieldsOf-read [] [] k d e l = absurd (false≢true e)
+fieldsOf-read [] (z ∷ row) k d e l = absurd (omega arith)
+fieldsOf-read (b ∷ seen) [] k d e l = absurd (omega arith)
+fieldsOf-read (b ∷ seen) (z ∷ row) zero d e l = rw (e, fieldOf)
+fieldsOf-read (b ∷ seen) (z ∷ row) (suc k) d e l = fieldsOf-read seen row k d e (omega arith)

@@ -76,3 +76,13 @@ unfoldable pub insideAt : {A : Type 0} → List (Kind A) → ℕ → Reader A
 insideAt [] k = stop 5
 insideAt (kd ∷ ks) zero = kd .inside
 insideAt (kd ∷ ks) (suc k) = insideAt ks k
+
+-- the fields that an array of flags and one of values hold
+unfoldable pub fieldOf : {A : Type 0} → Bool → A → Option A
+fieldOf true a = some a
+fieldOf false a = none
+
+unfoldable pub fieldsOf : {A : Type 0} → List Bool → List A → List (Option A)
+fieldsOf [] row = []
+fieldsOf (b ∷ seen) [] = []
+fieldsOf (b ∷ seen) (a ∷ row) = fieldOf b a ∷ fieldsOf seen row

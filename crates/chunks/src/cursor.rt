@@ -13,7 +13,7 @@ pub struct Cursor {
     pub at: usize,
 }
 
-fn is_opening(kind: Kind) -> bool
+pub fn is_opening(kind: Kind) -> bool
     ensures { λ r. ⌜ ((bs : List ℕ) → r ≡ isOpening (tokenOf kind bs)) ⌝ }
 {
     match kind {
@@ -25,7 +25,7 @@ fn is_opening(kind: Kind) -> bool
     }
 }
 
-fn is_closing(kind: Kind) -> bool
+pub fn is_closing(kind: Kind) -> bool
     ensures { λ r. ⌜ ((bs : List ℕ) → r ≡ isClosing (tokenOf kind bs)) ⌝ }
 {
     match kind {

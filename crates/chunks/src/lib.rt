@@ -1,8 +1,12 @@
 // Readers that figures and movements share: chunks, keywords, numbers, names and rows.
 mod cursor;
+mod words;
 
 pub use cursor::Cursor;
 pub use cursor::closing;
+pub use cursor::is_closing;
+pub use cursor::is_opening;
 pub use cursor::keyword;
 pub use cursor::opened;
 pub use cursor::opening;
+pub use words::word_index;

@@ -8,7 +8,7 @@ use lib.IntN.{ℤ}
 use Rattle.lexer.specs.declared.bytes.Class.{Class as ByteClass}
 use Rattle.lexer.specs.declared.bytes.Class.the-variants.{Blank, Opener, Closer, Quote, Semicolon, Letter, Other}
 use Rattle.lexer.specs.declared.bytes.Run.{Run}
-use Rattle.lexer.specs.declared.bytes.Run.the-variants.{Letters, Line, Content, Digits}
+use Rattle.lexer.specs.declared.bytes.Run.the-variants.{Letters, Line, Content, Digits, Word}
 use Rattle.lexer.specs.declared.token.Kind.{Kind}
 use Rattle.lexer.specs.declared.token.Kind.the-variants.{Opening, Closing, Quoted, Plain, Ending}
 use Rattle.lexer.specs.declared.token.Span.{Span}
@@ -21,7 +21,7 @@ use Rattle.lexer.specs.declared.check.Scan.the-variants.{Ended, Faulty}
 use Rattle.lexer.specs.declared.number.Parsed.{Parsed}
 use Rattle.lexer.specs.declared.number.Parsed.the-variants.{Value, Beyond, Malformed}
 use Rattle.lexer.specs.declared.number.Leading.{Leading}
-use Rattle.lexer.specs.Bytes.{Class, blank, opener, closer, quote, semicolon, letter, other, isLetter, inLine, inString, isDigit, run, part}
+use Rattle.lexer.specs.Bytes.{Class, blank, opener, closer, quote, semicolon, letter, other, isLetter, inLine, inString, inWord, isDigit, run, part}
 use Rattle.lexer.specs.Tokens.{Token, opening, closing, ending, quoted, plain, Lexeme, lexeme, first, lexAt, bytesOf, widthOf}
 use Rattle.lexer.specs.Faults.{Fault, clear, fault, faultIn, outside, Format, bac, tra}
 use Rattle.lexer.specs.Numbers.{Number, value, beyond, wrong, negative, magnitude}
@@ -41,6 +41,7 @@ testNamed Letters = isLetter
 testNamed Line = inLine
 testNamed Content = inString
 testNamed Digits = isDigit
+testNamed Word = inWord
 
 unfoldable pub formatNamed : FormatName → Format
 formatNamed Bac = bac

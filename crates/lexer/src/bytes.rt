@@ -83,12 +83,13 @@ pub(crate) fn class_of(b: u8) -> Class
     Class::Other
 }
 
-// Runs of bytes: a plain word's letters, a comment's line, a string's content, digits.
-pub(crate) enum Run {
+// Runs of bytes: a plain word's letters, a comment's line, a string's content, digits, a word of a list that spaces part.
+pub enum Run {
     Letters,
     Line,
     Content,
     Digits,
+    Word,
 }
 
 pub(crate) fn belongs(kind: Run, b: u8) -> bool
@@ -99,11 +100,12 @@ pub(crate) fn belongs(kind: Run, b: u8) -> bool
         Run::Line => b != 10,
         Run::Content => b != 34,
         Run::Digits => is_between(b, 48, 57),
+        Run::Word => b != 32,
     }
 }
 
 // Where the run of bytes of a kind that begins at `from` ends.
-pub(crate) fn run_end(text: &[u8], from: usize, kind: Run) -> usize
+pub fn run_end(text: &[u8], from: usize, kind: Run) -> usize
     ensures { λ r. ⌜ r ≡ from + length (run (testNamed kind) (drop from (now (text .entry)))) ⌝ }
 {
     let mut i = from;

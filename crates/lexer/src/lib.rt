@@ -4,7 +4,9 @@ mod check;
 mod number;
 mod token;
 
+pub use bytes::Run;
 pub use bytes::part;
+pub use bytes::run_end;
 pub use bytes::same;
 pub use check::Checked;
 pub use check::Format;

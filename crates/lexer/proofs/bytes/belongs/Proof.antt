@@ -1,5 +1,5 @@
 -- `belongs` is the test that its kind names.
-use Rattle.lexer.specs.Bytes.{inLine, inString, isDigit}
+use Rattle.lexer.specs.Bytes.{inLine, inString, inWord, isDigit}
 use Rattle.lexer.specs.Answers.{testNamed}
 use borrow.Author.Needs.{needs}
 use Rattle.lexer.proofs.bytes.belongs.Statement.{statement}
@@ -20,6 +20,9 @@ enum-told-3 c = search needs
 enum-told-4 : tie.Need-enum-told-4
 enum-told-4 c = search needs
 
+enum-told-5 : tie.Need-enum-told-5
+enum-told-5 c = search needs
+
 is-between-requires : tie.Need-is-between-requires
 is-between-requires c κs = search needs
 
@@ -39,17 +42,11 @@ returns-4 : tie.Need-returns-4
 unfolding testNamed isDigit
 returns-4 c = rw (c .before .enum-told4 .given .1) (c .is-between .ensures)
 
+returns-5 : tie.Need-returns-5
+unfolding testNamed inWord
+returns-5 c = rw (c .enum-told5 .given .1)
+
 pub belongs-spec : {M : Type 1} → statement M
 belongs-spec =
     tie.close
-    (tie.spec
-    enum-told
-    is-letter-requires
-    enum-told-2
-    enum-told-3
-    enum-told-4
-    is-between-requires
-    returns
-    returns-2
-    returns-3
-    returns-4)
+    (tie.spec enum-told is-letter-requires enum-told-2 enum-told-3 enum-told-4 is-between-requires enum-told-5 returns returns-2 returns-3 returns-4 returns-5)

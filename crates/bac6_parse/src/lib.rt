@@ -1,0 +1,2 @@
+// Reads the shape of a figure's text into tables of rows.
+mod material;

@@ -1,0 +1,145 @@
+-- Laws of lists of keywords: words by their runs, and the kind that a token picks.
+use mathlib.Core.Path.{_≡_, refl, ap, sym, _∙_}
+use mathlib.Core.List.{List, [], _∷_}
+use mathlib.Core.Bool.{Bool, true, false, not, _&&_, false≢true}
+use Prim.Native.Nat.{ℕ, zero, suc, _+_, _≤_, _<_}
+use native.Mathlib.Nat.{add-sub-cancel-left}
+use native.Mathlib.Omega.{arith}
+use borrow.Author.Tests.{not-true, eqb-true, leb-true, leb-false}
+use Prim.Native.String.{String}
+use lib.Dec.{eqb, leb}
+use lib.ListN.{length, take, drop, getD, length-drop, drop-of-length-le}
+use lib.Seq.{drop-cons, drop-drop}
+use Rattle.lexer.specs.Bytes.{bytes, same, inWord, run, part}
+use Rattle.lexer.specs.Tokens.{Token, opening, closing, ending, quoted, plain, Lexeme, isKeyword}
+use Rattle.lexer.proofs.Runs.{run-yes, run-no, run-take, run-length}
+use Rattle.lexer.proofs.Numerals.{and-true}
+use Rattle.chunks.specs.Readers.{Got, got, Reader, stop, tokenOf, rest, oneFrom}
+use Rattle.chunks.specs.Fields.{Kind, hits, single}
+use Rattle.chunks.specs.Words.{onto, words, indexIn, keysOf, differs, apart}
+use Rattle.chunks.proofs.Choices.{one-yes, one-no}
+
+-- ---- a token that is a keyword
+
+pub same-true : (a b : List ℕ) → same a b ≡ true → a ≡ b
+unfolding same
+same-true [] [] e = refl
+same-true [] (y ∷ b) e = absurd (false≢true e)
+same-true (x ∷ a) [] e = absurd (false≢true e)
+same-true (x ∷ a) (y ∷ b) e = let p = and-true (eqb x y) (same a b) e in rw (eqb-true x y (p .0), same-true a b (p .1))
+
+pub keyword-is : (w : List ℕ) (t : Token) → isKeyword w t ≡ true → t ≡ plain w
+unfolding isKeyword
+keyword-is w opening e = absurd (false≢true e)
+keyword-is w closing e = absurd (false≢true e)
+keyword-is w ending e = absurd (false≢true e)
+keyword-is w (quoted bs) e = absurd (false≢true e)
+keyword-is w (plain bs) e = ap plain (same-true bs w e)
+
+pub index-yes : (t : Token) (w : List ℕ) (ws : List (List ℕ)) → isKeyword w t ≡ true → indexIn t (w ∷ ws) ≡ 0
+unfolding indexIn
+index-yes t w ws e = rw (e, indexIn)
+
+pub index-no : (t : Token) (w : List ℕ) (ws : List (List ℕ)) → isKeyword w t ≡ false → indexIn t (w ∷ ws) ≡ suc (indexIn t ws)
+unfolding indexIn
+index-no t w ws e = rw (e, indexIn)
+
+-- ---- words by their runs
+
+words-last : (bs : List ℕ) → length bs ≤ length (run inWord bs) → words bs ≡ run inWord bs ∷ []
+unfolding words run onto
+words-last [] h = refl
+words-last (b ∷ bs) h = go (inWord b) refl (words-last bs)
+  where
+    go : (v : Bool) → inWord b ≡ v → (length bs ≤ length (run inWord bs) → words bs ≡ run inWord bs ∷ []) → words (b ∷ bs) ≡ run inWord (b ∷ bs) ∷ []
+    go true e f = let k = rw (run-yes inWord b bs e) at h in rw (run-yes inWord b bs e, e, words, f (omega arith))
+    go false e f = let k = rw (run-no inWord b bs e) at h in absurd (omega arith)
+
+words-more : (bs : List ℕ) → length (run inWord bs) < length bs → words bs ≡ run inWord bs ∷ words (drop (suc (length (run inWord bs))) bs)
+unfolding words run onto
+words-more [] h = absurd (omega arith)
+words-more (b ∷ bs) h = go (inWord b) refl (words-more bs)
+  where
+    go : (v : Bool) → inWord b ≡ v → (length (run inWord bs) < length bs → words bs ≡ run inWord bs ∷ words (drop (suc (length (run inWord bs))) bs)) → words (b ∷ bs) ≡ run inWord (b ∷ bs) ∷ words (drop (suc (length (run inWord (b ∷ bs)))) (b ∷ bs))
+    go true e f = let k = rw (run-yes inWord b bs e) at h in rw (run-yes inWord b bs e, e, words, f (omega arith))
+    go false e f = rw (run-no inWord b bs e, e, words)
+
+-- the same at an offset of a list
+module _ (list : List ℕ) (start end : ℕ) (e : end ≡ start + length (run inWord (drop start list))) where
+  word-part : part list start end ≡ run inWord (drop start list)
+  unfolding part
+  word-part = rw (e, add-sub-cancel-left) (run-take inWord (drop start list))
+
+  pub word-last : length list ≤ end → words (drop start list) ≡ part list start end ∷ []
+  word-last h = rw word-part (words-last (drop start list) (rw length-drop (omega arith)))
+
+  pub word-more : end < length list → words (drop start list) ≡ part list start end ∷ words (drop (suc end) list)
+  word-more h =
+      let n : start + suc (length (run inWord (drop start list))) ≡ suc end = omega arith in
+      rw word-part
+      (words-more (drop start list) (rw length-drop (omega arith))
+      ∙ rw (drop-drop (suc (length (run inWord (drop start list)))) start list, n))
+
+-- ---- the kind that a token picks
+
+misses : {A : Type 0} (w : List ℕ) (ks : List (Kind A)) → differs w (keysOf ks) ≡ true → hits ks (plain w) ≡ single (length ks) (length ks)
+unfolding differs keysOf hits single isKeyword
+misses w [] d = refl
+misses w (k ∷ ks) d = let p = and-true (not (same w (bytes (k .key)))) (differs w (keysOf ks)) d in rw (not-true (same w (bytes (k .key))) (p .0), misses w ks (p .1))
+
+-- where no two keywords are the same, a token picks the first that it is, and no other
+pub hits-index : {A : Type 0} (ks : List (Kind A)) (t : Token) → apart (keysOf ks) ≡ true → hits ks t ≡ single (length ks) (indexIn t (keysOf ks))
+unfolding apart keysOf hits single indexIn
+hits-index [] t a = refl
+hits-index (k ∷ ks) t a = go (isKeyword (bytes (k .key)) t) refl (hits-index ks t)
+  where
+    go : (v : Bool) → isKeyword (bytes (k .key)) t ≡ v → (apart (keysOf ks) ≡ true → hits ks t ≡ single (length ks) (indexIn t (keysOf ks))) → hits (k ∷ ks) t ≡ single (suc (length ks)) (indexIn t (keysOf (k ∷ ks)))
+    go true e f =
+        let p = and-true (differs (bytes (k .key)) (keysOf ks)) (apart (keysOf ks)) a in
+        rw (index-yes t (bytes (k .key)) (keysOf ks) e, e) (ap (λ (l : List Bool). true ∷ l) (rw (keyword-is _ t e) (misses (bytes (k .key)) ks (p .0))))
+    go false e f =
+        let p = and-true (differs (bytes (k .key)) (keysOf ks)) (apart (keysOf ks)) a in
+        rw (index-no t (bytes (k .key)) (keysOf ks) e, e) (ap (λ (l : List Bool). false ∷ l) (f (p .1)))
+
+-- ---- one of some words, by its index
+
+unfoldable pub wordList : List String → List (List ℕ)
+wordList [] = []
+wordList (k ∷ ks) = bytes k ∷ wordList ks
+
+pub one-index : (n : ℕ) (ks : List String) (ms : List Lexeme) → indexIn (tokenOf ms) (wordList ks) < length ks → oneFrom n ks ms ≡ got (n + indexIn (tokenOf ms) (wordList ks)) (rest ms)
+unfolding wordList indexIn oneFrom
+one-index n [] ms h = absurd (omega arith)
+one-index n (k ∷ ks) ms h = go (isKeyword (bytes k) (tokenOf ms)) refl (one-index (suc n) ks ms)
+  where
+    go : (v : Bool) → isKeyword (bytes k) (tokenOf ms) ≡ v → (indexIn (tokenOf ms) (wordList ks) < length ks → oneFrom (suc n) ks ms ≡ got (suc n + indexIn (tokenOf ms) (wordList ks)) (rest ms)) → oneFrom n (k ∷ ks) ms ≡ got (n + indexIn (tokenOf ms) (wordList (k ∷ ks))) (rest ms)
+    go true e f = one-yes n k ks ms e ∙ rw (index-yes (tokenOf ms) (bytes k) (wordList ks) e) (ap (λ (i : ℕ). got i (rest ms)) (omega arith))
+    go false e f =
+        let x = index-no (tokenOf ms) (bytes k) (wordList ks) e in
+        let h′ = rw x at h in
+        one-no n k ks ms e ∙ f (omega arith) ∙ rw x (ap (λ (i : ℕ). got i (rest ms)) (omega arith))
+
+pub one-none : (n : ℕ) (ks : List String) (ms : List Lexeme) → length ks ≤ indexIn (tokenOf ms) (wordList ks) → oneFrom n ks ms ≡ stop 5 ms
+unfolding wordList indexIn oneFrom
+one-none n [] ms h = refl
+one-none n (k ∷ ks) ms h = go (isKeyword (bytes k) (tokenOf ms)) refl (one-none (suc n) ks ms)
+  where
+    go : (v : Bool) → isKeyword (bytes k) (tokenOf ms) ≡ v → (length ks ≤ indexIn (tokenOf ms) (wordList ks) → oneFrom (suc n) ks ms ≡ stop 5 ms) → oneFrom n (k ∷ ks) ms ≡ stop 5 ms
+    go true e f = let h′ = rw (index-yes (tokenOf ms) (bytes k) (wordList ks) e) at h in absurd (omega arith)
+    go false e f = let h′ = rw (index-no (tokenOf ms) (bytes k) (wordList ks) e) at h in one-no n k ks ms e ∙ f (omega arith)
+
+-- a token and the words from an offset on
+module _ (list : List ℕ) (start end : ℕ) (t : Token) (e : end ≡ start + length (run inWord (drop start list))) where
+  pub first-yes : start ≤ length list → isKeyword (part list start end) t ≡ true → indexIn t (words (drop start list)) ≡ 0
+  first-yes s y = go (leb (length list) end) refl
+    where
+      go : (v : Bool) → leb (length list) end ≡ v → indexIn t (words (drop start list)) ≡ 0
+      go true q = rw (word-last list start end e (leb-true _ _ q)) (index-yes t _ _ y)
+      go false q = rw (word-more list start end e (leb-false _ _ q)) (index-yes t _ _ y)
+
+  pub last-no : length list ≤ end → isKeyword (part list start end) t ≡ false → indexIn t (words (drop start list)) ≡ 1
+  unfolding indexIn
+  last-no h n = rw (word-last list start end e h) (index-no t (part list start end) [] n)
+
+  pub more-no : end < length list → isKeyword (part list start end) t ≡ false → indexIn t (words (drop start list)) ≡ suc (indexIn t (words (drop (suc end) list)))
+  more-no h n = rw (word-more list start end e h) (index-no t _ _ n)
