@@ -1,3 +1,4 @@
 pub mod Readers
 pub mod Fields
 pub mod Cursors
+pub mod Answers
