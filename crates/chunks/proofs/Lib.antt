@@ -2,3 +2,4 @@
 pub mod Steps
 pub mod Choices
 pub mod Vocabulary
+pub mod Numbers

@@ -1,6 +1,7 @@
 // Readers that figures and movements share: chunks, keywords, numbers, names and rows.
 mod cursor;
 mod words;
+mod numerals;
 
 pub use cursor::Cursor;
 pub use cursor::closing;
@@ -10,3 +11,6 @@ pub use cursor::keyword;
 pub use cursor::opened;
 pub use cursor::opening;
 pub use words::word_index;
+pub use numerals::Form;
+pub use numerals::Numeric;
+pub use numerals::number;
