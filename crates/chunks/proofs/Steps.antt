@@ -39,7 +39,7 @@ passed text c a r e = from-off text c (pure a) e ∙ sym (from-off text c r e)
 
 -- ---- one token
 
-live : (test : Token → Bool) → test ending ≡ false → (k : Kind) (bs : List ℕ) → test (spanToken k bs) ≡ true → isEnding k ≡ false
+pub live : (test : Token → Bool) → test ending ≡ false → (k : Kind) (bs : List ℕ) → test (spanToken k bs) ≡ true → isEnding k ≡ false
 unfolding spanToken isEnding
 live test last Opening bs e = refl
 live test last Closing bs e = refl

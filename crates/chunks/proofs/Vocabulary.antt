@@ -5,19 +5,25 @@ use mathlib.Core.Bool.{Bool, true, false, not, _&&_, false≢true}
 use Prim.Native.Nat.{ℕ, zero, suc, _+_, _≤_, _<_}
 use native.Mathlib.Nat.{add-sub-cancel-left}
 use native.Mathlib.Omega.{arith}
-use borrow.Author.Tests.{not-true, eqb-true, leb-true, leb-false}
+use borrow.Author.Tests.{not-true, eqb-true, leb-true, leb-false, lt-ltb, le-ltb}
 use Prim.Native.String.{String}
 use lib.Dec.{eqb, leb}
 use lib.ListN.{length, take, drop, getD, length-drop, drop-of-length-le}
 use lib.Seq.{drop-cons, drop-drop}
 use Rattle.lexer.specs.Bytes.{bytes, same, inWord, run, part}
-use Rattle.lexer.specs.Tokens.{Token, opening, closing, ending, quoted, plain, Lexeme, isKeyword}
+use lib.IntN.{ℤ, pos}
+use Rattle.lexer.specs.Tokens.{Token, opening, closing, ending, quoted, plain, Lexeme, lexeme, lexAt, isKeyword}
+use Rattle.lexer.specs.declared.token.Span.{Span}
+use Rattle.lexer.specs.Answers.{Next, lexemeOf}
 use Rattle.lexer.proofs.Runs.{run-yes, run-no, run-take, run-length}
 use Rattle.lexer.proofs.Numerals.{and-true}
-use Rattle.chunks.specs.Readers.{Got, got, Reader, stop, tokenOf, rest, oneFrom}
+use Rattle.chunks.specs.declared.cursor.Cursor.{Cursor}
+use Rattle.chunks.specs.Readers.{Got, got, Reader, pure, stop, tokenOf, rest, isPlain, oneFrom}
+use Rattle.chunks.specs.Cursors.{reads, from}
 use Rattle.chunks.specs.Fields.{Kind, hits, single}
-use Rattle.chunks.specs.Words.{onto, words, indexIn, keysOf, differs, apart}
+use Rattle.chunks.specs.Words.{onto, words, indexIn, keysOf, differs, apart, among, wordIn}
 use Rattle.chunks.proofs.Choices.{one-yes, one-no}
+use Rattle.chunks.proofs.Steps.{from-on, from-off, reads-on, next-token, next-stop, next-rest, live}
 
 -- ---- a token that is a keyword
 
@@ -143,3 +149,29 @@ module _ (list : List ℕ) (start end : ℕ) (t : Token) (e : end ≡ start + le
 
   pub more-no : end < length list → isKeyword (part list start end) t ≡ false → indexIn t (words (drop start list)) ≡ suc (indexIn t (words (drop (suc end) list)))
   more-no h n = rw (word-more list start end e h) (index-no t _ _ n)
+
+pub among-other : (list : List ℕ) (n : ℕ) (t : Token) → isPlain t ≡ false → among list n t ≡ false
+unfolding among
+among-other list n t e = rw e
+
+pub among-past : (list : List ℕ) (n : ℕ) (t : Token) → isPlain t ≡ true → n ≤ indexIn t (words list) → among list n t ≡ false
+unfolding among
+among-past list n t e h = rw (e, le-ltb (indexIn t (words list)) n h)
+
+pub among-yes : (list : List ℕ) (n : ℕ) (t : Token) → isPlain t ≡ true → indexIn t (words list) < n → among list n t ≡ true
+unfolding among
+among-yes list n t e h = rw (e, lt-ltb (indexIn t (words list)) n h)
+
+-- ---- a cursor past one of some words, or refused at another token
+
+module _ (text : List ℕ) (c : Cursor) (t : Span) (n : Next text (c .at) t) (o : c .refusal ≡ 0) (list : List ℕ) (count : ℕ) where
+  pub word-took : among list count (lexemeOf text t .token) ≡ true → reads text (record { refusal = 0; at = t .end }) (pos (indexIn (lexemeOf text t .token) (words list))) ≡ from text c (wordIn list count)
+  unfolding wordIn among isPlain lexemeOf lexeme
+  word-took e =
+      let f = ap (among list count) (next-token text (c .at) t n) ∙ e in
+      reads-on text _ _ refl
+      ∙ sym (from-on text c (wordIn list count) o ∙ rw (f, wordIn, next-token text (c .at) t n) (ap (got (pos (indexIn (lexemeOf text t .token) (words list)))) (next-rest text (c .at) t n (live (among list count) refl (t .kind) _ e))))
+
+  pub word-balked : (z : ℤ) → among list count (lexemeOf text t .token) ≡ false → reads text (record { refusal = 5; at = t .start }) z ≡ from text c (wordIn list count)
+  unfolding wordIn reads
+  word-balked z e = from-off text _ (pure z) (λ q. omega arith) ∙ sym (from-on text c (wordIn list count) o ∙ rw (next-token text (c .at) t n, e, wordIn) (next-stop text (c .at) t n 5))

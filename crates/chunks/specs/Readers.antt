@@ -59,6 +59,13 @@ isClosing ending = false
 isClosing (quoted bs) = false
 isClosing (plain bs) = false
 
+unfoldable pub isPlain : Token → Bool
+isPlain opening = false
+isPlain closing = false
+isPlain ending = false
+isPlain (quoted bs) = false
+isPlain (plain bs) = true
+
 unfoldable pub isEnd : Token → Bool
 isEnd opening = false
 isEnd closing = false

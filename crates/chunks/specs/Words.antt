@@ -4,6 +4,9 @@ use mathlib.Core.Bool.{Bool, true, false, not, _&&_}
 use Prim.Native.Nat.{ℕ, suc}
 use Rattle.lexer.specs.Bytes.{bytes, same, inWord}
 use Rattle.lexer.specs.Tokens.{Token, isKeyword}
+use lib.Dec.{ltb}
+use lib.IntN.{ℤ, pos}
+use Rattle.chunks.specs.Readers.{Got, got, Reader, stop, tokenOf, rest, isPlain}
 use Rattle.chunks.specs.Fields.{Kind}
 
 -- a byte in front of the first word
@@ -33,3 +36,11 @@ differs w (v ∷ vs) = not (same w v) && differs w vs
 unfoldable pub apart : List (List ℕ) → Bool
 apart [] = true
 apart (w ∷ ws) = differs w ws && apart ws
+
+-- a plain word that is one of the first n of a list
+unfoldable pub among : List ℕ → ℕ → Token → Bool
+among list n t = isPlain t && ltb (indexIn t (words list)) n
+
+-- the row of that word
+unfoldable pub wordIn : List ℕ → ℕ → Reader ℤ
+wordIn list n ms = elim (among list n (tokenOf ms)) [ true ↦ got (pos (indexIn (tokenOf ms) (words list))) (rest ms) | false ↦ stop 5 ms ]

@@ -3,7 +3,7 @@ ghost use mathlib.Core.Path.{_≡_};
 ghost use mathlib.Core.List.{List};
 ghost use Prim.Native.Nat.{ℕ};
 ghost use Rattle.lexer.specs.Answers.{tokenOf};
-ghost use Rattle.chunks.specs.Readers.{isOpening, isClosing, open-bracket, close-bracket, wordOf, openedOf};
+ghost use Rattle.chunks.specs.Readers.{isOpening, isClosing, isPlain, open-bracket, close-bracket, wordOf, openedOf};
 ghost use Rattle.chunks.specs.Cursors.{reads, from};
 use lexer::Kind;
 
@@ -33,6 +33,18 @@ pub fn is_closing(kind: Kind) -> bool
         Kind::Closing => true,
         Kind::Quoted => false,
         Kind::Plain => false,
+        Kind::Ending => false,
+    }
+}
+
+pub fn is_plain(kind: Kind) -> bool
+    ensures { λ r. ⌜ ((bs : List ℕ) → r ≡ isPlain (tokenOf kind bs)) ⌝ }
+{
+    match kind {
+        Kind::Opening => false,
+        Kind::Closing => false,
+        Kind::Quoted => false,
+        Kind::Plain => true,
         Kind::Ending => false,
     }
 }

@@ -1,16 +1,18 @@
 // Readers that figures and movements share: chunks, keywords, numbers, names and rows.
 mod cursor;
-mod words;
 mod numerals;
+mod words;
 
 pub use cursor::Cursor;
 pub use cursor::closing;
 pub use cursor::is_closing;
 pub use cursor::is_opening;
+pub use cursor::is_plain;
 pub use cursor::keyword;
 pub use cursor::opened;
 pub use cursor::opening;
-pub use words::word_index;
 pub use numerals::Form;
 pub use numerals::Numeric;
 pub use numerals::number;
+pub use words::one_of;
+pub use words::word_index;

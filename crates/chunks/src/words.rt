@@ -1,7 +1,11 @@
 // Which of some keywords a token is.
 ghost use mathlib.Core.Path.{_≡_};
 ghost use Rattle.lexer.specs.Answers.{lexemeOf};
-ghost use Rattle.chunks.specs.Words.{words, indexIn};
+ghost use Rattle.chunks.specs.Words.{words, indexIn, wordIn};
+ghost use Rattle.chunks.specs.Cursors.{reads, from};
+use crate::cursor::Cursor;
+use crate::cursor::is_plain;
+use crate::numerals::Numeric;
 use lexer::Run;
 use lexer::Span;
 
@@ -21,5 +25,40 @@ pub fn word_index(text: &[u8], t: Span, list: &[u8]) -> usize
             return row;
         }
         start = end + 1;
+    }
+}
+
+// One of the first `count` words of a list, by its row; where the cursor has refused, the value is free.
+pub fn one_of(text: &[u8], c: Cursor, list: &[u8], count: u8) -> Numeric
+    ensures { λ r. ⌜ reads (now (text .entry)) (r .cursor) (r .value) ≡ from (now (text .entry)) c (wordIn (now (list .entry)) count) ⌝ }
+{
+    if c.refusal != 0 {
+        return Numeric {
+            cursor: c,
+            value: 0,
+        };
+    }
+    let t = lexer::next(text, c.at);
+    let refused = Numeric {
+        cursor: Cursor {
+            refusal: 5,
+            at: t.start,
+        },
+        value: 0,
+    };
+    let kind = t.kind;
+    if !is_plain(kind) {
+        return refused;
+    }
+    let row = word_index(text, t, list);
+    if count as usize <= row {
+        return refused;
+    }
+    Numeric {
+        cursor: Cursor {
+            refusal: 0,
+            at: t.end,
+        },
+        value: row as i64,
     }
 }
