@@ -106,3 +106,12 @@ join text c d r a b s f p q = q ∙ sym (from-bind text c f s ∙ ap (λ (g : Go
 pub seq : {A B : Type 0} (text : List ℕ) (c d r : Cursor) (a : A) (b : B) (s : Reader A) (u : Reader B) → reads text d a ≡ from text c s → reads text r b ≡ from text d u → reads text r b ≡ from text c (s >> u)
 unfolding _>>_
 seq text c d r a b s u p q = unfold _>>=_ in join text c d r a b s (λ _. u) p q
+
+-- readers that give the same
+pub from-same : {A : Type 0} (text : List ℕ) (c : Cursor) (r s : Reader A) → ((ms : List Lexeme) → r ms ≡ s ms) → from text c r ≡ from text c s
+unfolding from
+from-same text c r s h = go (eqb (c .refusal) 0) refl
+  where
+    go : (v : Bool) → eqb (c .refusal) 0 ≡ v → from text c r ≡ from text c s
+    go true e = rw (e, from) (h (lexAt text (c .at)))
+    go false e = rw (e, from)

@@ -5,9 +5,9 @@ use mathlib.Core.Bool.{Bool, true, false, not, _&&_, false≢true}
 use Prim.Native.Nat.{ℕ, zero, suc, _+_, _≤_, _<_}
 use native.Mathlib.Nat.{add-sub-cancel-left}
 use native.Mathlib.Omega.{arith}
-use borrow.Author.Tests.{not-true, eqb-true, leb-true, leb-false, lt-ltb, le-ltb}
+use borrow.Author.Tests.{not-true, eqb-true, leb-true, leb-false, ltb-true, ltb-false, lt-ltb, le-ltb}
 use Prim.Native.String.{String}
-use lib.Dec.{eqb, leb}
+use lib.Dec.{eqb, leb, ltb}
 use lib.ListN.{length, take, drop, getD, length-drop, drop-of-length-le}
 use lib.Seq.{drop-cons, drop-drop}
 use Rattle.lexer.specs.Bytes.{bytes, same, inWord, run, part}
@@ -18,11 +18,11 @@ use Rattle.lexer.specs.Answers.{Next, lexemeOf}
 use Rattle.lexer.proofs.Runs.{run-yes, run-no, run-take, run-length}
 use Rattle.lexer.proofs.Numerals.{and-true}
 use Rattle.chunks.specs.declared.cursor.Cursor.{Cursor}
-use Rattle.chunks.specs.Readers.{Got, got, Reader, pure, stop, tokenOf, rest, isPlain, oneFrom}
+use Rattle.chunks.specs.Readers.{Got, got, Reader, after, _>>=_, pure, stop, tokenOf, rest, isPlain, oneFrom, oneOf}
 use Rattle.chunks.specs.Cursors.{reads, from}
 use Rattle.chunks.specs.Fields.{Kind, hits, single}
 use Rattle.chunks.specs.Words.{onto, words, indexIn, keysOf, differs, apart, among, wordIn}
-use Rattle.chunks.proofs.Choices.{one-yes, one-no}
+use Rattle.chunks.proofs.Choices.{after-stop, one-yes, one-no}
 use Rattle.chunks.proofs.Steps.{from-on, from-off, reads-on, next-token, next-stop, next-rest, live}
 
 -- ---- a token that is a keyword
@@ -162,6 +162,13 @@ pub among-yes : (list : List ℕ) (n : ℕ) (t : Token) → isPlain t ≡ true �
 unfolding among
 among-yes list n t e h = rw (e, lt-ltb (indexIn t (words list)) n h)
 
+among-far : (list : List ℕ) (n : ℕ) (t : Token) → n ≤ indexIn t (words list) → among list n t ≡ false
+among-far list n t h = go (isPlain t) refl
+  where
+    go : (v : Bool) → isPlain t ≡ v → among list n t ≡ false
+    go true e = among-past list n t e h
+    go false e = among-other list n t e
+
 -- ---- a cursor past one of some words, or refused at another token
 
 module _ (text : List ℕ) (c : Cursor) (t : Span) (n : Next text (c .at) t) (o : c .refusal ≡ 0) (list : List ℕ) (count : ℕ) where
@@ -175,3 +182,40 @@ module _ (text : List ℕ) (c : Cursor) (t : Span) (n : Next text (c .at) t) (o 
   pub word-balked : (z : ℤ) → among list count (lexemeOf text t .token) ≡ false → reads text (record { refusal = 5; at = t .start }) z ≡ from text c (wordIn list count)
   unfolding wordIn reads
   word-balked z e = from-off text _ (pure z) (λ q. omega arith) ∙ sym (from-on text c (wordIn list count) o ∙ rw (next-token text (c .at) t n, e, wordIn) (next-stop text (c .at) t n 5))
+
+-- ---- the same in the grammar's words
+
+index-plain : (t : Token) (ws : List (List ℕ)) → indexIn t ws < length ws → isPlain t ≡ true
+index-plain t [] h = absurd (omega arith)
+index-plain t (w ∷ ws) h = go (isKeyword w t) refl (index-plain t ws)
+  where
+    go : (v : Bool) → isKeyword w t ≡ v → (indexIn t ws < length ws → isPlain t ≡ true) → isPlain t ≡ true
+    go true e f = rw (keyword-is w t e) (unfold isPlain in refl)
+    go false e f = let h′ = rw (index-no t w ws e) at h in f (omega arith)
+
+wordList-length : (ks : List String) → length (wordList ks) ≡ length ks
+unfolding wordList
+wordList-length [] = refl
+wordList-length (k ∷ ks) = ap suc (wordList-length ks)
+
+wordIn-yes : (list : List ℕ) (n : ℕ) (ms : List Lexeme) → among list n (tokenOf ms) ≡ true → wordIn list n ms ≡ got (pos (indexIn (tokenOf ms) (words list))) (rest ms)
+unfolding wordIn
+wordIn-yes list n ms e = rw (e, wordIn)
+
+wordIn-no : (list : List ℕ) (n : ℕ) (ms : List Lexeme) → n ≤ indexIn (tokenOf ms) (words list) → wordIn list n ms ≡ stop 5 ms
+unfolding wordIn
+wordIn-no list n ms h = rw (among-far list n (tokenOf ms) h, wordIn)
+
+pub one-word : (ks : List String) (list : List ℕ) (ms : List Lexeme) → words list ≡ wordList ks → (oneOf ks >>= λ n. pure (pos n)) ms ≡ wordIn list (length ks) ms
+unfolding oneOf _>>=_ pure after
+one-word ks list ms e = go (ltb (indexIn (tokenOf ms) (wordList ks)) (length ks)) refl
+  where
+    go : (v : Bool) → ltb (indexIn (tokenOf ms) (wordList ks)) (length ks) ≡ v → (oneOf ks >>= λ n. pure (pos n)) ms ≡ wordIn list (length ks) ms
+    go true q =
+        let h = ltb-true _ _ q in
+        let p = index-plain (tokenOf ms) (wordList ks) (rw wordList-length h) in
+        let a : among list (length ks) (tokenOf ms) ≡ true = among-yes list (length ks) (tokenOf ms) p (rw e h) in
+        rw (one-index 0 ks ms h) (sym (wordIn-yes list (length ks) ms a ∙ rw e (ap (λ (i : ℕ). got (pos i) (rest ms)) (omega arith))))
+    go false q =
+        let h = ltb-false _ _ q in
+        rw (one-none 0 ks ms h) (after-stop 5 ms _ ∙ sym (wordIn-no list (length ks) ms (rw e h)))
