@@ -1,41 +1,74 @@
 // A material: nine chunks in any order, each at most once.
 ghost use mathlib.Core.Path.{_≡_};
-ghost use Prim.Native.Nat.{_≤_};
-ghost use Rattle.lexer.specs.Answers.{lexemeOf};
-ghost use Rattle.chunks.specs.Fields.{hits, single};
+ghost use mathlib.Core.Bool.{Bool};
+ghost use Prim.Native.Nat.{ℕ, _<_};
+ghost use lib.ListN.{length};
+ghost use Rattle.lexer.specs.Tokens.{lexAt};
+ghost use Rattle.chunks.specs.Fields.{insideAt, kindFrom, fields, fieldsOf};
+ghost use Rattle.chunks.specs.Cursors.{reads, from};
 ghost use Rattle.bac6_text.specs.Grammar.{materialKinds};
-use lexer::Span;
+ghost use Rattle.bac6_parse.specs.Closing.{closeWith};
 
-// The column of the chunk whose keyword a token is, or 9.
-fn material_key(text: &[u8], t: Span) -> usize
-    ensures { λ r. ⌜ (r ≤ 9) × (hits materialKinds (lexemeOf (now (text .entry)) t .token) ≡ single 9 r) ⌝ }
+use chunks::Cursor;
+use chunks::Form;
+use chunks::Numeric;
+
+// The value in the chunk of column k, and the closing bracket.
+fn material_value(text: &[u8], c: Cursor, k: usize) -> Numeric
+    requires { ⌜ k < 9 ⌝ }
+    ensures { λ r. ⌜ reads (now (text .entry)) (r .cursor) (r .value) ≡ from (now (text .entry)) c (insideAt materialKinds k) ⌝ }
 {
-    if lexer::is_keyword(text, t, b"blendMode") {
-        return 0;
+    if k == 0 {
+        return close(text, chunks::one_of(text, c, b"normal add sub half", 4));
     }
-    if lexer::is_keyword(text, t, b"doubleFace") {
-        return 1;
+    if k < 4 {
+        return close(text, chunks::one_of(text, c, b"false true", 2));
     }
-    if lexer::is_keyword(text, t, b"transparent") {
-        return 2;
+    if k < 6 {
+        return close(text, chunks::number(text, c, Form::Int));
     }
-    if lexer::is_keyword(text, t, b"lighting") {
-        return 3;
+    close(text, chunks::number(text, c, Form::Float))
+}
+
+// A value, and the closing bracket after it.
+fn close(text: &[u8], n: Numeric) -> Numeric
+    ensures { λ r. ⌜ reads (now (text .entry)) (r .cursor) (r .value) ≡ from (now (text .entry)) (n .cursor) (closeWith (n .value)) ⌝ }
+{
+    let c = n.cursor;
+    Numeric {
+        cursor: chunks::closing(text, c),
+        value: n.value,
     }
-    if lexer::is_keyword(text, t, b"textureIndex") {
-        return 4;
+}
+
+// One chunk after its opening bracket: the field of its keyword is read, where it has not been.
+fn material_chunk(text: &[u8], at: usize, row: &mut [i64], seen: &mut [bool]) -> Cursor
+    requires { ⌜ (length (now row) ≡ 9) × (length (now seen) ≡ 9) ⌝ }
+    ensures { λ r. ⌜ reads (now (text .entry)) r (fieldsOf (now (seen .exit)) (now (row .exit))) ≡ kindFrom materialKinds (fieldsOf (now (seen .entry)) (now (row .entry))) (lexAt (now (text .entry)) at) ⌝ }
+{
+    let t = lexer::next(text, at);
+    let refused = Cursor {
+        refusal: 5,
+        at: t.start,
+    };
+    let k = chunks::word_index(
+        text,
+        t,
+        b"blendMode doubleFace transparent lighting textureIndex colorIndex specular alpha shininess",
+    );
+    if 9 <= k {
+        return refused;
     }
-    if lexer::is_keyword(text, t, b"colorIndex") {
-        return 5;
+    if seen[k] {
+        return refused;
     }
-    if lexer::is_keyword(text, t, b"specular") {
-        return 6;
-    }
-    if lexer::is_keyword(text, t, b"alpha") {
-        return 7;
-    }
-    if lexer::is_keyword(text, t, b"shininess") {
-        return 8;
-    }
-    9
+    let inside = Cursor {
+        refusal: 0,
+        at: t.end,
+    };
+    let v = material_value(text, inside, k);
+    let value = v.value;
+    row[k] = value;
+    seen[k] = true;
+    v.cursor
 }
