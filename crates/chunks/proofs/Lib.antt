@@ -1,3 +1,6 @@
 -- Laws that belong to no one function.
 pub mod Steps
-pub mod Numbers
+pub mod Binds
+pub mod NumberSteps
+pub mod Tables
+pub mod Into

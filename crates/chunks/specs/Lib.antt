@@ -2,3 +2,4 @@ pub mod Readers
 pub mod Fields
 pub mod Cursors
 pub mod Answers
+pub mod Into
