@@ -9,11 +9,11 @@ use lib.ListN.{length, set}
 use Rattle.lexer.specs.Tokens.{Lexeme}
 use Rattle.lexer.specs.Numbers.{Form}
 use Rattle.chunks.specs.declared.cursor.Cursor.{Cursor}
-use Rattle.chunks.specs.Readers.{Got, got, after, _>>=_, pure, number, numbers}
+use Rattle.chunks.specs.Readers.{Got, got, after, _>>=_, _>>_, pure, number, numbers, rowOf, openedOf, closed}
 use Rattle.chunks.specs.Cursors.{from, reads, overlayAt}
-use Rattle.chunks.specs.Into.{numbersInto}
+use Rattle.chunks.specs.Into.{numbersInto, rowInto}
 use Rattle.chunks.proofs.Steps.{from-bind, after-reads}
-use Rattle.chunks.proofs.Binds.{after-after, after-same, from-same}
+use Rattle.chunks.proofs.Binds.{after-after, after-same, from-same, then-bind, then-same, closed-map}
 use Rattle.chunks.proofs.Tables.{overlayAt-none, overlayAt-cons, overlayAt-past}
 
 -- no numbers leave the table as it is
@@ -46,3 +46,10 @@ module _ (text : List ℕ) (c d : Cursor) (f : Form) (left i : ℕ) (t : List �
   -- past its end it is dropped
   pub numbers-drop : length t ≤ i → from text c (numbersInto f left i t) ≡ from text d (numbersInto f (left - 1) i t)
   numbers-drop h = numbers-step i (λ _. t) (λ x zs. overlayAt-past i (x ∷ zs) t h ∙ sym (overlayAt-past i zs t h))
+
+-- ---- rows
+
+-- a row is ( and its keyword, and then numbers and )
+pub row-parts : (k : List ℕ) (f : Form) (w i : ℕ) (t : List ℤ) (ms : List Lexeme) → rowInto k f w i t ms ≡ (openedOf k >> closed (numbersInto f w i t)) ms
+unfolding rowInto rowOf numbersInto
+row-parts k f w i t ms = then-bind (openedOf k) (closed (numbers f w)) _ ms ∙ then-same (openedOf k) _ _ (closed-map (numbers f w) (λ zs. overlayAt i zs t)) ms

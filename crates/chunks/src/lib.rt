@@ -9,6 +9,7 @@ pub use cursor::keyword;
 pub use cursor::opened;
 pub use cursor::opening;
 pub use lists::numbers;
+pub use lists::row;
 pub use numerals::Form;
 pub use numerals::Numeric;
 pub use numerals::number;

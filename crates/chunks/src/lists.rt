@@ -2,8 +2,10 @@
 ghost use mathlib.Core.Path.{_≡_};
 ghost use Rattle.chunks.specs.Cursors.{reads, from};
 ghost use Rattle.chunks.specs.Answers.{formNamed};
-ghost use Rattle.chunks.specs.Into.{numbersInto};
+ghost use Rattle.chunks.specs.Into.{numbersInto, rowInto};
 use crate::cursor::Cursor;
+use crate::cursor::closing;
+use crate::cursor::opened;
 use crate::numerals::Form;
 use crate::numerals::number;
 
@@ -35,4 +37,22 @@ pub fn numbers(
         }
     }
     d
+}
+
+// ( a keyword, `width` numbers and ), the numbers to the table from index `at` on.
+pub fn row(
+    text: &[u8],
+    c: Cursor,
+    word: &[u8],
+    form: Form,
+    width: usize,
+    out: &mut [i64],
+    at: usize,
+) -> Cursor
+    ensures { λ r. ⌜ reads (now (text .entry)) r (now (out .exit)) ≡ from (now (text .entry)) c (rowInto (now (word .entry)) (formNamed form) width at (now (out .entry))) ⌝ }
+{
+    closing(
+        text,
+        numbers(text, opened(text, c, word), form, width, out, at),
+    )
 }
