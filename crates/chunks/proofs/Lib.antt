@@ -4,3 +4,4 @@ pub mod Binds
 pub mod NumberSteps
 pub mod Tables
 pub mod Into
+pub mod Many
