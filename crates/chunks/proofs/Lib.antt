@@ -3,3 +3,8 @@ pub mod Steps
 pub mod Choices
 pub mod Vocabulary
 pub mod Numbers
+pub mod Binds
+pub mod NumberSteps
+pub mod Tables
+pub mod Into
+pub mod Many

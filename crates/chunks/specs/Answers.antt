@@ -1,6 +1,4 @@
 -- What the code's forms and tokens are in the definitions' terms.
-use mathlib.Core.List.{List}
-use Prim.Native.Nat.{ℕ}
 use Rattle.lexer.specs.Tokens.{Token, opening, closing, ending, quoted, plain}
 use Rattle.lexer.specs.Numbers.{Number, wrong, Form, INT, FLOAT, numberOf}
 use Rattle.chunks.specs.declared.numerals.Form.{Form as FormName}

@@ -3,3 +3,4 @@ pub mod Fields
 pub mod Cursors
 pub mod Words
 pub mod Answers
+pub mod Into

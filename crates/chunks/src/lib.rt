@@ -1,5 +1,6 @@
 // Readers that figures and movements share: chunks, keywords, numbers, names and rows.
 mod cursor;
+mod lists;
 mod numerals;
 mod words;
 
@@ -11,6 +12,8 @@ pub use cursor::is_plain;
 pub use cursor::keyword;
 pub use cursor::opened;
 pub use cursor::opening;
+pub use lists::numbers;
+pub use lists::row;
 pub use numerals::Form;
 pub use numerals::Numeric;
 pub use numerals::number;

@@ -2,7 +2,7 @@
 use Rattle.lexer.specs.Answers.{numberNamed}
 use Rattle.chunks.specs.Readers.{number}
 use Rattle.chunks.proofs.Steps.{passed}
-use Rattle.chunks.proofs.Numbers.{number-value, number-beyond, number-wrong}
+use Rattle.chunks.proofs.NumberSteps.{number-value, number-beyond, number-wrong}
 use mathlib.Core.Path.{ap, sym, _∙_}
 use mir.Syntax.{w64}
 use mir.Facts.{toZ-ofZ}

@@ -1,18 +1,18 @@
 -- The reader of a number, by what the next token is as a number.
 use mathlib.Core.Path.{_≡_, refl, ap, sym, _∙_}
-use mathlib.Core.List.{List, [], _∷_}
-use mathlib.Core.Bool.{Bool, true, false}
+use mathlib.Core.List.{List}
+use mathlib.Core.Bool.{false}
 use Prim.Native.Nat.{ℕ}
 use native.Mathlib.Omega.{arith}
 use lib.IntN.{ℤ}
 use Rattle.lexer.specs.Tokens.{Token, opening, closing, ending, quoted, plain, Lexeme, lexeme, lexAt}
-use Rattle.lexer.specs.Numbers.{Number, value, beyond, wrong, Form}
+use Rattle.lexer.specs.Numbers.{value, beyond, wrong, Form}
 use Rattle.lexer.specs.declared.token.Kind.{Kind}
 use Rattle.lexer.specs.declared.token.Kind.the-variants.{Opening, Closing, Quoted, Plain, Ending}
 use Rattle.lexer.specs.declared.token.Span.{Span}
 use Rattle.lexer.specs.Answers.{Next, lexemeOf, isEnding, tokenOf as spanToken}
 use Rattle.chunks.specs.declared.cursor.Cursor.{Cursor}
-use Rattle.chunks.specs.Readers.{got, refused, number, numberAt, numberIn, tokenOf, pure}
+use Rattle.chunks.specs.Readers.{got, number, numberAt, numberIn, pure}
 use Rattle.chunks.specs.Cursors.{reads, from}
 use Rattle.chunks.specs.Answers.{tokenNumber}
 use Rattle.chunks.proofs.Steps.{from-on, from-off, reads-on, next-token, next-stop, next-rest}

@@ -1,0 +1,55 @@
+-- Laws of readers that write over a table.
+use mathlib.Core.Path.{_≡_, ap, sym, _∙_}
+use mathlib.Core.List.{List, _∷_}
+use Prim.Native.Nat.{ℕ, suc, _+_, _-_, _≤_, _<_}
+use native.Mathlib.Omega.{arith}
+use native.Mathlib.Numerals.{add-one}
+use lib.IntN.{ℤ}
+use lib.ListN.{length, set}
+use Rattle.lexer.specs.Tokens.{Lexeme}
+use Rattle.lexer.specs.Numbers.{Form}
+use Rattle.chunks.specs.declared.cursor.Cursor.{Cursor}
+use Rattle.chunks.specs.Readers.{Got, got, after, _>>=_, _>>_, pure, number, numbers, rowOf, openedOf, closed}
+use Rattle.chunks.specs.Cursors.{from, reads, overlayAt}
+use Rattle.chunks.specs.Into.{numbersInto, rowInto}
+use Rattle.chunks.proofs.Steps.{from-bind, after-reads}
+use Rattle.chunks.proofs.Binds.{after-after, after-same, from-same, then-bind, then-same, closed-map}
+use Rattle.chunks.proofs.Tables.{overlayAt-none, overlayAt-cons, overlayAt-past}
+
+-- no numbers leave the table as it is
+pub numbers-none : (text : List ℕ) (c : Cursor) (f : Form) (left i : ℕ) (t : List ℤ) → left ≤ 0 → from text c (numbersInto f left i t) ≡ reads text c t
+unfolding numbersInto numbers _>>=_ pure after reads
+numbers-none text c f left i t h =
+    let none : left ≡ 0 = omega arith in
+    ap (λ (n : ℕ). from text c (numbersInto f n i t)) none ∙ from-same text c _ (pure t) (λ ms. rw (overlayAt-none i t))
+
+-- one number, and then the others, over a table that has the first
+numbers-turn : (f : Form) (m i j : ℕ) (t : List ℤ) (u : ℤ → List ℤ) → ((z : ℤ) (zs : List ℤ) → overlayAt i (z ∷ zs) t ≡ overlayAt j zs (u z)) → (ms : List Lexeme) → numbersInto f (suc m) i t ms ≡ (number f >>= λ z. numbersInto f m j (u z)) ms
+unfolding numbersInto numbers _>>=_ pure after
+numbers-turn f m i j t u e ms = after-after (number f ms) _ _ ∙ after-same (number f ms) _ _ (λ z l. after-after (numbers f m l) _ _ ∙ after-same (numbers f m l) _ _ (λ zs k. ap (λ (x : List ℤ). got x k) (e z zs)))
+
+-- a turn of a reader that stands at cursor c, where d is past the next number
+module _ (text : List ℕ) (c d : Cursor) (f : Form) (left i : ℕ) (t : List ℤ) (z : ℤ) (more : 0 < left) (p : reads text d z ≡ from text c (number f)) where
+  numbers-step : (j : ℕ) (u : ℤ → List ℤ) → ((x : ℤ) (zs : List ℤ) → overlayAt i (x ∷ zs) t ≡ overlayAt j zs (u x)) → from text c (numbersInto f left i t) ≡ from text d (numbersInto f (left - 1) j (u z))
+  numbers-step j u e =
+      let one : left ≡ suc (left - 1) = omega arith in
+      ap (λ (n : ℕ). from text c (numbersInto f n i t)) one
+      ∙ from-same text c _ _ (numbers-turn f (left - 1) i j t u e)
+      ∙ from-bind text c (λ x. numbersInto f (left - 1) j (u x)) (number f)
+      ∙ ap (λ (g : Got ℤ). after g (λ x. numbersInto f (left - 1) j (u x))) (sym p)
+      ∙ after-reads text d (λ x. numbersInto f (left - 1) j (u x)) z
+
+  -- within the table the number is stored
+  pub numbers-store : from text c (numbersInto f left i t) ≡ from text d (numbersInto f (left - 1) (i + 1) (set t i z))
+  numbers-store = rw add-one (numbers-step (suc i) (set t i) (λ x zs. overlayAt-cons i x zs t))
+
+  -- past its end it is dropped
+  pub numbers-drop : length t ≤ i → from text c (numbersInto f left i t) ≡ from text d (numbersInto f (left - 1) i t)
+  numbers-drop h = numbers-step i (λ _. t) (λ x zs. overlayAt-past i (x ∷ zs) t h ∙ sym (overlayAt-past i zs t h))
+
+-- ---- rows
+
+-- a row is ( and its keyword, and then numbers and )
+pub row-parts : (k : List ℕ) (f : Form) (w i : ℕ) (t : List ℤ) (ms : List Lexeme) → rowInto k f w i t ms ≡ (openedOf k >> closed (numbersInto f w i t)) ms
+unfolding rowInto rowOf numbersInto
+row-parts k f w i t ms = then-bind (openedOf k) (closed (numbers f w)) _ ms ∙ then-same (openedOf k) _ _ (closed-map (numbers f w) (λ zs. overlayAt i zs t)) ms
