@@ -1,10 +1,9 @@
 -- Laws that belong to no one function.
-pub mod Steps
-pub mod Choices
-pub mod Vocabulary
-pub mod Numbers
 pub mod Binds
-pub mod NumberSteps
-pub mod Tables
+pub mod Choices
 pub mod Into
 pub mod Many
+pub mod NumberSteps
+pub mod Steps
+pub mod Tables
+pub mod Vocabulary
