@@ -6,13 +6,12 @@ use mathlib.Core.Option.{Option, none, some}
 use Prim.Native.Nat.{ℕ, zero, suc, _≤_, _<_}
 use native.Mathlib.Omega.{arith}
 use lib.IntN.{ℤ}
+use lib.ListN.{length}
 use Rattle.lexer.specs.Numbers.{INT, FLOAT}
-use Rattle.lexer.specs.Bytes.{bytes, same}
-use Rattle.lexer.specs.Tokens.{Token}
+use Rattle.lexer.specs.Bytes.{bytes, same, inWord}
 use Rattle.chunks.specs.Readers.{Reader, closed, number}
-use Rattle.chunks.specs.Fields.{Kind, kind, insideAt, hits, single}
-use Rattle.chunks.specs.Words.{indexIn, keysOf, apart, differs}
-use Rattle.chunks.proofs.Vocabulary.{hits-index}
+use Rattle.chunks.specs.Fields.{Kind, kind, insideAt}
+use Rattle.chunks.specs.Words.{words, onto, keysOf, apart, differs}
 use Rattle.bac6_text.specs.Grammar.{materialKinds, truth, blend}
 
 pub inside-truth : (k : ℕ) → (k ≡ 0 → ⊥) → k < 4 → insideAt materialKinds k ≡ closed truth
@@ -46,7 +45,15 @@ inside-level (suc (suc (suc (suc (suc (suc (suc zero))))))) h l = refl
 inside-level (suc (suc (suc (suc (suc (suc (suc (suc zero)))))))) h l = refl
 inside-level (suc (suc (suc (suc (suc (suc (suc (suc (suc k))))))))) h l = absurd (omega arith)
 
--- the keywords are nine, and no two are the same
-pub material-hits : (t : Token) → hits materialKinds t ≡ single 9 (indexIn t (keysOf materialKinds))
+-- the keywords as one text, and no two are the same
+pub material-words : words (bytes "blendMode doubleFace transparent lighting textureIndex colorIndex specular alpha shininess") ≡ keysOf materialKinds
+unfolding materialKinds kind keysOf words onto inWord bytes
+material-words = refl
+
+pub material-apart : apart (keysOf materialKinds) ≡ true
 unfolding materialKinds kind keysOf apart differs same bytes
-material-hits t = hits-index materialKinds t refl
+material-apart = refl
+
+pub material-count : length materialKinds ≡ 9
+unfolding materialKinds
+material-count = refl
