@@ -1,6 +1,7 @@
 -- Laws that belong to no one function.
 pub mod Binds
 pub mod Choices
+pub mod FieldSteps
 pub mod Into
 pub mod Many
 pub mod NumberSteps
