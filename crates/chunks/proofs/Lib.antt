@@ -6,5 +6,6 @@ pub mod Into
 pub mod Many
 pub mod NumberSteps
 pub mod Steps
+pub mod Stored
 pub mod Tables
 pub mod Vocabulary

@@ -2,6 +2,7 @@
 mod cursor;
 mod lists;
 mod numerals;
+mod places;
 mod words;
 
 pub use cursor::Cursor;
@@ -17,5 +18,7 @@ pub use lists::row;
 pub use numerals::Form;
 pub use numerals::Numeric;
 pub use numerals::number;
+pub use places::covers;
+pub use places::store;
 pub use words::one_of;
 pub use words::word_index;
