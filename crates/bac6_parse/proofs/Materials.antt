@@ -1,18 +1,20 @@
 -- What stands in each chunk of a material, and which chunk a token opens.
 use mathlib.Core.Path.{_≡_, refl, ap, sym, _∙_}
-use mathlib.Core.List.{List, [], _∷_}
+use mathlib.Core.List.{List, [], _∷_, map}
 use mathlib.Core.Bool.{Bool, true, false}
 use mathlib.Core.Option.{Option, none, some}
 use Prim.Native.Nat.{ℕ, zero, suc, _≤_, _<_}
 use native.Mathlib.Omega.{arith}
 use lib.IntN.{ℤ}
-use lib.ListN.{length}
+use lib.ListN.{length, set}
 use Rattle.lexer.specs.Numbers.{INT, FLOAT}
 use Rattle.lexer.specs.Bytes.{bytes, same, inWord}
 use Rattle.chunks.specs.Readers.{Reader, closed, number}
-use Rattle.chunks.specs.Fields.{Kind, kind, insideAt}
+use Rattle.chunks.specs.Fields.{Kind, kind, insideAt, fieldsOf}
 use Rattle.chunks.specs.Words.{words, onto, keysOf, apart, differs}
-use Rattle.bac6_text.specs.Grammar.{materialKinds, truth, blend}
+use Rattle.bac6_text.specs.Grammar.{materialKinds, truth, blend, orZero}
+use Rattle.bac6_parse.specs.Into.{Settled}
+use Rattle.chunks.proofs.Choices.{fieldsOf-set}
 
 pub inside-truth : (k : ℕ) → (k ≡ 0 → ⊥) → k < 4 → insideAt materialKinds k ≡ closed truth
 unfolding insideAt materialKinds kind
@@ -57,3 +59,14 @@ material-apart = refl
 pub material-count : length materialKinds ≡ 9
 unfolding materialKinds
 material-count = refl
+
+-- ---- fields that have not been read are 0
+
+map-set : {A B : Type 0} (f : A → B) (l : List A) (k : ℕ) (a : A) → map f (set l k a) ≡ set (map f l) k (f a)
+map-set f [] k a = refl
+map-set f (x ∷ l) zero a = refl
+map-set f (x ∷ l) (suc k) a = ap (λ m. f x ∷ m) (map-set f l k a)
+
+pub settled-set : (seen : List Bool) (row : List ℤ) (k : ℕ) (z : ℤ) → length seen ≡ length row → Settled seen row → Settled (set seen k true) (set row k z)
+unfolding orZero
+settled-set seen row k z l s = rw (fieldsOf-set seen row k z l, map-set orZero (fieldsOf seen row) k (some z), s)

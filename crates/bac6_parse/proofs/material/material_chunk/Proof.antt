@@ -10,7 +10,7 @@ use Rattle.lexer.specs.Bytes.{bytes}
 use Rattle.chunks.proofs.Choices.{fieldsOf-length, fieldsOf-set, fieldsOf-unread, fieldsOf-read}
 use Rattle.chunks.proofs.Vocabulary.{chunk-other, chunk-again, chunk-took}
 use Rattle.bac6_text.specs.Grammar.{materialKinds}
-use Rattle.bac6_parse.proofs.Materials.{material-words, material-apart, material-count}
+use Rattle.bac6_parse.proofs.Materials.{material-words, material-apart, material-count, settled-set}
 use borrow.Author.Needs.{needs}
 use Rattle.bac6_parse.proofs.material.material_chunk.Statement.{statement}
 use Rattle.bac6_parse.proofs.material.material_chunk.Tie as tie
@@ -28,7 +28,7 @@ returns : tie.Need-returns
 unfolding bytes
 returns c =
     let b = c .before .before in
-    chunk-other _ _ _ (b .before .next .ensures) materialKinds _ _ material-words material-apart _ (c .before .word-index .ensures) (rw material-count (c .if1 .taken)) _
+    (chunk-other _ _ _ (b .before .next .ensures) materialKinds _ _ material-words material-apart _ (c .before .word-index .ensures) (rw material-count (c .if1 .taken)) _, λ h. h)
 
 slice-read-if2 : tie.Need-slice-read-if2
 slice-read-if2 c = search needs
@@ -39,7 +39,7 @@ returns-2 c =
     let w = c .before .before .before in
     let a = w .before .before .before .before .before .args in
     let p = w .before .before .before .before .before .pre in
-    chunk-again _ _ _ (w .before .before .next .ensures) materialKinds _ _ material-words material-apart _ (w .word-index .ensures) _ (fieldsOf-read (now (a .seen)) (now (a .row)) _ (pos 0) (c .if2 .taken) (p .1 ∙ sym (p .0))) _
+    (chunk-again _ _ _ (w .before .before .next .ensures) materialKinds _ _ material-words material-apart _ (w .word-index .ensures) _ (fieldsOf-read (now (a .seen)) (now (a .row)) _ (pos 0) (c .if2 .taken) (p .1 ∙ sym (p .0))) _, λ h. h)
 
 material-value-requires : tie.Need-material-value-requires
 material-value-requires c κs = search needs
@@ -67,10 +67,13 @@ returns-3 c =
     let a = w .before .before .before .before .before .args in
     let p = w .before .before .before .before .before .pre in
     let l = p .1 ∙ sym (p .0) in
-    rw (toZ-ofZ {w = w64} {z = v .material-value .result .value} (record { sfits = c .before .struct-told .given .1 .0 .1 }), fieldsOf-set (now (a .seen)) (now (a .row)) (w .word-index .result) (v .material-value .result .value) l)
+    let z = v .material-value .result .value in
+    rw (toZ-ofZ {w = w64} {z = z} (record { sfits = c .before .struct-told .given .1 .0 .1 }))
+    (rw (fieldsOf-set (now (a .seen)) (now (a .row)) (w .word-index .result) z l)
     (chunk-took _ _ _ (w .before .before .next .ensures) materialKinds _ _ material-words material-apart _ (w .word-index .ensures)
     (rw material-count (v .before .before .before .if1 .left)) (fieldsOf-length (now (a .seen)) (now (a .row)) l ∙ p .0 ∙ sym material-count)
-    (fieldsOf-unread (now (a .seen)) (now (a .row)) _ (v .before .if2 .left)) _ _ (v .material-value .ensures))
+    (fieldsOf-unread (now (a .seen)) (now (a .row)) _ (v .before .if2 .left)) _ _ (v .material-value .ensures)),
+    λ h. settled-set (now (a .seen)) (now (a .row)) (w .word-index .result) z l h)
 
 pub material-chunk-spec : {M : Type 1} → statement M
 material-chunk-spec =
