@@ -83,7 +83,7 @@ fn material_fields(text: &[u8], at: usize, row: &mut [i64], seen: &mut [bool]) -
     ensures { λ r. ⌜ Settled (now (seen .exit)) (now (row .exit)) ⌝ }
 {
     let mut from = at;
-    let mut left = 9;
+    let mut left: usize = 9;
     loop {
         let t = lexer::next(text, from);
         let kind = t.kind;

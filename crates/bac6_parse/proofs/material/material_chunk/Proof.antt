@@ -68,12 +68,13 @@ returns-3 c =
     let p = w .before .before .before .before .before .pre in
     let l = p .1 ∙ sym (p .0) in
     let z = v .material-value .result .value in
-    rw (toZ-ofZ {w = w64} {z = z} (record { sfits = c .before .struct-told .given .1 .0 .1 }))
-    (rw (fieldsOf-set (now (a .seen)) (now (a .row)) (w .word-index .result) z l)
-    (chunk-took _ _ _ (w .before .before .next .ensures) materialKinds _ _ material-words material-apart _ (w .word-index .ensures)
-    (rw material-count (v .before .before .before .if1 .left)) (fieldsOf-length (now (a .seen)) (now (a .row)) l ∙ p .0 ∙ sym material-count)
-    (fieldsOf-unread (now (a .seen)) (now (a .row)) _ (v .before .if2 .left)) _ _ (v .material-value .ensures)),
-    λ h. settled-set (now (a .seen)) (now (a .row)) (w .word-index .result) z l h)
+    rw (toZ-ofZ {w = w64} {z = z} (record { sfits = c .before .struct-told .given .1 .0 .1 })) (
+      rw (fieldsOf-set (now (a .seen)) (now (a .row)) (w .word-index .result) z l)
+          (chunk-took _ _ _ (w .before .before .next .ensures) materialKinds _ _ material-words material-apart _ (w .word-index .ensures)
+          (rw material-count (v .before .before .before .if1 .left)) (fieldsOf-length (now (a .seen)) (now (a .row)) l ∙ p .0 ∙ sym material-count)
+          (fieldsOf-unread (now (a .seen)) (now (a .row)) _ (v .before .if2 .left)) _ _ (v .material-value .ensures)),
+      λ h. settled-set (now (a .seen)) (now (a .row)) (w .word-index .result) z l h,
+    )
 
 pub material-chunk-spec : {M : Type 1} → statement M
 material-chunk-spec =
