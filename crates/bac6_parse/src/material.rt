@@ -8,7 +8,6 @@ ghost use Rattle.chunks.specs.Fields.{insideAt, kindFrom, fields, fieldsOf};
 ghost use Rattle.chunks.specs.Cursors.{reads, from};
 ghost use Rattle.bac6_text.specs.Grammar.{materialKinds};
 ghost use Rattle.bac6_parse.specs.Closing.{closeWith};
-
 use chunks::Cursor;
 use chunks::Form;
 use chunks::Numeric;

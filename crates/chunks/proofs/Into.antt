@@ -12,8 +12,8 @@ use Rattle.chunks.specs.declared.cursor.Cursor.{Cursor}
 use Rattle.chunks.specs.Readers.{Got, got, after, _>>=_, _>>_, pure, number, numbers, rowOf, openedOf, closed}
 use Rattle.chunks.specs.Cursors.{from, reads, overlayAt}
 use Rattle.chunks.specs.Into.{numbersInto, rowInto}
-use Rattle.chunks.proofs.Steps.{from-bind, after-reads}
-use Rattle.chunks.proofs.Binds.{after-after, after-same, from-same, then-bind, then-same, closed-map}
+use Rattle.chunks.proofs.Steps.{from-same, from-bind, after-reads}
+use Rattle.chunks.proofs.Binds.{after-after, after-same, then-bind, then-same, closed-map}
 use Rattle.chunks.proofs.Tables.{overlayAt-none, overlayAt-cons, overlayAt-past}
 
 -- no numbers leave the table as it is

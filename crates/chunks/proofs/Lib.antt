@@ -2,7 +2,6 @@
 pub mod Steps
 pub mod Choices
 pub mod Vocabulary
-pub mod Numbers
 pub mod Binds
 pub mod NumberSteps
 pub mod Tables

@@ -1,7 +1,7 @@
 -- `row` is the bracket and keyword, the numbers and the closing bracket.
 use mathlib.Core.Path.{sym, _∙_}
-use Rattle.chunks.proofs.Steps.{seq}
-use Rattle.chunks.proofs.Binds.{from-same, closed-at}
+use Rattle.chunks.proofs.Steps.{from-same, seq}
+use Rattle.chunks.proofs.Binds.{closed-at}
 use Rattle.chunks.proofs.Into.{row-parts}
 use borrow.Author.Needs.{needs}
 use Rattle.chunks.proofs.lists.row.Statement.{statement}
