@@ -1,7 +1,8 @@
 -- Laws of readers that write over a table.
 use mathlib.Core.Path.{_≡_, ap, sym, _∙_}
 use mathlib.Core.List.{List, _∷_}
-use Prim.Native.Nat.{ℕ, suc, _+_, _-_, _≤_, _<_}
+use Prim.Native.Nat.{ℕ, suc, _+_, _-_, _≤_, _<_, min}
+use native.Mathlib.Nat.{zero-add}
 use native.Mathlib.Omega.{arith}
 use native.Mathlib.Numerals.{add-one}
 use lib.IntN.{ℤ}
@@ -9,12 +10,12 @@ use lib.ListN.{length, set}
 use Rattle.lexer.specs.Tokens.{Lexeme}
 use Rattle.lexer.specs.Numbers.{Form}
 use Rattle.chunks.specs.declared.cursor.Cursor.{Cursor}
-use Rattle.chunks.specs.Readers.{Got, got, after, _>>=_, _>>_, pure, number, numbers, rowOf, openedOf, closed}
+use Rattle.chunks.specs.Readers.{Got, got, Reader, after, _>>=_, _>>_, pure, number, numbers, open-bracket, wordOf, rowOf, openedOf, closed, many}
 use Rattle.chunks.specs.Cursors.{from, reads, overlayAt}
-use Rattle.chunks.specs.Into.{numbersInto, rowInto}
+use Rattle.chunks.specs.Into.{flat, numbersInto, rowInto, rowTail, rowsInto}
 use Rattle.chunks.proofs.Steps.{from-same, from-bind, after-reads}
-use Rattle.chunks.proofs.Binds.{after-after, after-same, then-bind, then-same, closed-map}
-use Rattle.chunks.proofs.Tables.{overlayAt-none, overlayAt-cons, overlayAt-past}
+use Rattle.chunks.proofs.Binds.{after-after, after-same, then-bind, then-same, then-assoc, closed-map}
+use Rattle.chunks.proofs.Tables.{overlayAt-none, overlayAt-cons, overlayAt-past, overlayAt-same}
 
 -- no numbers leave the table as it is
 pub numbers-none : (text : List ℕ) (c : Cursor) (f : Form) (left i : ℕ) (t : List ℤ) → left ≤ 0 → from text c (numbersInto f left i t) ≡ reads text c t
@@ -49,7 +50,34 @@ module _ (text : List ℕ) (c d : Cursor) (f : Form) (left i : ℕ) (t : List �
 
 -- ---- rows
 
--- a row is ( and its keyword, and then numbers and )
-pub row-parts : (k : List ℕ) (f : Form) (w i : ℕ) (t : List ℤ) (ms : List Lexeme) → rowInto k f w i t ms ≡ (openedOf k >> closed (numbersInto f w i t)) ms
-unfolding rowInto rowOf numbersInto
-row-parts k f w i t ms = then-bind (openedOf k) (closed (numbers f w)) _ ms ∙ then-same (openedOf k) _ _ (closed-map (numbers f w) (λ zs. overlayAt i zs t)) ms
+-- a row is ( and then its keyword, numbers and )
+pub row-opens : (k : List ℕ) (f : Form) (w : ℕ) (ms : List Lexeme) → rowOf k f w ms ≡ (open-bracket >> (wordOf k >> closed (numbers f w))) ms
+unfolding rowOf openedOf
+row-opens k f w ms = then-assoc open-bracket (wordOf k) (closed (numbers f w)) ms
+
+pub tail-parts : (k : List ℕ) (f : Form) (w i : ℕ) (t : List ℤ) (ms : List Lexeme) → (wordOf k >> closed (numbers f w) >>= λ zs. pure (overlayAt i zs t)) ms ≡ rowTail k f w i t ms
+unfolding rowTail numbersInto
+tail-parts k f w i t ms = then-bind (wordOf k) (closed (numbers f w)) _ ms ∙ then-same (wordOf k) _ _ (closed-map (numbers f w) (λ zs. overlayAt i zs t)) ms
+
+pub row-parts : (k : List ℕ) (f : Form) (w i : ℕ) (t : List ℤ) (ms : List Lexeme) → rowInto k f w i t ms ≡ (open-bracket >> rowTail k f w i t) ms
+unfolding rowInto _>>=_
+row-parts k f w i t ms =
+    ap (λ (g : Got (List ℤ)). after g (λ zs. pure (overlayAt i zs t))) (row-opens k f w ms)
+    ∙ then-bind open-bracket (wordOf k >> closed (numbers f w)) (λ zs. pure (overlayAt i zs t)) ms
+    ∙ then-same open-bracket _ _ (tail-parts k f w i t) ms
+
+-- ---- many rows
+
+-- rows up to ), where n stand already
+unfoldable pub rowsOn : List ℕ → Form → ℕ → ℕ → ℕ → List ℤ → Reader (ℕ × List ℤ)
+rowsOn k f w n i t = many (rowOf k f w) >>= λ rs. pure (n + length rs, overlayAt i (flat rs) t)
+
+module _ (k : List ℕ) (f : Form) (w : ℕ) where
+  pub rows-all : (i : ℕ) (t : List ℤ) (ms : List Lexeme) → rowsInto k f w i t ms ≡ rowsOn k f w 0 i t ms
+  unfolding rowsInto rowsOn _>>=_ pure
+  rows-all i t ms = after-same (many (rowOf k f w) ms) _ _ (λ rs l. rw (zero-add (length rs)))
+
+  -- past the table's end an index is as good as the end
+  pub rows-index : (n i j : ℕ) (t : List ℤ) (ms : List Lexeme) → min i (length t) ≡ min j (length t) → rowsOn k f w n i t ms ≡ rowsOn k f w n j t ms
+  unfolding rowsOn _>>=_ pure
+  rows-index n i j t ms e = after-same (many (rowOf k f w) ms) _ _ (λ rs l. rw (overlayAt-same i j (flat rs) t e))

@@ -7,3 +7,5 @@ pub mod NumberSteps
 pub mod Tables
 pub mod Into
 pub mod Many
+pub mod Counts
+pub mod Branches

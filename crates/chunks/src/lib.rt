@@ -12,6 +12,8 @@ pub use cursor::is_plain;
 pub use cursor::keyword;
 pub use cursor::opened;
 pub use cursor::opening;
+pub use lists::Item;
+pub use lists::next_item;
 pub use lists::numbers;
 pub use lists::row;
 pub use numerals::Form;
