@@ -19,6 +19,12 @@ unfolding after
 after-same (got a ms) f h e = e a ms
 after-same (refused n p) f h e = refl
 
+-- the same, for a value that was read
+pub after-when : {A B : Type 0} (g : Got A) (f h : A → Reader B) → ((a : A) (ms : List Lexeme) → g ≡ got a ms → f a ms ≡ h a ms) → after g f ≡ after g h
+unfolding after
+after-when (got a ms) f h e = e a ms refl
+after-when (refused n p) f h e = refl
+
 -- a value that is only put into another form
 pub bind-assoc : {A B C : Type 0} (r : Reader A) (f : A → Reader B) (h : B → Reader C) (ms : List Lexeme) → (r >>= f >>= h) ms ≡ (r >>= λ a. f a >>= h) ms
 unfolding _>>=_

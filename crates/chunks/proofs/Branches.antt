@@ -2,18 +2,19 @@
 use mathlib.Core.Path.{_≡_, refl, ap, sym, _∙_}
 use mathlib.Core.List.{List, [], _∷_}
 use mathlib.Core.Bool.{Bool, true, false}
-use Prim.Native.Nat.{ℕ}
+use Prim.Native.Nat.{ℕ, suc, _<_}
+use lib.ListN.{length}
 use native.Mathlib.Omega.{arith}
 use Rattle.lexer.specs.Tokens.{Lexeme, lexeme}
 use Rattle.lexer.specs.declared.token.Span.{Span}
 use Rattle.lexer.specs.Answers.{Next, lexemeOf}
 use Rattle.chunks.specs.declared.cursor.Cursor.{Cursor}
-use Rattle.chunks.specs.Readers.{Got, got, Reader, after, _>>=_, _>>_, pure, tokenOf, rest, isOpening, isClosing, open-bracket, many}
+use Rattle.chunks.specs.Readers.{Got, got, refused, Reader, after, _>>=_, _>>_, pure, tokenOf, rest, isOpening, isClosing, open-bracket, many}
 use Rattle.chunks.specs.Cursors.{reads, from}
 use Rattle.chunks.specs.Branches.{itemOf}
 use Rattle.chunks.proofs.Steps.{from-on, from-off, reads-on, next-token, next-rest, live, taken, not-taken, from-same, from-bind, after-reads}
 use Rattle.chunks.proofs.Binds.{after-after, after-same}
-use Rattle.chunks.proofs.Many.{Takes, many-end, many-more}
+use Rattle.chunks.proofs.Many.{Takes, not-got, got-rest, pure-keeps, then-takes, open-takes, many-end, many-more}
 
 -- one reader or another
 unfoldable pub pick : {A : Type 0} → Bool → Reader A → Reader A → Reader A
@@ -77,3 +78,18 @@ module _ {A B : Type 0} (r s : Reader A) (t : Takes r) (opens : (ms : List Lexem
 
     pub items-more : v ≡ false → from text c (many r >>= h) ≡ from text d (s >>= λ a. many r >>= λ l. h (a ∷ l))
     items-more e = from-same text c _ _ items ∙ chosen-no text c d itemOf v p (h []) (s >>= λ a. many r >>= λ l. h (a ∷ l)) e
+
+pub item-takes : Takes itemOf
+unfolding itemOf isClosing tokenOf rest
+item-takes = record { less = less; none = none }
+  where
+    none : itemOf [] ≡ refused 5 0
+    none = then-takes open-takes (pure-keeps false) .none
+
+    less : (ms : List Lexeme) (a : Bool) (l : List Lexeme) → itemOf ms ≡ got a l → length l < length ms
+    less [] a l e = absurd (not-got 5 0 a l (sym none ∙ e))
+    less (m ∷ ms) a l e = go (isClosing (m .token)) refl
+      where
+        go : (v : Bool) → isClosing (m .token) ≡ v → length l < suc (length ms)
+        go true p = let h : got true ms ≡ got a l = sym (item-closed (m ∷ ms) p) ∙ e in omega (arith, got-rest true a ms l h)
+        go false p = then-takes open-takes (pure-keeps false) .less (m ∷ ms) a l (rw (p, itemOf) at e)

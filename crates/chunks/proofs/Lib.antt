@@ -8,4 +8,5 @@ pub mod Tables
 pub mod Into
 pub mod Many
 pub mod Counts
+pub mod Given
 pub mod Branches

@@ -134,3 +134,42 @@ fn advance(i: usize, width: usize, n: usize) -> usize
     }
     i + width
 }
+
+// How many rows were read, and a cursor past the list; where the cursor has refused, the count is free.
+pub struct Counted {
+    pub cursor: Cursor,
+    pub count: usize,
+}
+
+// Rows up to ), one after the other to the table from index `at` on; numbers past its end are dropped.
+pub fn rows(
+    text: &[u8],
+    c: Cursor,
+    word: &[u8],
+    form: Form,
+    width: usize,
+    out: &mut [i64],
+    at: usize,
+) -> Counted
+    ensures { λ r. ⌜ reads (now (text .entry)) (r .cursor) (r .count, now (out .exit)) ≡ from (now (text .entry)) c (rowsInto (now (word .entry)) (formNamed form) width at (now (out .entry))) ⌝ }
+{
+    let mut d = c;
+    let mut i = at;
+    let mut count = 0;
+    loop {
+        let item = next_item(text, d);
+        let start = item.cursor;
+        if item.ended {
+            return Counted {
+                cursor: start,
+                count,
+            };
+        }
+        d = row_tail(text, start, word, form, width, out, i);
+        if d.refusal != 0 {
+            return Counted { cursor: d, count };
+        }
+        count += 1;
+        i = advance(i, width, out.len());
+    }
+}
