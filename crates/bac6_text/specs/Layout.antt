@@ -4,13 +4,9 @@ use Prim.Native.Nat.{ℕ, zero, suc}
 use lib.ListN.{length}
 use lib.IntN.{ℤ, pos, negsuc}
 use Rattle.chunks.specs.Readers.{Name}
+use Rattle.chunks.specs.Into.{flat}
 use Rattle.bac6_text.specs.Figure.{Bone, Face, Group, Figure}
 use Rattle.bac6_text.specs.Rules.{facesOf, flagsOf, wholeList, parentsIn, ownerOf}
-
--- rows one after the other
-unfoldable pub flat : List (List ℤ) → List ℤ
-flat [] = []
-flat (r ∷ rs) = r ++ flat rs
 
 -- place and length
 unfoldable pub nameNumbers : Name → List ℤ

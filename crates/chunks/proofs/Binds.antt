@@ -1,9 +1,7 @@
 -- Laws of readers one after another, whatever they read.
 use mathlib.Core.Path.{_≡_, refl, sym, _∙_}
 use mathlib.Core.List.{List}
-use mathlib.Core.Bool.{Bool, true, false}
 use Prim.Native.Nat.{ℕ}
-use lib.Dec.{eqb}
 use Rattle.lexer.specs.Tokens.{Lexeme}
 use Rattle.chunks.specs.declared.cursor.Cursor.{Cursor}
 use Rattle.chunks.specs.Readers.{Got, got, refused, Reader, after, _>>=_, _>>_, pure, close-bracket, closed}
@@ -21,14 +19,11 @@ unfolding after
 after-same (got a ms) f h e = e a ms
 after-same (refused n p) f h e = refl
 
--- readers that give the same give the same from a cursor
-pub from-same : {A : Type 0} (text : List ℕ) (c : Cursor) (r s : Reader A) → ((ms : List Lexeme) → r ms ≡ s ms) → from text c r ≡ from text c s
-unfolding from
-from-same text c r s e = go (eqb (c .refusal) 0) refl
-  where
-    go : (v : Bool) → eqb (c .refusal) 0 ≡ v → from text c r ≡ from text c s
-    go true p = rw (p, from) (e _)
-    go false p = rw (p, from)
+-- the same, for a value that was read
+pub after-when : {A B : Type 0} (g : Got A) (f h : A → Reader B) → ((a : A) (ms : List Lexeme) → g ≡ got a ms → f a ms ≡ h a ms) → after g f ≡ after g h
+unfolding after
+after-when (got a ms) f h e = e a ms refl
+after-when (refused n p) f h e = refl
 
 -- a value that is only put into another form
 pub bind-assoc : {A B C : Type 0} (r : Reader A) (f : A → Reader B) (h : B → Reader C) (ms : List Lexeme) → (r >>= f >>= h) ms ≡ (r >>= λ a. f a >>= h) ms

@@ -1,20 +1,27 @@
 -- Laws of readers that write over a table.
 use mathlib.Core.Path.{_≡_, ap, sym, _∙_}
 use mathlib.Core.List.{List, _∷_}
-use Prim.Native.Nat.{ℕ, suc, _+_, _-_, _≤_, _<_}
+use mathlib.Core.Bool.{Bool, true, false}
+use Prim.Native.Nat.{ℕ, suc, _+_, _-_, _≤_, _<_, min}
+use native.Mathlib.Nat.{zero-add, add-zero}
 use native.Mathlib.Omega.{arith}
 use native.Mathlib.Numerals.{add-one}
 use lib.IntN.{ℤ}
 use lib.ListN.{length, set}
-use Rattle.lexer.specs.Tokens.{Lexeme}
+use Rattle.lexer.specs.Tokens.{Lexeme, lexAt}
 use Rattle.lexer.specs.Numbers.{Form}
 use Rattle.chunks.specs.declared.cursor.Cursor.{Cursor}
-use Rattle.chunks.specs.Readers.{Got, got, after, _>>=_, _>>_, pure, number, numbers, rowOf, openedOf, closed}
+use Rattle.chunks.specs.Readers.{Got, got, Reader, after, _>>=_, _>>_, pure, number, numbers, open-bracket, wordOf, rowOf, openedOf, closed, many}
 use Rattle.chunks.specs.Cursors.{from, reads, overlayAt}
-use Rattle.chunks.specs.Into.{numbersInto, rowInto}
-use Rattle.chunks.proofs.Steps.{from-bind, after-reads}
-use Rattle.chunks.proofs.Binds.{after-after, after-same, from-same, then-bind, then-same, closed-map}
-use Rattle.chunks.proofs.Tables.{overlayAt-none, overlayAt-cons, overlayAt-past}
+use Rattle.chunks.specs.Into.{flat, numbersInto, rowInto, rowTail, rowsInto}
+use Rattle.chunks.proofs.Steps.{seq, from-same, from-bind, after-reads}
+use Rattle.chunks.proofs.Binds.{after-after, after-same, after-when, then-bind, then-same, then-assoc, closed-map}
+use Rattle.chunks.specs.Branches.{itemOf}
+use Rattle.chunks.proofs.Many.{Keeps, takes-keeps, pure-keeps, bind-keeps, then-keeps, then-takes, closed-keeps, word-takes, numbers-keeps, row-of-takes}
+use Rattle.chunks.proofs.Counts.{falls}
+use Rattle.chunks.proofs.Given.{then-gives, closed-gives, numbers-give}
+use Rattle.chunks.proofs.Branches.{items-end, items-more, item-takes}
+use Rattle.chunks.proofs.Tables.{overlayAt-none, overlayAt-cons, overlayAt-past, overlayAt-append, overlayAt-same}
 
 -- no numbers leave the table as it is
 pub numbers-none : (text : List ℕ) (c : Cursor) (f : Form) (left i : ℕ) (t : List ℤ) → left ≤ 0 → from text c (numbersInto f left i t) ≡ reads text c t
@@ -49,7 +56,72 @@ module _ (text : List ℕ) (c d : Cursor) (f : Form) (left i : ℕ) (t : List �
 
 -- ---- rows
 
--- a row is ( and its keyword, and then numbers and )
-pub row-parts : (k : List ℕ) (f : Form) (w i : ℕ) (t : List ℤ) (ms : List Lexeme) → rowInto k f w i t ms ≡ (openedOf k >> closed (numbersInto f w i t)) ms
-unfolding rowInto rowOf numbersInto
-row-parts k f w i t ms = then-bind (openedOf k) (closed (numbers f w)) _ ms ∙ then-same (openedOf k) _ _ (closed-map (numbers f w) (λ zs. overlayAt i zs t)) ms
+-- a row is ( and then its keyword, numbers and )
+pub row-opens : (k : List ℕ) (f : Form) (w : ℕ) (ms : List Lexeme) → rowOf k f w ms ≡ (open-bracket >> (wordOf k >> closed (numbers f w))) ms
+unfolding rowOf openedOf
+row-opens k f w ms = then-assoc open-bracket (wordOf k) (closed (numbers f w)) ms
+
+pub tail-parts : (k : List ℕ) (f : Form) (w i : ℕ) (t : List ℤ) (ms : List Lexeme) → (wordOf k >> closed (numbers f w) >>= λ zs. pure (overlayAt i zs t)) ms ≡ rowTail k f w i t ms
+unfolding rowTail numbersInto
+tail-parts k f w i t ms = then-bind (wordOf k) (closed (numbers f w)) _ ms ∙ then-same (wordOf k) _ _ (closed-map (numbers f w) (λ zs. overlayAt i zs t)) ms
+
+tail-keeps : (k : List ℕ) (f : Form) (w i : ℕ) (t : List ℤ) → Keeps (rowTail k f w i t)
+unfolding rowTail numbersInto
+tail-keeps k f w i t = then-keeps (takes-keeps (word-takes k)) (closed-keeps (bind-keeps (numbers-keeps f w) (λ zs. pure-keeps (overlayAt i zs t))))
+
+pub row-parts : (k : List ℕ) (f : Form) (w i : ℕ) (t : List ℤ) (ms : List Lexeme) → rowInto k f w i t ms ≡ (open-bracket >> rowTail k f w i t) ms
+unfolding rowInto _>>=_
+row-parts k f w i t ms =
+    ap (λ (g : Got (List ℤ)). after g (λ zs. pure (overlayAt i zs t))) (row-opens k f w ms)
+    ∙ then-bind open-bracket (wordOf k >> closed (numbers f w)) (λ zs. pure (overlayAt i zs t)) ms
+    ∙ then-same open-bracket _ _ (tail-parts k f w i t) ms
+
+-- ---- many rows
+
+-- rows up to ), where n stand already
+unfoldable pub rowsOn : List ℕ → Form → ℕ → ℕ → ℕ → List ℤ → Reader (ℕ × List ℤ)
+rowsOn k f w n i t = many (rowOf k f w) >>= λ rs. pure (n + length rs, overlayAt i (flat rs) t)
+
+module _ (k : List ℕ) (f : Form) (w : ℕ) where
+  pub rows-all : (i : ℕ) (t : List ℤ) (ms : List Lexeme) → rowsInto k f w i t ms ≡ rowsOn k f w 0 i t ms
+  unfolding rowsInto rowsOn _>>=_ pure
+  rows-all i t ms = after-same (many (rowOf k f w) ms) _ _ (λ rs l. rw (zero-add (length rs)))
+
+  -- past the table's end an index is as good as the end
+  pub rows-index : (n i j : ℕ) (t : List ℤ) (ms : List Lexeme) → min i (length t) ≡ min j (length t) → rowsOn k f w n i t ms ≡ rowsOn k f w n j t ms
+  unfolding rowsOn _>>=_ pure
+  rows-index n i j t ms e = after-same (many (rowOf k f w) ms) _ _ (λ rs l. rw (overlayAt-same i j (flat rs) t e))
+
+  -- the value with one row more
+  row-more : (n i : ℕ) (t zs : List ℤ) (rs : List (List ℤ)) → length zs ≡ w → _≡_ {A = ℕ × List ℤ} (n + length (zs ∷ rs), overlayAt i (flat (zs ∷ rs)) t) (n + 1 + length rs, overlayAt (i + w) (flat rs) (overlayAt i zs t))
+  unfolding flat
+  row-more n i t zs rs e =
+      let c : n + suc (length rs) ≡ n + 1 + length rs = omega arith in
+      rw (c, overlayAt-append i zs (flat rs) t, e)
+
+  rows-turn : (n i : ℕ) (t : List ℤ) (ms : List Lexeme) → (wordOf k >> closed (numbers f w) >>= λ zs. many (rowOf k f w) >>= λ rs. pure (n + length (zs ∷ rs), overlayAt i (flat (zs ∷ rs)) t)) ms ≡ (rowTail k f w i t >>= λ u. rowsOn k f w (n + 1) (i + w) u) ms
+  unfolding rowsOn _>>=_ pure after
+  rows-turn n i t ms =
+      after-when ((wordOf k >> closed (numbers f w)) ms) _ _ (λ zs l e. after-same (many (rowOf k f w) l) _ _ (λ rs m. ap (λ (v : ℕ × List ℤ). got v m) (row-more n i t zs rs (then-gives (λ x. length x ≡ w) (wordOf k) (closed-gives (λ x. length x ≡ w) (numbers-give f w)) ms zs l e))))
+      ∙ sym (ap (λ (g : Got (List ℤ)). after g (λ u. rowsOn k f w (n + 1) (i + w) u)) (sym (tail-parts k f w i t ms)) ∙ after-after ((wordOf k >> closed (numbers f w)) ms) _ _)
+
+  -- a turn of the loop: from cursor c to d by the next bracket, and then to e by a row
+  module _ (text : List ℕ) (c d : Cursor) (v : Bool) (p : reads text d v ≡ from text c itemOf) (n i : ℕ) (t : List ℤ) where
+    pub rows-end : v ≡ true → from text c (rowsOn k f w n i t) ≡ reads text d (n, t)
+    unfolding rowsOn reads flat
+    rows-end o = items-end (rowOf k f w) (wordOf k >> closed (numbers f w)) (row-of-takes k f w) (row-opens k f w) (λ rs. pure (n + length rs, overlayAt i (flat rs) t)) text c d v p o ∙ rw (add-zero, overlayAt-none i t)
+
+    module _ (e : Cursor) (u : List ℤ) (q : reads text e u ≡ from text d (rowTail k f w i t)) where
+      pub rows-more : v ≡ false → (j : ℕ) → min j (length u) ≡ min (i + w) (length u) → from text c (rowsOn k f w n i t) ≡ from text e (rowsOn k f w (n + 1) j u)
+      unfolding rowsOn
+      rows-more o j h =
+          items-more (rowOf k f w) (wordOf k >> closed (numbers f w)) (row-of-takes k f w) (row-opens k f w) (λ rs. pure (n + length rs, overlayAt i (flat rs) t)) text c d v p o
+          ∙ from-same text d _ _ (rows-turn n i t)
+          ∙ from-bind text d (λ x. rowsOn k f w (n + 1) (i + w) x) (rowTail k f w i t)
+          ∙ ap (λ (g : Got (List ℤ)). after g (λ x. rowsOn k f w (n + 1) (i + w) x)) (sym q)
+          ∙ after-reads text e (λ x. rowsOn k f w (n + 1) (i + w) x) u
+          ∙ from-same text e _ _ (λ ms. rows-index (n + 1) (i + w) j u ms (sym h))
+
+      -- fewer tokens are left
+      pub rows-fall : e .refusal ≡ 0 → length (lexAt text (e .at)) < length (lexAt text (c .at))
+      rows-fall o = falls text c e (itemOf >> rowTail k f w i t) u (then-takes item-takes (tail-keeps k f w i t)) (seq text c d e v u itemOf (rowTail k f w i t) p q) o

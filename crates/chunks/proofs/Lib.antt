@@ -1,7 +1,10 @@
 -- Laws that belong to no one function.
 pub mod Binds
+pub mod Branches
 pub mod Choices
+pub mod Counts
 pub mod FieldSteps
+pub mod Given
 pub mod Into
 pub mod Many
 pub mod NumberSteps

@@ -1,10 +1,16 @@
 -- Readers of numbers, with a table that they are written over. What a table holds after a refusal is not said.
-use mathlib.Core.List.{List}
+use mathlib.Core.List.{List, [], _∷_, _++_}
 use Prim.Native.Nat.{ℕ}
 use lib.IntN.{ℤ}
+use lib.ListN.{length}
 use Rattle.lexer.specs.Numbers.{Form}
-use Rattle.chunks.specs.Readers.{Reader, _>>=_, pure, numbers, rowOf}
+use Rattle.chunks.specs.Readers.{Reader, _>>=_, _>>_, pure, numbers, wordOf, closed, rowOf, many}
 use Rattle.chunks.specs.Cursors.{overlayAt}
+
+-- rows one after the other
+unfoldable pub flat : List (List ℤ) → List ℤ
+flat [] = []
+flat (r ∷ rs) = r ++ flat rs
 
 -- so many numbers, over a table's from index i on
 unfoldable pub numbersInto : Form → ℕ → ℕ → List ℤ → Reader (List ℤ)
@@ -13,3 +19,11 @@ numbersInto f w i table = numbers f w >>= λ zs. pure (overlayAt i zs table)
 -- a row, over a table's numbers from index i on
 unfoldable pub rowInto : List ℕ → Form → ℕ → ℕ → List ℤ → Reader (List ℤ)
 rowInto k f w i table = rowOf k f w >>= λ zs. pure (overlayAt i zs table)
+
+-- what stands in a row after its (
+unfoldable pub rowTail : List ℕ → Form → ℕ → ℕ → List ℤ → Reader (List ℤ)
+rowTail k f w i table = wordOf k >> closed (numbersInto f w i table)
+
+-- rows up to ), one after the other over a table's numbers from index i on, and how many they are
+unfoldable pub rowsInto : List ℕ → Form → ℕ → ℕ → List ℤ → Reader (ℕ × List ℤ)
+rowsInto k f w i table = many (rowOf k f w) >>= λ rs. pure (length rs, overlayAt i (flat rs) table)

@@ -4,3 +4,4 @@ pub mod Cursors
 pub mod Words
 pub mod Answers
 pub mod Into
+pub mod Branches

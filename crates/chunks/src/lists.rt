@@ -1,11 +1,16 @@
 // Numbers and rows, written to a lent table. What a table holds after a refusal is left open.
 ghost use mathlib.Core.Path.{_≡_};
+ghost use Prim.Native.Nat.{_+_, min};
 ghost use Rattle.chunks.specs.Cursors.{reads, from};
 ghost use Rattle.chunks.specs.Answers.{formNamed};
-ghost use Rattle.chunks.specs.Into.{numbersInto, rowInto};
+ghost use Rattle.chunks.specs.Into.{numbersInto, rowInto, rowTail, rowsInto};
+ghost use Rattle.chunks.specs.Branches.{itemOf};
 use crate::cursor::Cursor;
 use crate::cursor::closing;
-use crate::cursor::opened;
+use crate::cursor::is_closing;
+use crate::cursor::is_opening;
+use crate::cursor::keyword;
+use crate::cursor::opening;
 use crate::numerals::Form;
 use crate::numerals::number;
 
@@ -39,6 +44,24 @@ pub fn numbers(
     d
 }
 
+// What stands in a row after its (: a keyword, `width` numbers and ).
+fn row_tail(
+    text: &[u8],
+    c: Cursor,
+    word: &[u8],
+    form: Form,
+    width: usize,
+    out: &mut [i64],
+    at: usize,
+) -> Cursor
+    ensures { λ r. ⌜ reads (now (text .entry)) r (now (out .exit)) ≡ from (now (text .entry)) c (rowTail (now (word .entry)) (formNamed form) width at (now (out .entry))) ⌝ }
+{
+    closing(
+        text,
+        numbers(text, keyword(text, c, word), form, width, out, at),
+    )
+}
+
 // ( a keyword, `width` numbers and ), the numbers to the table from index `at` on.
 pub fn row(
     text: &[u8],
@@ -51,8 +74,102 @@ pub fn row(
 ) -> Cursor
     ensures { λ r. ⌜ reads (now (text .entry)) r (now (out .exit)) ≡ from (now (text .entry)) c (rowInto (now (word .entry)) (formNamed form) width at (now (out .entry))) ⌝ }
 {
-    closing(
-        text,
-        numbers(text, opened(text, c, word), form, width, out, at),
-    )
+    row_tail(text, opening(text, c), word, form, width, out, at)
+}
+
+// Where an item of a list begins or the list has ended; where the cursor has refused, `ended` is free.
+pub struct Item {
+    pub ended: bool,
+    pub cursor: Cursor,
+}
+
+// In a list: past the ) that ends it, or past the ( of its next item.
+pub fn next_item(text: &[u8], c: Cursor) -> Item
+    ensures { λ r. ⌜ reads (now (text .entry)) (r .cursor) (r .ended) ≡ from (now (text .entry)) c itemOf ⌝ }
+{
+    if c.refusal != 0 {
+        return Item {
+            ended: false,
+            cursor: c,
+        };
+    }
+    let t = lexer::next(text, c.at);
+    let kind = t.kind;
+    if is_closing(kind) {
+        return Item {
+            ended: true,
+            cursor: Cursor {
+                refusal: 0,
+                at: t.end,
+            },
+        };
+    }
+    if is_opening(kind) {
+        return Item {
+            ended: false,
+            cursor: Cursor {
+                refusal: 0,
+                at: t.end,
+            },
+        };
+    }
+    Item {
+        ended: false,
+        cursor: Cursor {
+            refusal: 5,
+            at: t.start,
+        },
+    }
+}
+
+// The index `width` on, in a table of n numbers; past its end any index is as good as another.
+fn advance(i: usize, width: usize, n: usize) -> usize
+    ensures { λ r. ⌜ min r n ≡ min (i + width) n ⌝ }
+{
+    if n <= i {
+        return i;
+    }
+    if n - i < width {
+        return n;
+    }
+    i + width
+}
+
+// How many rows were read, and a cursor past the list; where the cursor has refused, the count is free.
+pub struct Counted {
+    pub cursor: Cursor,
+    pub count: usize,
+}
+
+// Rows up to ), one after the other to the table from index `at` on; numbers past its end are dropped.
+pub fn rows(
+    text: &[u8],
+    c: Cursor,
+    word: &[u8],
+    form: Form,
+    width: usize,
+    out: &mut [i64],
+    at: usize,
+) -> Counted
+    ensures { λ r. ⌜ reads (now (text .entry)) (r .cursor) (r .count, now (out .exit)) ≡ from (now (text .entry)) c (rowsInto (now (word .entry)) (formNamed form) width at (now (out .entry))) ⌝ }
+{
+    let mut d = c;
+    let mut i = at;
+    let mut count = 0;
+    loop {
+        let item = next_item(text, d);
+        let start = item.cursor;
+        if item.ended {
+            return Counted {
+                cursor: start,
+                count,
+            };
+        }
+        d = row_tail(text, start, word, form, width, out, i);
+        if d.refusal != 0 {
+            return Counted { cursor: d, count };
+        }
+        count += 1;
+        i = advance(i, width, out.len());
+    }
 }

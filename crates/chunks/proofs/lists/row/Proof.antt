@@ -1,30 +1,24 @@
--- `row` is the bracket and keyword, the numbers and the closing bracket.
+-- `row` is the opening bracket and then what stands after it.
 use mathlib.Core.Path.{sym, _∙_}
-use Rattle.chunks.proofs.Steps.{seq}
-use Rattle.chunks.proofs.Binds.{from-same, closed-at}
+use Rattle.chunks.proofs.Steps.{seq, from-same}
 use Rattle.chunks.proofs.Into.{row-parts}
 use borrow.Author.Needs.{needs}
 use Rattle.chunks.proofs.lists.row.Statement.{statement}
 use Rattle.chunks.proofs.lists.row.Tie as tie
 
-opened-requires : tie.Need-opened-requires
-opened-requires c κs = search needs
+opening-requires : tie.Need-opening-requires
+opening-requires c κs = search needs
 
-numbers-requires : tie.Need-numbers-requires
-numbers-requires c κs = search needs
-
-closing-requires : tie.Need-closing-requires
-closing-requires c κs = search needs
+row-tail-requires : tie.Need-row-tail-requires
+row-tail-requires c κs = search needs
 
 same-length : tie.Need-same-length
 same-length c = search needs
 
 returns : tie.Need-returns
 returns c =
-    let n = c .before .before in
-    seq _ _ _ _ _ _ _ _ (n .before .before .opened .ensures) (closed-at _ _ _ _ _ _ (n .numbers .ensures) (c .closing .ensures))
-    ∙ sym (from-same _ _ _ _ (row-parts _ _ _ _ _))
+    let n = c .before in
+    seq _ _ _ _ _ _ _ _ (n .before .before .opening .ensures) (n .row-tail .ensures) ∙ sym (from-same _ _ _ _ (row-parts _ _ _ _ _))
 
 pub row-spec : {M : Type 1} → statement M
-row-spec =
-    tie.close (tie.spec opened-requires numbers-requires closing-requires same-length returns)
+row-spec = tie.close (tie.spec opening-requires row-tail-requires same-length returns)

@@ -1,0 +1,95 @@
+-- Laws of the choices that a shape leaves: what the code finds next, and what that makes of the reader.
+use mathlib.Core.Path.{_≡_, refl, ap, sym, _∙_}
+use mathlib.Core.List.{List, [], _∷_}
+use mathlib.Core.Bool.{Bool, true, false}
+use Prim.Native.Nat.{ℕ, suc, _<_}
+use lib.ListN.{length}
+use native.Mathlib.Omega.{arith}
+use Rattle.lexer.specs.Tokens.{Lexeme, lexeme}
+use Rattle.lexer.specs.declared.token.Span.{Span}
+use Rattle.lexer.specs.Answers.{Next, lexemeOf}
+use Rattle.chunks.specs.declared.cursor.Cursor.{Cursor}
+use Rattle.chunks.specs.Readers.{Got, got, refused, Reader, after, _>>=_, _>>_, pure, tokenOf, rest, isOpening, isClosing, open-bracket, many}
+use Rattle.chunks.specs.Cursors.{reads, from}
+use Rattle.chunks.specs.Branches.{itemOf}
+use Rattle.chunks.proofs.Steps.{from-on, from-off, reads-on, next-token, next-rest, live, taken, not-taken, from-same, from-bind, after-reads}
+use Rattle.chunks.proofs.Binds.{after-after, after-same}
+use Rattle.chunks.proofs.Many.{Takes, not-got, got-rest, pure-keeps, then-takes, open-takes, many-end, many-more}
+
+-- one reader or another
+unfoldable pub pick : {A : Type 0} → Bool → Reader A → Reader A → Reader A
+pick true r s = r
+pick false r s = s
+
+-- a choice from cursor c to d, and then what it picks
+module _ {A : Type 0} (text : List ℕ) (c d : Cursor) (b : Reader Bool) (v : Bool) (p : reads text d v ≡ from text c b) (r s : Reader A) where
+  chosen : from text c (b >>= λ x. pick x r s) ≡ from text d (pick v r s)
+  chosen = from-bind text c (λ x. pick x r s) b ∙ ap (λ (g : Got Bool). after g (λ x. pick x r s)) (sym p) ∙ after-reads text d (λ x. pick x r s) v
+
+  pub chosen-yes : v ≡ true → from text c (b >>= λ x. pick x r s) ≡ from text d r
+  unfolding pick
+  chosen-yes e = chosen ∙ ap (λ (x : Bool). from text d (pick x r s)) e
+
+  pub chosen-no : v ≡ false → from text c (b >>= λ x. pick x r s) ≡ from text d s
+  unfolding pick
+  chosen-no e = chosen ∙ ap (λ (x : Bool). from text d (pick x r s)) e
+
+-- ---- the items of a list
+
+item-closed : (ms : List Lexeme) → isClosing (tokenOf ms) ≡ true → itemOf ms ≡ got true (rest ms)
+unfolding itemOf
+item-closed ms e = rw (e, itemOf)
+
+item-open : (ms : List Lexeme) → isClosing (tokenOf ms) ≡ false → itemOf ms ≡ after (open-bracket ms) (λ _. pure false)
+unfolding itemOf _>>_
+item-open ms e = rw (e, itemOf)
+
+module _ (text : List ℕ) (c : Cursor) (t : Span) (n : Next text (c .at) t) (o : c .refusal ≡ 0) where
+  pub item-ends : isClosing (lexemeOf text t .token) ≡ true → reads text (record { refusal = 0; at = t .end }) true ≡ from text c itemOf
+  unfolding lexemeOf lexeme isClosing
+  item-ends e = reads-on text _ true refl ∙ sym (from-on text c itemOf o ∙ item-closed _ (rw (next-token text (c .at) t n) e) ∙ ap (got true) (next-rest text (c .at) t n (live isClosing refl (t .kind) _ e)))
+
+  pub item-opens : isClosing (lexemeOf text t .token) ≡ false → isOpening (lexemeOf text t .token) ≡ true → reads text (record { refusal = 0; at = t .end }) false ≡ from text c itemOf
+  unfolding open-bracket after pure isOpening
+  item-opens e f = reads-on text _ false refl ∙ sym (from-on text c itemOf o ∙ item-open _ (rw (next-token text (c .at) t n) e) ∙ ap (λ (g : Got (Unit {0})). after g (λ _. pure false)) (taken text (c .at) t n isOpening refl f))
+
+  pub item-stops : isClosing (lexemeOf text t .token) ≡ false → isOpening (lexemeOf text t .token) ≡ false → reads text (record { refusal = 5; at = t .start }) false ≡ from text c itemOf
+  unfolding open-bracket after reads isOpening
+  item-stops e f = from-off text _ (pure false) (λ h. omega arith) ∙ sym (from-on text c itemOf o ∙ item-open _ (rw (next-token text (c .at) t n) e) ∙ ap (λ (g : Got (Unit {0})). after g (λ _. pure false)) (not-taken text (c .at) t n isOpening refl f))
+
+-- a list of items that begin with (, where s reads what stands after that: each by one choice
+module _ {A B : Type 0} (r s : Reader A) (t : Takes r) (opens : (ms : List Lexeme) → r ms ≡ (open-bracket >> s) ms) (h : List A → Reader B) where
+  items : (ms : List Lexeme) → (many r >>= h) ms ≡ (itemOf >>= λ ended. pick ended (h []) (s >>= λ a. many r >>= λ l. h (a ∷ l))) ms
+  unfolding _>>=_ _>>_ after pick pure
+  items ms = go (isClosing (tokenOf ms)) refl
+    where
+      go : (v : Bool) → isClosing (tokenOf ms) ≡ v → (many r >>= h) ms ≡ (itemOf >>= λ ended. pick ended (h []) (s >>= λ a. many r >>= λ l. h (a ∷ l))) ms
+      go true e = rw (many-end r ms e, item-closed ms e)
+      go false e =
+          rw (many-more r t ms e, item-open ms e, opens ms)
+          (after-after (after (open-bracket ms) (λ _. s)) _ h
+          ∙ after-after (open-bracket ms) (λ _. s) _
+          ∙ after-same (open-bracket ms) _ _ (λ _ l. after-same (s l) _ _ (λ a k. after-after (many r k) _ h))
+          ∙ sym (after-after (open-bracket ms) (λ _. pure false) _))
+
+  module _ (text : List ℕ) (c d : Cursor) (v : Bool) (p : reads text d v ≡ from text c itemOf) where
+    pub items-end : v ≡ true → from text c (many r >>= h) ≡ from text d (h [])
+    items-end e = from-same text c _ _ items ∙ chosen-yes text c d itemOf v p (h []) (s >>= λ a. many r >>= λ l. h (a ∷ l)) e
+
+    pub items-more : v ≡ false → from text c (many r >>= h) ≡ from text d (s >>= λ a. many r >>= λ l. h (a ∷ l))
+    items-more e = from-same text c _ _ items ∙ chosen-no text c d itemOf v p (h []) (s >>= λ a. many r >>= λ l. h (a ∷ l)) e
+
+pub item-takes : Takes itemOf
+unfolding itemOf isClosing tokenOf rest
+item-takes = record { less = less; none = none }
+  where
+    none : itemOf [] ≡ refused 5 0
+    none = then-takes open-takes (pure-keeps false) .none
+
+    less : (ms : List Lexeme) (a : Bool) (l : List Lexeme) → itemOf ms ≡ got a l → length l < length ms
+    less [] a l e = absurd (not-got 5 0 a l (sym none ∙ e))
+    less (m ∷ ms) a l e = go (isClosing (m .token)) refl
+      where
+        go : (v : Bool) → isClosing (m .token) ≡ v → length l < suc (length ms)
+        go true p = let h : got true ms ≡ got a l = sym (item-closed (m ∷ ms) p) ∙ e in omega (arith, got-rest true a ms l h)
+        go false p = then-takes open-takes (pure-keeps false) .less (m ∷ ms) a l (rw (p, itemOf) at e)

@@ -1,0 +1,44 @@
+-- What holds of each value that a reader gives.
+use mathlib.Core.Path.{_≡_, refl, ap}
+use mathlib.Core.List.{List, [], _∷_}
+use Prim.Native.Nat.{ℕ, zero, suc}
+use lib.ListN.{length}
+use Rattle.lexer.specs.Tokens.{Lexeme}
+use Rattle.lexer.specs.Numbers.{Form}
+use Rattle.chunks.specs.Readers.{Got, got, refused, Reader, after, _>>=_, _>>_, pure, close-bracket, closed, numbers, openedOf, rowOf}
+use Rattle.chunks.proofs.Many.{not-got}
+
+abbrev pub Gives : {A : Type 0} → (A → Type 0) → Reader A → Type 0
+Gives {A} P r = (ms : List Lexeme) (a : A) (l : List Lexeme) → r ms ≡ got a l → P a
+
+pub pure-gives : {A : Type 0} (P : A → Type 0) (a : A) → P a → Gives P (pure a)
+unfolding pure
+pure-gives P a h ms b l e = let q : b ≡ a = cc in rw q h
+
+module _ {A B : Type 0} (Q : A → Type 0) (P : B → Type 0) (f : A → Reader B) (k : (a : A) → Q a → Gives P (f a)) where
+  after-gives : (g : Got A) → ((a : A) (l : List Lexeme) → g ≡ got a l → Q a) → (b : B) (l : List Lexeme) → after g f ≡ got b l → P b
+  unfolding after
+  after-gives (got a m) h b l e = k a (h a m refl) m b l e
+  after-gives (refused i p) h b l e = absurd (not-got i p b l e)
+
+pub bind-gives : {A B : Type 0} (Q : A → Type 0) (P : B → Type 0) {r : Reader A} {f : A → Reader B} → Gives Q r → ((a : A) → Q a → Gives P (f a)) → Gives P (r >>= f)
+unfolding _>>=_
+bind-gives Q P {r} {f} h k ms = after-gives Q P f k (r ms) (h ms)
+
+pub then-gives : {A B : Type 0} (P : B → Type 0) (r : Reader A) {s : Reader B} → Gives P s → Gives P (r >> s)
+unfolding _>>_
+then-gives P r {s} h ms = after-gives (λ _. Unit {0}) P (λ _. s) (λ _ _. h) (r ms) (λ _ _ _. tt)
+
+pub closed-gives : {A : Type 0} (P : A → Type 0) {r : Reader A} → Gives P r → Gives P (closed r)
+unfolding closed
+closed-gives P h = bind-gives P P h (λ a q. then-gives P close-bracket (pure-gives P a q))
+
+-- as many numbers as were asked for
+pub numbers-give : (f : Form) (n : ℕ) → Gives (λ zs. length zs ≡ n) (numbers f n)
+unfolding numbers
+numbers-give f zero = pure-gives (λ zs. length zs ≡ 0) [] refl
+numbers-give f (suc n) = bind-gives (λ _. Unit {0}) (λ zs. length zs ≡ suc n) (λ _ _ _ _. tt) (λ z _. bind-gives (λ zs. length zs ≡ n) (λ zs. length zs ≡ suc n) (numbers-give f n) (λ zs h. pure-gives (λ xs. length xs ≡ suc n) (z ∷ zs) (ap suc h)))
+
+pub row-of-gives : (k : List ℕ) (f : Form) (n : ℕ) → Gives (λ zs. length zs ≡ n) (rowOf k f n)
+unfolding rowOf
+row-of-gives k f n = then-gives (λ zs. length zs ≡ n) (openedOf k) (closed-gives (λ zs. length zs ≡ n) (numbers-give f n))

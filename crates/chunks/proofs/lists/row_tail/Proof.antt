@@ -1,0 +1,29 @@
+-- `row_tail` is the keyword, the numbers and the closing bracket.
+use Rattle.chunks.specs.Into.{rowTail}
+use Rattle.chunks.proofs.Steps.{seq}
+use Rattle.chunks.proofs.Binds.{closed-at}
+use borrow.Author.Needs.{needs}
+use Rattle.chunks.proofs.lists.row_tail.Statement.{statement}
+use Rattle.chunks.proofs.lists.row_tail.Tie as tie
+
+keyword-requires : tie.Need-keyword-requires
+keyword-requires c κs = search needs
+
+numbers-requires : tie.Need-numbers-requires
+numbers-requires c κs = search needs
+
+closing-requires : tie.Need-closing-requires
+closing-requires c κs = search needs
+
+same-length : tie.Need-same-length
+same-length c = search needs
+
+returns : tie.Need-returns
+unfolding rowTail
+returns c =
+    let n = c .before .before in
+    seq _ _ _ _ _ _ _ _ (n .before .before .keyword .ensures) (closed-at _ _ _ _ _ _ (n .numbers .ensures) (c .closing .ensures))
+
+pub row-tail-spec : {M : Type 1} → statement M
+row-tail-spec =
+    tie.close (tie.spec keyword-requires numbers-requires closing-requires same-length returns)
