@@ -4,6 +4,7 @@ pub mod Branches
 pub mod Choices
 pub mod Counts
 pub mod FieldSteps
+pub mod Folds
 pub mod Given
 pub mod Into
 pub mod Many
