@@ -6,9 +6,11 @@ ghost use lib.ListN.{length};
 ghost use Rattle.lexer.specs.Tokens.{lexAt};
 ghost use Rattle.chunks.specs.Fields.{insideAt, kindFrom, fieldsIn, fieldsOf, neededOf, coversAll};
 ghost use Rattle.chunks.specs.Cursors.{reads, from};
-ghost use Rattle.bac6_text.specs.Grammar.{materialKinds};
+ghost use Rattle.bac6_text.specs.Grammar.{materialKinds, material};
 ghost use Rattle.bac6_parse.specs.Closing.{closeWith};
-ghost use Rattle.bac6_parse.specs.Into.{Settled, closedAt, materialInto};
+ghost use Rattle.bac6_parse.specs.Into.{Settled, closedAt, materialInto, rowStep, materialsInto};
+ghost use Rattle.chunks.specs.Folds.{folded};
+use chunks::Counted;
 use chunks::Cursor;
 use chunks::Form;
 use chunks::Numeric;
@@ -128,11 +130,11 @@ fn closed_at(t: Span, seen: &[bool]) -> Cursor
     }
 }
 
-// ( material and its chunks ), its nine numbers to the table from index `to` on.
-pub(crate) fn material(text: &[u8], c: Cursor, out: &mut [i64], to: usize) -> Cursor
+// What stands in a material after its opening bracket, its nine numbers to the table from index `to` on.
+fn material_tail(text: &[u8], c: Cursor, out: &mut [i64], to: usize) -> Cursor
     ensures { λ r. ⌜ reads (now (text .entry)) r (now (out .exit)) ≡ from (now (text .entry)) c (materialInto to (now (out .entry))) ⌝ }
 {
-    let d = chunks::opened(text, c, b"material");
+    let d = chunks::keyword(text, c, b"material");
     if d.refusal != 0 {
         return d;
     }
@@ -141,4 +143,37 @@ pub(crate) fn material(text: &[u8], c: Cursor, out: &mut [i64], to: usize) -> Cu
     let r = material_fields(text, d.at, &mut row, &mut seen);
     chunks::store(out, to, &row);
     r
+}
+
+// One material or more, up to the closing bracket after them, to the table; numbers past its end are dropped.
+pub(crate) fn materials(text: &[u8], c: Cursor, out: &mut [i64]) -> Counted
+    ensures { λ r. ⌜ reads (now (text .entry)) (r .cursor) (r .count, now (out .exit)) ≡ from (now (text .entry)) c (materialsInto (now (out .entry))) ⌝ }
+{
+    let first = material_tail(text, chunks::opening(text, c), out, 0);
+    more_materials(text, first, out)
+}
+
+// The materials after the first.
+fn more_materials(text: &[u8], c: Cursor, out: &mut [i64]) -> Counted
+    ensures { λ r. ⌜ reads (now (text .entry)) (r .cursor) (r .count, now (out .exit)) ≡ from (now (text .entry)) c (folded (rowStep 9) material (1, now (out .entry))) ⌝ }
+{
+    let mut d = c;
+    let mut i = 9;
+    let mut count = 1;
+    loop {
+        let item = chunks::next_item(text, d);
+        let start = item.cursor;
+        if item.ended {
+            return Counted {
+                cursor: start,
+                count,
+            };
+        }
+        d = material_tail(text, start, out, i);
+        if d.refusal != 0 {
+            return Counted { cursor: d, count };
+        }
+        count += 1;
+        i = chunks::advance(i, 9, out.len());
+    }
 }

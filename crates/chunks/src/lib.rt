@@ -15,6 +15,7 @@ pub use cursor::opened;
 pub use cursor::opening;
 pub use lists::Counted;
 pub use lists::Item;
+pub use lists::advance;
 pub use lists::next_item;
 pub use lists::numbers;
 pub use lists::row;

@@ -1,20 +1,20 @@
--- `material` is a material's row, set down in the table.
+-- `material_tail` is a material's row, set down in the table.
 use mathlib.Core.Path.{_≡_, refl, ap, sym, _∙_}
 use Rattle.lexer.specs.Bytes.{bytes}
 use Rattle.bac6_parse.proofs.Materials.{unread-fields, unread-settled, material-off, material-on}
 use borrow.Author.Needs.{needs}
-use Rattle.bac6_parse.proofs.material.material.Statement.{statement}
-use Rattle.bac6_parse.proofs.material.material.Tie as tie
+use Rattle.bac6_parse.proofs.material.material_tail.Statement.{statement}
+use Rattle.bac6_parse.proofs.material.material_tail.Tie as tie
 
-slice-aggregate-opened : tie.Need-slice-aggregate-opened
-slice-aggregate-opened c = search needs
+slice-aggregate-keyword : tie.Need-slice-aggregate-keyword
+slice-aggregate-keyword c = search needs
 
-opened-requires : tie.Need-opened-requires
-opened-requires c κs = search needs
+keyword-requires : tie.Need-keyword-requires
+keyword-requires c κs = search needs
 
 returns : tie.Need-returns
 unfolding bytes
-returns c = material-off _ _ _ _ _ _ (c .before .before .opened .ensures) (c .if1 .taken)
+returns c = material-off _ _ _ _ _ _ (c .before .before .keyword .ensures) (c .if1 .taken)
 
 slice-aggregate-material-fields : tie.Need-slice-aggregate-material-fields
 slice-aggregate-material-fields c = search needs
@@ -40,14 +40,14 @@ returns-2 c =
     let f = c .before .before .before .before .before .before in
     let e = f .before .before .before in
     rw (c .before .store .ensures)
-    (material-on _ _ _ _ _ _ _ _ (e .before .before .opened .ensures) (e .if1 .left) (rw unread-fields at (f .material-fields .ensures .0)) (f .material-fields .ensures .1))
+    (material-on _ _ _ _ _ _ _ _ (e .before .before .keyword .ensures) (e .if1 .left) (rw unread-fields at (f .material-fields .ensures .0)) (f .material-fields .ensures .1))
 
-pub material-spec : {M : Type 1} → statement M
-material-spec =
+pub material-tail-spec : {M : Type 1} → statement M
+material-tail-spec =
     tie.close
     (tie.spec
-    slice-aggregate-opened
-    opened-requires
+    slice-aggregate-keyword
+    keyword-requires
     returns
     slice-aggregate-material-fields
     slice-aggregate-material-fields-2
