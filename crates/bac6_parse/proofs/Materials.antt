@@ -4,6 +4,7 @@ use mathlib.Core.List.{List, [], _∷_, map}
 use mathlib.Core.Bool.{Bool, true, false}
 use mathlib.Core.Option.{Option, none, some}
 use Prim.Native.Nat.{ℕ, zero, suc, _≤_, _<_}
+use Prim.Native.String.{String}
 use native.Mathlib.Omega.{arith}
 use lib.IntN.{ℤ, pos}
 use lib.ListN.{length, set, replicate}
@@ -13,11 +14,13 @@ use Rattle.lexer.specs.Tokens.{Lexeme, lexAt}
 use Rattle.chunks.specs.declared.cursor.Cursor.{Cursor}
 use Rattle.chunks.specs.Readers.{Got, Reader, after, _>>=_, _>>_, pure, open-bracket, keyword, wordOf, opened, openedOf, closed, number}
 use Rattle.chunks.specs.Cursors.{reads, from, overlayAt}
+use Rattle.chunks.proofs.Many.{Keeps, Takes, takes-keeps, pure-keeps, bind-keeps, bind-takes, then-keeps, then-takes, keyword-takes, opened-takes, closed-keeps, number-takes, one-of-takes}
+use Rattle.chunks.proofs.FieldKeeps.{AllKeep, fields-keeps}
 use Rattle.chunks.proofs.Binds.{then-assoc, then-bind}
 use Rattle.chunks.proofs.Steps.{join, seq, passed, from-on, from-off}
 use Rattle.chunks.specs.Fields.{Kind, kind, insideAt, fieldOf, fieldsOf, unread, fields, fieldsIn}
 use Rattle.chunks.specs.Words.{words, onto, keysOf, apart, differs}
-use Rattle.bac6_text.specs.Grammar.{materialKinds, truth, blend, orZero, material}
+use Rattle.bac6_text.specs.Grammar.{materialKinds, truth, blend, orZero, material, word}
 use Rattle.bac6_parse.specs.Into.{Settled, materialTail, materialInto}
 use Rattle.chunks.proofs.Choices.{fieldsOf-set}
 
@@ -112,3 +115,23 @@ unfolding material materialTail opened openedOf keyword after _>>=_ _>>_
 material-opens ms =
     ap (λ (g : Got (List (Option ℤ))). after g (λ fs. pure (map orZero fs))) (then-assoc open-bracket (wordOf (bytes "material")) (fields materialKinds) ms)
     ∙ then-bind open-bracket (wordOf (bytes "material") >> fields materialKinds) (λ fs. pure (map orZero fs)) ms
+
+word-keeps : (ks : List String) → Keeps (word ks)
+unfolding word
+word-keeps ks = bind-keeps (takes-keeps (one-of-takes ks)) (λ n. pure-keeps (pos n))
+
+kinds-keep : AllKeep materialKinds
+unfolding materialKinds kind blend truth
+kinds-keep =
+    let t = closed-keeps (word-keeps ("false" ∷ "true" ∷ [])) in
+    let i = closed-keeps (takes-keeps (number-takes INT)) in
+    let f = closed-keeps (takes-keeps (number-takes FLOAT)) in
+    (closed-keeps (word-keeps ("normal" ∷ "add" ∷ "sub" ∷ "half" ∷ [])), (t, (t, (t, (i, (i, (f, (f, (f, tt)))))))))
+
+pub material-keeps : Keeps materialTail
+unfolding materialTail
+material-keeps = bind-keeps (then-keeps (takes-keeps (keyword-takes "material")) (fields-keeps materialKinds kinds-keep)) (λ fs. pure-keeps (map orZero fs))
+
+pub material-takes : Takes material
+unfolding material
+material-takes = bind-takes (then-takes (opened-takes "material") (fields-keeps materialKinds kinds-keep)) (λ fs. pure-keeps (map orZero fs))

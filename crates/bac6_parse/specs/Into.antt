@@ -7,7 +7,7 @@ use lib.IntN.{ℤ}
 use Rattle.lexer.specs.declared.token.Span.{Span}
 use Rattle.chunks.specs.declared.cursor.Cursor.{Cursor}
 use Rattle.chunks.specs.Readers.{Reader, _>>=_, _>>_, pure, keyword}
-use Rattle.chunks.specs.Folds.{folded, stepped}
+use Rattle.chunks.specs.Folds.{folded, stepped, rowStep}
 use Rattle.chunks.specs.Fields.{fields, fieldsOf}
 use Rattle.chunks.specs.Cursors.{overlayAt}
 use Rattle.bac6_text.specs.Grammar.{orZero, materialKinds, material}
@@ -28,10 +28,6 @@ materialTail = keyword "material" >> fields materialKinds >>= λ fs. pure (map o
 -- its numbers, to a table from an index on
 unfoldable pub materialInto : ℕ → List ℤ → Reader (List ℤ)
 materialInto i table = materialTail >>= λ row. pure (overlayAt i row table)
-
--- a row of w numbers more, after n rows
-unfoldable pub rowStep : ℕ → ℕ × List ℤ → List ℤ → ℕ × List ℤ
-rowStep w s row = (s .0 + 1, overlayAt (s .0 * w) row (s .1))
 
 -- one material or more
 unfoldable pub materialsInto : List ℤ → Reader (ℕ × List ℤ)

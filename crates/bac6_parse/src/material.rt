@@ -8,8 +8,8 @@ ghost use Rattle.chunks.specs.Fields.{insideAt, kindFrom, fieldsIn, fieldsOf, n
 ghost use Rattle.chunks.specs.Cursors.{reads, from};
 ghost use Rattle.bac6_text.specs.Grammar.{materialKinds, material};
 ghost use Rattle.bac6_parse.specs.Closing.{closeWith};
-ghost use Rattle.bac6_parse.specs.Into.{Settled, closedAt, materialInto, rowStep, materialsInto};
-ghost use Rattle.chunks.specs.Folds.{folded};
+ghost use Rattle.bac6_parse.specs.Into.{Settled, closedAt, materialInto, materialsInto};
+ghost use Rattle.chunks.specs.Folds.{folded, rowStep};
 use chunks::Counted;
 use chunks::Cursor;
 use chunks::Form;

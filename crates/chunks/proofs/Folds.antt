@@ -2,17 +2,19 @@
 use mathlib.Core.Path.{_≡_, refl, ap, sym, _∙_}
 use mathlib.Core.List.{List, [], _∷_}
 use mathlib.Core.Bool.{Bool, true, false}
-use Prim.Native.Nat.{ℕ, _<_}
+use Prim.Native.Nat.{ℕ, _+_, _*_, _<_, min}
+use lib.IntN.{ℤ}
 use lib.ListN.{length}
 use Rattle.lexer.specs.Tokens.{Lexeme, lexAt}
 use Rattle.chunks.specs.declared.cursor.Cursor.{Cursor}
 use Rattle.chunks.specs.Readers.{Got, got, Reader, after, _>>=_, _>>_, pure, open-bracket, many}
-use Rattle.chunks.specs.Cursors.{from, reads}
+use Rattle.chunks.specs.Cursors.{from, reads, overlayAt}
 use Rattle.chunks.specs.Branches.{itemOf}
-use Rattle.chunks.specs.Folds.{fold, folded, stepped}
-use Rattle.chunks.proofs.Steps.{seq, from-same, from-bind, after-reads}
+use Rattle.chunks.specs.Folds.{fold, folded, stepped, rowStep}
+use Rattle.chunks.proofs.Steps.{join, seq, from-same, from-bind, after-reads}
 use Rattle.chunks.proofs.Binds.{after-after, after-same}
 use Rattle.chunks.proofs.Many.{Takes, Keeps, pure-keeps, bind-keeps, then-takes}
+use Rattle.chunks.proofs.Tables.{overlayAt-same}
 use Rattle.chunks.proofs.Counts.{falls}
 use Rattle.chunks.proofs.Branches.{items-end, items-more, item-takes}
 
@@ -40,3 +42,21 @@ module _ {A S : Type 0} (step : S → A → S) (r u : Reader A) (t : Takes r) (k
     pub folded-fall : e .refusal ≡ 0 → length (lexAt text (e .at)) < length (lexAt text (c .at))
     unfolding stepped
     folded-fall o = falls text c e (itemOf >> stepped step u s) x (then-takes item-takes (bind-keeps k (λ a. pure-keeps (step s a)))) (seq text c d e v x itemOf (stepped step u s) p q) o
+
+row-same : (u : Reader (List ℤ)) (w n i : ℕ) (t : List ℤ) (ms : List Lexeme) → min i (length t) ≡ min (n * w) (length t) → (u >>= (λ row. pure (overlayAt i row t)) >>= λ (y : List ℤ). pure (n + 1, y)) ms ≡ stepped (rowStep w) u (n, t) ms
+unfolding stepped rowStep _>>=_ pure after
+row-same u w n i t ms h =
+    after-after (u ms) (λ row. pure (overlayAt i row t)) (λ (y : List ℤ). pure (n + 1, y))
+    ∙ after-same (u ms) _ _ (λ row l. ap (λ (y : List ℤ). got (n + 1, y) l) (overlayAt-same i (n * w) row t h))
+
+-- ---- rows of w numbers, one after the other in a table
+
+-- a row set down at an index that is as good as that of row n
+pub row-stepped : (u : Reader (List ℤ)) (w n i : ℕ) (t t′ : List ℤ) (text : List ℕ) (d e : Cursor) → min i (length t) ≡ min (n * w) (length t) → reads text e t′ ≡ from text d (u >>= λ row. pure (overlayAt i row t)) → reads text e (n + 1, t′) ≡ from text d (stepped (rowStep w) u (n, t))
+unfolding reads
+row-stepped u w n i t t′ text d e h q =
+    join text d e e t′ (n + 1, t′) (u >>= λ row. pure (overlayAt i row t)) (λ (y : List ℤ). pure (n + 1, y)) q refl
+    ∙ from-same text d _ _ same
+  where
+    same : (ms : List Lexeme) → (u >>= (λ row. pure (overlayAt i row t)) >>= λ (y : List ℤ). pure (n + 1, y)) ms ≡ stepped (rowStep w) u (n, t) ms
+    same ms = row-same u w n i t ms h
