@@ -4,6 +4,7 @@
 //! Decimals are whole numbers of millionths throughout.
 #![forbid(unsafe_code)]
 
+pub mod compare;
 pub mod cursor;
 pub mod figure;
 pub mod figure_rules;

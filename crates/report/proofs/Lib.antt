@@ -1,0 +1,5 @@
+-- Laws that belong to no one function.
+pub mod Appending
+pub mod Numerals
+pub mod Lines
+pub mod Examples

@@ -1,0 +1,235 @@
+//! Another program's listings, compared with the listings of this reader.
+
+use crate::generate::{text, Kind};
+use crate::listing::{figure_listing, movement_listing};
+use std::collections::BTreeMap;
+use std::error::Error;
+use std::io::{self, ErrorKind, Write};
+use std::path::Path;
+use std::process::{Command, Stdio};
+use std::sync::atomic::{AtomicBool, AtomicU64, Ordering};
+use std::thread;
+
+/// How many programs run at a time.
+const THREADS: usize = 2;
+
+/// The texts that a comparison goes over.
+pub enum Texts {
+    Generated { kind: Kind, seed: u64, count: u64 },
+    Samples { figures: bool, files: Vec<Sample> },
+}
+
+pub struct Sample {
+    pub name: String,
+    pub text: Vec<u8>,
+}
+
+impl Texts {
+    /// The texts of a kind, a seed and a count; there must be one at least.
+    pub fn generated(kind: &str, seed: &str, count: &str) -> Result<Texts, Box<dyn Error>> {
+        let kind = Kind::from_word(kind).ok_or_else(|| format!("no such kind: {kind}"))?;
+        let (seed, count) = (seed.parse()?, count.parse()?);
+        if count == 0 {
+            return Err("no texts to compare".into());
+        }
+        Ok(Texts::Generated { kind, seed, count })
+    }
+
+    /// The papers' samples of a kind, as printed and mended.
+    pub fn samples(kind: &str) -> Result<Texts, Box<dyn Error>> {
+        let (figures, ending) = match kind {
+            "samples-figures" => (true, ".bac"),
+            "samples-movements" => (false, ".tra"),
+            _ => return Err(format!("no such kind: {kind}").into()),
+        };
+        let directory = Path::new(env!("CARGO_MANIFEST_DIR")).join("samples");
+        let mut files = Vec::new();
+        for part in ["", "mended/"] {
+            for entry in std::fs::read_dir(directory.join(part))? {
+                let entry = entry?;
+                let name = format!("{part}{}", entry.file_name().to_string_lossy());
+                if name.ends_with(ending) {
+                    let text = std::fs::read(entry.path())?;
+                    files.push(Sample { name, text });
+                }
+            }
+        }
+        if files.is_empty() {
+            return Err("no texts to compare".into());
+        }
+        files.sort_by(|one, other| one.name.cmp(&other.name));
+        Ok(Texts::Samples { figures, files })
+    }
+
+    pub fn count(&self) -> u64 {
+        match self {
+            Texts::Generated { count, .. } => *count,
+            Texts::Samples { files, .. } => files.len() as u64,
+        }
+    }
+
+    pub fn is_figure(&self) -> bool {
+        match self {
+            Texts::Generated { kind, .. } => kind.is_figure(),
+            Texts::Samples { figures, .. } => *figures,
+        }
+    }
+
+    pub fn text(&self, index: u64) -> Vec<u8> {
+        match self {
+            Texts::Generated { kind, seed, .. } => text(*kind, *seed, index),
+            Texts::Samples { files, .. } => files[index as usize].text.clone(),
+        }
+    }
+
+    /// What this reader prints of a text.
+    pub fn listing(&self, text: &[u8]) -> String {
+        if self.is_figure() {
+            figure_listing(text)
+        } else {
+            movement_listing(text)
+        }
+    }
+}
+
+/// What a program prints of the text on its standard input. A program may
+/// stop reading before the text ends.
+pub fn output(program: &Path, text: &[u8]) -> io::Result<Vec<u8>> {
+    let mut child = Command::new(program)
+        .stdin(Stdio::piped())
+        .stdout(Stdio::piped())
+        .spawn()?;
+    let mut stdin = child.stdin.take();
+    let output = thread::scope(|scope| {
+        let writer = scope.spawn(move || match stdin.take() {
+            Some(mut stdin) => stdin.write_all(text),
+            None => Ok(()),
+        });
+        let output = child.wait_with_output()?;
+        match writer.join() {
+            Ok(Err(error)) if error.kind() != ErrorKind::BrokenPipe => Err(error),
+            _ => Ok(output),
+        }
+    })?;
+    if !output.status.success() {
+        let status = output.status;
+        return Err(io::Error::other(format!("the program failed: {status}")));
+    }
+    Ok(output.stdout)
+}
+
+/// How many texts were accepted, and how many refused with each number.
+#[derive(Clone, Debug, Default, PartialEq, Eq)]
+pub struct Tally {
+    pub accepted: u64,
+    pub refused: BTreeMap<u8, u64>,
+}
+
+impl Tally {
+    fn count(&mut self, listing: &str) {
+        let mut words = listing.split(['\t', '\n']);
+        let refused = words.next() == Some("refused");
+        match words.next().and_then(|word| word.parse().ok()) {
+            Some(number) if refused => *self.refused.entry(number).or_default() += 1,
+            _ => self.accepted += 1,
+        }
+    }
+
+    fn add(&mut self, other: Tally) {
+        self.accepted += other.accepted;
+        for (number, count) in other.refused {
+            *self.refused.entry(number).or_default() += count;
+        }
+    }
+
+    pub fn total(&self) -> u64 {
+        self.accepted + self.refused.values().sum::<u64>()
+    }
+}
+
+/// A text of which a program prints something else, or fails.
+#[derive(Debug)]
+pub struct Difference {
+    pub index: u64,
+    pub text: Vec<u8>,
+    pub expected: String,
+    pub found: io::Result<Vec<u8>>,
+}
+
+/// Runs the program on every text, up to the first difference.
+pub fn compare(program: &Path, texts: &Texts) -> Result<Tally, Box<Difference>> {
+    let next = AtomicU64::new(0);
+    let stopped = AtomicBool::new(false);
+    let work = || {
+        let mut tally = Tally::default();
+        while !stopped.load(Ordering::Relaxed) {
+            let index = next.fetch_add(1, Ordering::Relaxed);
+            if index >= texts.count() {
+                break;
+            }
+            if let Err(difference) = compare_one(program, texts, index, &mut tally) {
+                stopped.store(true, Ordering::Relaxed);
+                return Err(difference);
+            }
+        }
+        Ok(tally)
+    };
+    let results: Vec<_> = thread::scope(|scope| {
+        let workers: Vec<_> = (0..THREADS).map(|_| scope.spawn(work)).collect();
+        let joined = workers.into_iter().map(|worker| worker.join());
+        joined
+            .map(|joined| joined.expect("no worker panics"))
+            .collect()
+    });
+    // Every text before a difference was run, so the lowest is the first.
+    let mut tally = Tally::default();
+    let mut first: Option<Box<Difference>> = None;
+    for result in results {
+        match result {
+            Ok(part) => tally.add(part),
+            Err(found) if first.as_ref().is_none_or(|first| found.index < first.index) => {
+                first = Some(found);
+            }
+            Err(_) => {}
+        }
+    }
+    first.map_or(Ok(tally), Err)
+}
+
+fn compare_one(
+    program: &Path,
+    texts: &Texts,
+    index: u64,
+    tally: &mut Tally,
+) -> Result<(), Box<Difference>> {
+    let text = texts.text(index);
+    let expected = texts.listing(&text);
+    let found = output(program, &text);
+    if matches!(&found, Ok(found) if found == expected.as_bytes()) {
+        tally.count(&expected);
+        return Ok(());
+    }
+    Err(Box::new(Difference {
+        index,
+        text,
+        expected,
+        found,
+    }))
+}
+
+/// The number of the first line in which two outputs differ, from 1, and the
+/// line in each; none where an output has ended.
+pub fn first_line<'a>(
+    expected: &'a [u8],
+    found: &'a [u8],
+) -> (usize, Option<&'a [u8]>, Option<&'a [u8]>) {
+    let mut expected = expected.split_inclusive(|&byte| byte == b'\n');
+    let mut found = found.split_inclusive(|&byte| byte == b'\n');
+    let mut number = 1;
+    loop {
+        match (expected.next(), found.next()) {
+            (Some(one), Some(other)) if one == other => number += 1,
+            (one, other) => return (number, one, other),
+        }
+    }
+}

@@ -1,0 +1,163 @@
+//! `compare` and `measure`, run on this reader's own programs and on wrong
+//! ones.
+
+use independent::compare::first_line;
+use independent::generate::{text, Kind};
+use independent::listing::figure_listing;
+use std::path::{Path, PathBuf};
+use std::process::{Command, Output};
+
+const FIGURE: &str = env!("CARGO_BIN_EXE_figure_listing");
+const MOVEMENT: &str = env!("CARGO_BIN_EXE_movement_listing");
+
+/// A directory of a test's own, to run in.
+fn directory(name: &str) -> PathBuf {
+    let path = Path::new(env!("CARGO_TARGET_TMPDIR")).join(name);
+    std::fs::create_dir_all(&path).unwrap();
+    path
+}
+
+/// A program that alters what `figure_listing` prints.
+fn wrong(name: &str) -> String {
+    let path = Path::new(env!("CARGO_MANIFEST_DIR")).join("tests/wrong");
+    path.join(name).to_str().unwrap().into()
+}
+
+fn compare(test: &str, arguments: &[&str]) -> Output {
+    Command::new(env!("CARGO_BIN_EXE_compare"))
+        .args(arguments)
+        .env("LISTING", FIGURE)
+        .current_dir(directory(test))
+        .output()
+        .unwrap()
+}
+
+fn printed(output: &Output) -> &str {
+    std::str::from_utf8(&output.stdout).unwrap()
+}
+
+fn agrees(arguments: &[&str]) -> String {
+    let output = compare("agrees", arguments);
+    assert!(output.status.success(), "{}", printed(&output));
+    assert_eq!(printed(&output).lines().count(), 1);
+    printed(&output).to_string()
+}
+
+/// What is printed of a difference; the exit status is 1.
+fn differs(test: &str, arguments: &[&str]) -> String {
+    let output = compare(test, arguments);
+    assert_eq!(output.status.code(), Some(1), "{}", printed(&output));
+    printed(&output).to_string()
+}
+
+#[test]
+fn this_reader_agrees_with_itself() {
+    let line = agrees(&[FIGURE, "sound-figures", "1", "50"]);
+    assert_eq!(line, "sound-figures, seed 1: 50 agreed, 50 accepted\n");
+    let line = agrees(&[FIGURE, "damaged-figures", "1", "300"]);
+    assert!(line.contains(": 300 agreed, "), "{line}");
+    assert!(line.contains(" refused with 13"), "{line}");
+    agrees(&[MOVEMENT, "sound-movements", "1", "30"]);
+    agrees(&[MOVEMENT, "damaged-movements", "1", "300"]);
+}
+
+#[test]
+fn this_reader_agrees_on_the_samples() {
+    let line = agrees(&[FIGURE, "samples-figures"]);
+    let counts = "4 agreed, 2 accepted, 2 refused with 5";
+    assert_eq!(line, format!("samples-figures: {counts}\n"));
+    let line = agrees(&[MOVEMENT, "samples-movements"]);
+    let counts = "6 agreed, 3 accepted, 3 refused with 5";
+    assert_eq!(line, format!("samples-movements: {counts}\n"));
+}
+
+#[test]
+fn a_dropped_line_differs() {
+    let program = wrong("last_line_dropped");
+    let report = differs("dropped", &[&program, "sound-figures", "9", "20"]);
+    assert!(
+        report.contains("sound-figures, seed 9, index 0\n"),
+        "{report}"
+    );
+    assert!(report.contains("\nfound:    nothing more\n"), "{report}");
+    let report = differs("dropped", &[&program, "samples-figures"]);
+    assert!(report.contains("sample mended/sample01.bac\n"), "{report}");
+}
+
+/// The first text with the fault is told, and kept byte for byte.
+#[test]
+fn the_first_difference_is_told_and_its_text_kept() {
+    let program = wrong("refusal_changed");
+    let report = differs("changed", &[&program, "damaged-figures", "6", "400"]);
+    let texts = (0..400).map(|index| text(Kind::DamagedFigures, 6, index));
+    let (index, text) = texts
+        .enumerate()
+        .find(|(_, text)| figure_listing(text).starts_with("refused\t5\t"))
+        .unwrap();
+    assert!(index > 0);
+    let expected = figure_listing(&text).trim_end().replace('\t', "\\t");
+    let found = expected.replace("refused\\t5", "refused\\t6");
+    let kept = format!("target/compare/damaged-figures-6-{index}.bac");
+    let lines = [
+        format!("{program} differs"),
+        format!("damaged-figures, seed 6, index {index}"),
+        "line 1".into(),
+        format!("expected: {expected}\\n"),
+        format!("found:    {found}\\n"),
+        format!("text: {kept}"),
+    ];
+    assert_eq!(report.lines().collect::<Vec<_>>(), lines);
+    assert_eq!(
+        std::fs::read(directory("changed").join(kept)).unwrap(),
+        text
+    );
+}
+
+#[test]
+fn a_program_that_fails_or_is_missing_differs() {
+    let report = differs("fails", &[&wrong("status_of_3"), "sound-figures", "1", "3"]);
+    assert!(report.contains("exit status: 3"), "{report}");
+    let report = differs("fails", &["./missing", "sound-figures", "1", "3"]);
+    assert!(report.contains("error: "), "{report}");
+}
+
+#[test]
+fn a_comparison_of_nothing_is_an_error() {
+    for arguments in [
+        &[FIGURE, "sound-figures", "1", "0"][..],
+        &[FIGURE, "sound-figures", "1"],
+        &[FIGURE, "unknown", "1", "1"],
+        &[FIGURE, "samples"],
+        &[],
+    ] {
+        assert!(!compare("nothing", arguments).status.success());
+    }
+}
+
+#[test]
+fn the_first_line_that_differs() {
+    let line = |text: &'static str| Some(text.as_bytes());
+    assert_eq!(
+        first_line(b"a\nb\n", b"a\nc\n"),
+        (2, line("b\n"), line("c\n"))
+    );
+    assert_eq!(first_line(b"a\nb\n", b"a\n"), (2, line("b\n"), None));
+    assert_eq!(first_line(b"a\n", b"a\nb"), (2, None, line("b")));
+    assert_eq!(first_line(b"a\n", b"a"), (1, line("a\n"), line("a")));
+}
+
+#[test]
+fn measure_prints_a_ratio() {
+    let measure = |program: &str| {
+        Command::new(env!("CARGO_BIN_EXE_measure"))
+            .arg(program)
+            .env("LISTING", FIGURE)
+            .output()
+            .unwrap()
+    };
+    let output = measure(FIGURE);
+    assert!(output.status.success());
+    assert!(printed(&output).contains(" ms, ratio "));
+    assert_eq!(printed(&output).lines().count(), 1);
+    assert!(!measure(&wrong("last_line_dropped")).status.success());
+}
