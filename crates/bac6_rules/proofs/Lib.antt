@@ -3,3 +3,4 @@ pub mod Numbers
 pub mod Tables
 pub mod Materials
 pub mod Faces
+pub mod Owners

@@ -2,6 +2,7 @@
 mod face;
 mod material;
 mod number;
+mod owner;
 
 pub use face::UvRow;
 pub use face::VertexRow;
@@ -14,3 +15,4 @@ pub use number::is_index;
 pub use number::is_level;
 pub use number::is_none;
 pub use number::is_row;
+pub use owner::claim;
