@@ -4,3 +4,5 @@ pub mod Tables
 pub mod Materials
 pub mod Faces
 pub mod Owners
+pub mod Placing
+pub mod Walks

@@ -1,4 +1,5 @@
 // Rules 10 to 13 of a figure, over tables of rows (document 01, "Refusal numbers").
+mod bone;
 mod face;
 mod material;
 mod number;
