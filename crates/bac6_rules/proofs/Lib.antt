@@ -6,3 +6,4 @@ pub mod Faces
 pub mod Owners
 pub mod Placing
 pub mod Walks
+pub mod Whole

@@ -1,6 +1,6 @@
 // Rule 10: the bones as one list, each with its parent.
 ghost use mathlib.Core.Path.{_≡_};
-ghost use Prim.Native.Nat.{suc, _-_, _*_, _≤_};
+ghost use Prim.Native.Nat.{suc, min, _-_, _*_, _/_, _≤_};
 ghost use lib.ListN.{length, drop};
 ghost use Rattle.lexer.specs.Answers.{refusal};
 ghost use Rattle.bac6_text.specs.Rules.{boneList, wholeList, bonesFault};
@@ -11,6 +11,38 @@ use lexer::Checked;
 enum Walk {
     At(usize),
     Short,
+}
+
+// The first `count` rows of 14 as one list, with each row's parent set into column 11; a row that is not whole is no bone.
+// Where the rows run out, which of their parents are set is free, and nothing else is altered.
+pub fn place_bones(table: &mut [i64], count: usize) -> Checked
+    ensures answer { λ r. ⌜ refusal r ≡ bonesFault (flagsIn count (now (table .entry))) ⌝ }
+    ensures content { λ r. ⌜ Settled count (now (table .entry)) (now (table .exit)) (wholeList (flagsIn count (now (table .entry)))) ⌝ }
+{
+    let rows = whole_rows(table.len(), count);
+    match bones(table, rows, 0, -1) {
+        Walk::Short => Checked::Refused {
+            number: 10,
+            offset: rows,
+        },
+        Walk::At(next) => {
+            if next < rows {
+                return Checked::Refused {
+                    number: 10,
+                    offset: next,
+                };
+            }
+            Checked::Clear
+        }
+    }
+}
+
+// How many rows of 14 there are, at most `count`.
+fn whole_rows(numbers: usize, count: usize) -> usize
+    ensures { λ r. ⌜ r ≡ min count (numbers / 14) ⌝ }
+{
+    let whole = numbers / 14;
+    if whole < count { whole } else { count }
 }
 
 // A bone and its children's list.

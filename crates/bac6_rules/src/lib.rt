@@ -5,6 +5,7 @@ mod material;
 mod number;
 mod owner;
 
+pub use bone::place_bones;
 pub use face::UvRow;
 pub use face::VertexRow;
 pub use face::face_fault;
