@@ -7,3 +7,4 @@ pub mod Owners
 pub mod Placing
 pub mod Walks
 pub mod Whole
+pub mod Claims
