@@ -1,0 +1,10 @@
+-- Laws that belong to no one function.
+pub mod Numbers
+pub mod Tables
+pub mod Materials
+pub mod Faces
+pub mod Owners
+pub mod Placing
+pub mod Walks
+pub mod Whole
+pub mod Claims

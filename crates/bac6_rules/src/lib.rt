@@ -1,0 +1,20 @@
+// Rules 10 to 13 of a figure, over tables of rows (document 01, "Refusal numbers").
+mod bone;
+mod face;
+mod material;
+mod number;
+mod owner;
+
+pub use bone::place_bones;
+pub use face::UvRow;
+pub use face::VertexRow;
+pub use face::face_fault;
+pub use face::is_uv;
+pub use face::is_vertex;
+pub use face::no_uv;
+pub use material::material_fault;
+pub use number::is_index;
+pub use number::is_level;
+pub use number::is_none;
+pub use number::is_row;
+pub use owner::claim;

@@ -1,0 +1,51 @@
+// Rule 12: a material's indices and levels.
+ghost use mathlib.Core.Path.{_≡_};
+ghost use lib.ListN.{length};
+ghost use Rattle.lexer.specs.Answers.{refusal};
+ghost use Rattle.bac6_text.specs.Rules.{materialFine, firstBad};
+ghost use Rattle.bac6_rules.specs.Rows.{rowsOf};
+use crate::number::is_index;
+use crate::number::is_level;
+use lexer::Checked;
+
+// The first of `count` rows of 9 that breaks the rule; a row that is not whole is not looked at.
+pub fn material_fault(table: &[i64], count: usize, textures: usize, colours: usize) -> Checked
+    ensures { λ r. ⌜ refusal r ≡ firstBad 12 (materialFine textures colours) 0 (rowsOf 9 count (now (table .entry))) ⌝ }
+{
+    let mut base = 0;
+    let mut row = 0;
+    while row < count {
+        if table.len() - base < 9 {
+            return Checked::Clear;
+        }
+        let next = base + 9;
+        if !is_fine(&table[base..next], textures, colours) {
+            return Checked::Refused {
+                number: 12,
+                offset: row,
+            };
+        }
+        base = next;
+        row += 1;
+    }
+    Checked::Clear
+}
+
+fn is_fine(m: &[i64], textures: usize, colours: usize) -> bool
+    requires { ⌜ length (now m) ≡ 9 ⌝ }
+    ensures { λ r. ⌜ r ≡ materialFine textures colours (now (m .entry)) ⌝ }
+{
+    if !is_index(textures, m[4]) {
+        return false;
+    }
+    if !is_index(colours, m[5]) {
+        return false;
+    }
+    if !is_level(m[6]) {
+        return false;
+    }
+    if !is_level(m[7]) {
+        return false;
+    }
+    is_level(m[8])
+}
