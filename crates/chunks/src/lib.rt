@@ -2,6 +2,7 @@
 mod cursor;
 mod lists;
 mod numerals;
+mod optionals;
 mod words;
 
 pub use cursor::Cursor;
@@ -21,5 +22,8 @@ pub use lists::rows;
 pub use numerals::Form;
 pub use numerals::Numeric;
 pub use numerals::number;
+pub use optionals::Start;
+pub use optionals::optional;
+pub use optionals::trailing;
 pub use words::one_of;
 pub use words::word_index;
