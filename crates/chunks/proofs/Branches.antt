@@ -187,3 +187,20 @@ module _ {A : Type 0} (k : String) (a : A) (r : Reader A) where
       pub trailing-no : v ≡ false → reads text d a ≡ from text c (trailing k a r)
       unfolding reads
       trailing-no h = sym (from-same text c _ _ trailing-pick ∙ chosen-no text c d (lastOf (bytes k)) v p r (pure a) h)
+
+-- a value that is only put into another form
+pub optional-map : {A B : Type 0} (k : String) (a : A) (r : Reader A) (g : A → B) (ms : List Lexeme) → (optional k a r >>= λ x. pure (g x)) ms ≡ optional k (g a) (r >>= λ x. pure (g x)) ms
+unfolding optional _>>=_ after pure
+optional-map {A} {B} k a r g ms = go (starts (bytes k) ms) refl
+  where
+    go : (v : Bool) → starts (bytes k) ms ≡ v → (optional k a r >>= λ x. pure (g x)) ms ≡ optional k (g a) (r >>= λ x. pure (g x)) ms
+    go true e = rw (e, optional)
+    go false e = rw (e, optional)
+
+pub trailing-map : {A B : Type 0} (k : String) (a : A) (r : Reader A) (g : A → B) (ms : List Lexeme) → (trailing k a r >>= λ x. pure (g x)) ms ≡ trailing k (g a) (r >>= λ x. pure (g x)) ms
+unfolding trailing _>>=_ _>>_ after pure
+trailing-map {A} {B} k a r g ms = go (isOpening (tokenOf ms)) refl
+  where
+    go : (v : Bool) → isOpening (tokenOf ms) ≡ v → (trailing k a r >>= λ x. pure (g x)) ms ≡ trailing k (g a) (r >>= λ x. pure (g x)) ms
+    go true e = rw (e, trailing) (after-after (opened k ms) (λ _. r) _)
+    go false e = rw (e, trailing)

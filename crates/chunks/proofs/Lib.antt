@@ -10,3 +10,4 @@ pub mod Many
 pub mod Counts
 pub mod Given
 pub mod Branches
+pub mod NameSteps

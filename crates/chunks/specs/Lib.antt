@@ -5,3 +5,4 @@ pub mod Words
 pub mod Answers
 pub mod Into
 pub mod Branches
+pub mod Places

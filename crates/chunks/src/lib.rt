@@ -1,6 +1,7 @@
 // Readers that figures and movements share: chunks, keywords, numbers, names and rows.
 mod cursor;
 mod lists;
+mod naming;
 mod numerals;
 mod optionals;
 mod words;
@@ -19,6 +20,9 @@ pub use lists::next_item;
 pub use lists::numbers;
 pub use lists::row;
 pub use lists::rows;
+pub use naming::Named;
+pub use naming::name;
+pub use naming::optional_name;
 pub use numerals::Form;
 pub use numerals::Numeric;
 pub use numerals::number;
