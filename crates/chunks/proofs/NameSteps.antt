@@ -11,7 +11,7 @@ use Rattle.lexer.specs.declared.token.Span.{Span}
 use Rattle.lexer.specs.Answers.{Next, lexemeOf, spanAt, spanOf}
 use Rattle.lexer.proofs.Spans.{after-more}
 use Rattle.chunks.specs.declared.cursor.Cursor.{Cursor}
-use Rattle.chunks.specs.Readers.{got, after, pure, stop, tokenOf, closed, Name, absent, nameAt, string, optional}
+use Rattle.chunks.specs.Readers.{got, after, _>>=_, pure, stop, tokenOf, closed, Name, absent, nameAt, string, optional}
 use Rattle.chunks.specs.Cursors.{reads, from}
 use Rattle.chunks.specs.Places.{isQuoted, placeOf, stringOf, nameOf, optionalName}
 use Rattle.chunks.proofs.Steps.{from-on, from-off, reads-on, next-token, next-stop, live}
