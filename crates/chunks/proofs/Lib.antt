@@ -11,3 +11,4 @@ pub mod Counts
 pub mod Given
 pub mod Branches
 pub mod NameSteps
+pub mod HeadSteps

@@ -1,5 +1,6 @@
 // Readers that figures and movements share: chunks, keywords, numbers, names and rows.
 mod cursor;
+mod heading;
 mod lists;
 mod naming;
 mod numerals;
@@ -14,6 +15,8 @@ pub use cursor::is_plain;
 pub use cursor::keyword;
 pub use cursor::opened;
 pub use cursor::opening;
+pub use heading::head;
+pub use heading::text_end;
 pub use lists::Counted;
 pub use lists::Item;
 pub use lists::next_item;
