@@ -1,19 +1,25 @@
 -- What stands in each chunk of a material, and which chunk a token opens.
 use mathlib.Core.Path.{_≡_, refl, ap, sym, _∙_}
-use mathlib.Core.List.{List, [], _∷_}
+use mathlib.Core.List.{List, [], _∷_, map}
 use mathlib.Core.Bool.{Bool, true, false}
 use mathlib.Core.Option.{Option, none, some}
 use Prim.Native.Nat.{ℕ, zero, suc, _≤_, _<_}
 use native.Mathlib.Omega.{arith}
-use lib.IntN.{ℤ}
+use lib.IntN.{ℤ, pos}
+use lib.ListN.{length, set, replicate}
 use Rattle.lexer.specs.Numbers.{INT, FLOAT}
-use Rattle.lexer.specs.Bytes.{bytes, same}
-use Rattle.lexer.specs.Tokens.{Token}
-use Rattle.chunks.specs.Readers.{Reader, closed, number}
-use Rattle.chunks.specs.Fields.{Kind, kind, insideAt, hits, single}
-use Rattle.chunks.specs.Words.{indexIn, keysOf, apart, differs}
-use Rattle.chunks.proofs.Vocabulary.{hits-index}
-use Rattle.bac6_text.specs.Grammar.{materialKinds, truth, blend}
+use Rattle.lexer.specs.Bytes.{bytes, same, inWord}
+use Rattle.lexer.specs.Tokens.{Lexeme, lexAt}
+use Rattle.chunks.specs.declared.cursor.Cursor.{Cursor}
+use Rattle.chunks.specs.Readers.{Got, Reader, after, _>>=_, _>>_, pure, open-bracket, keyword, wordOf, opened, openedOf, closed, number}
+use Rattle.chunks.specs.Cursors.{reads, from, overlayAt}
+use Rattle.chunks.proofs.Binds.{then-assoc, then-bind}
+use Rattle.chunks.proofs.Steps.{join, seq, passed, from-on, from-off}
+use Rattle.chunks.specs.Fields.{Kind, kind, insideAt, fieldOf, fieldsOf, unread, fields, fieldsIn}
+use Rattle.chunks.specs.Words.{words, onto, keysOf, apart, differs}
+use Rattle.bac6_text.specs.Grammar.{materialKinds, truth, blend, orZero, material}
+use Rattle.bac6_parse.specs.Into.{Settled, materialTail, materialInto}
+use Rattle.chunks.proofs.Choices.{fieldsOf-set}
 
 pub inside-truth : (k : ℕ) → (k ≡ 0 → ⊥) → k < 4 → insideAt materialKinds k ≡ closed truth
 unfolding insideAt materialKinds kind
@@ -46,7 +52,63 @@ inside-level (suc (suc (suc (suc (suc (suc (suc zero))))))) h l = refl
 inside-level (suc (suc (suc (suc (suc (suc (suc (suc zero)))))))) h l = refl
 inside-level (suc (suc (suc (suc (suc (suc (suc (suc (suc k))))))))) h l = absurd (omega arith)
 
--- the keywords are nine, and no two are the same
-pub material-hits : (t : Token) → hits materialKinds t ≡ single 9 (indexIn t (keysOf materialKinds))
+-- the keywords as one text, and no two are the same
+pub material-words : words (bytes "blendMode doubleFace transparent lighting textureIndex colorIndex specular alpha shininess") ≡ keysOf materialKinds
+unfolding materialKinds kind keysOf words onto inWord bytes
+material-words = refl
+
+pub material-apart : apart (keysOf materialKinds) ≡ true
 unfolding materialKinds kind keysOf apart differs same bytes
-material-hits t = hits-index materialKinds t refl
+material-apart = refl
+
+pub material-count : length materialKinds ≡ 9
+unfolding materialKinds
+material-count = refl
+
+-- ---- fields that have not been read are 0
+
+map-set : {A B : Type 0} (f : A → B) (l : List A) (k : ℕ) (a : A) → map f (set l k a) ≡ set (map f l) k (f a)
+map-set f [] k a = refl
+map-set f (x ∷ l) zero a = refl
+map-set f (x ∷ l) (suc k) a = ap (λ m. f x ∷ m) (map-set f l k a)
+
+pub settled-set : (seen : List Bool) (row : List ℤ) (k : ℕ) (z : ℤ) → length seen ≡ length row → Settled seen row → Settled (set seen k true) (set row k z)
+unfolding orZero
+settled-set seen row k z l s = rw (fieldsOf-set seen row k z l, map-set orZero (fieldsOf seen row) k (some z), s)
+
+-- ---- a whole material
+
+pub unread-fields : fieldsOf (replicate 9 false) (replicate 9 (pos 0)) ≡ unread materialKinds
+unfolding fieldsOf fieldOf unread materialKinds
+unread-fields = refl
+
+pub unread-settled : Settled (replicate 9 false) (replicate 9 (pos 0))
+unfolding fieldsOf fieldOf orZero
+unread-settled = refl
+
+module _ (text : List ℕ) (c d r : Cursor) (gs : List (Option ℤ)) (o : reads text d tt ≡ from text c (wordOf (bytes "material"))) (i : ℕ) (table : List ℤ) where
+  material-from : reads text r gs ≡ from text d (fields materialKinds) → reads text r (overlayAt i (map orZero gs) table) ≡ from text c (materialInto i table)
+  unfolding materialInto materialTail keyword reads
+  material-from q =
+      join text c r r (map orZero gs) _ materialTail (λ (row : List ℤ). pure (overlayAt i row table))
+      (join text c r r gs _ (keyword "material" >> fields materialKinds) (λ (fs : List (Option ℤ)). pure (map orZero fs))
+      (seq text c d r tt gs (wordOf (bytes "material")) (fields materialKinds) o q) refl) refl
+
+-- refused before its first chunk
+pub material-off : (text : List ℕ) (c d : Cursor) (i : ℕ) (table : List ℤ) (any : List ℤ) → reads text d tt ≡ from text c (wordOf (bytes "material")) → (d .refusal ≡ 0 → ⊥) → reads text d any ≡ from text c (materialInto i table)
+unfolding reads
+material-off text c d i table any o n = from-off text d (pure any) n ∙ sym (from-off text d _ n) ∙ material-from text c d d [] o i table (passed text d [] (fields materialKinds) n)
+
+-- read to its closing bracket, or refused at one of its chunks
+pub material-on : (text : List ℕ) (c d r : Cursor) (seen : List Bool) (row : List ℤ) (i : ℕ) (table : List ℤ) → reads text d tt ≡ from text c (wordOf (bytes "material")) → d .refusal ≡ 0 → reads text r (fieldsOf seen row) ≡ fieldsIn 9 materialKinds (unread materialKinds) (lexAt text (d .at)) → Settled seen row → reads text r (overlayAt i row table) ≡ from text c (materialInto i table)
+material-on text c d r seen row i table o n q s =
+    ap (λ (zs : List ℤ). reads text r (overlayAt i zs table)) (sym s)
+    ∙ material-from text c d r (fieldsOf seen row) o i table (q ∙ sym (from-on text d (fields materialKinds) n ∙ unfold fields materialKinds in refl))
+
+-- ---- many materials
+
+pub material-opens : (ms : List Lexeme) → material ms ≡ (open-bracket >> materialTail) ms
+unfolding material materialTail opened openedOf keyword after _>>=_ _>>_
+material-opens ms =
+    ap (λ (g : Got (List (Option ℤ))). after g (λ fs. pure (map orZero fs))) (then-assoc open-bracket (wordOf (bytes "material")) (fields materialKinds) ms)
+    ∙ then-bind open-bracket (wordOf (bytes "material") >> fields materialKinds) (λ fs. pure (map orZero fs)) ms

@@ -4,13 +4,17 @@ ghost use mathlib.Core.Bool.{Bool};
 ghost use Prim.Native.Nat.{ℕ, _<_};
 ghost use lib.ListN.{length};
 ghost use Rattle.lexer.specs.Tokens.{lexAt};
-ghost use Rattle.chunks.specs.Fields.{insideAt, kindFrom, fields, fieldsOf};
+ghost use Rattle.chunks.specs.Fields.{insideAt, kindFrom, fieldsIn, fieldsOf, neededOf, coversAll};
 ghost use Rattle.chunks.specs.Cursors.{reads, from};
-ghost use Rattle.bac6_text.specs.Grammar.{materialKinds};
+ghost use Rattle.bac6_text.specs.Grammar.{materialKinds, material};
 ghost use Rattle.bac6_parse.specs.Closing.{closeWith};
+ghost use Rattle.bac6_parse.specs.Into.{Settled, closedAt, materialInto, rowStep, materialsInto};
+ghost use Rattle.chunks.specs.Folds.{folded};
+use chunks::Counted;
 use chunks::Cursor;
 use chunks::Form;
 use chunks::Numeric;
+use lexer::Span;
 
 // The value in the chunk of column k, and the closing bracket.
 fn material_value(text: &[u8], c: Cursor, k: usize) -> Numeric
@@ -44,6 +48,7 @@ fn close(text: &[u8], n: Numeric) -> Numeric
 fn material_chunk(text: &[u8], at: usize, row: &mut [i64], seen: &mut [bool]) -> Cursor
     requires { ⌜ (length (now row) ≡ 9) × (length (now seen) ≡ 9) ⌝ }
     ensures { λ r. ⌜ reads (now (text .entry)) r (fieldsOf (now (seen .exit)) (now (row .exit))) ≡ kindFrom materialKinds (fieldsOf (now (seen .entry)) (now (row .entry))) (lexAt (now (text .entry)) at) ⌝ }
+    ensures { λ r. ⌜ (Settled (now (seen .entry)) (now (row .entry)) → Settled (now (seen .exit)) (now (row .exit))) ⌝ }
 {
     let t = lexer::next(text, at);
     let refused = Cursor {
@@ -70,4 +75,105 @@ fn material_chunk(text: &[u8], at: usize, row: &mut [i64], seen: &mut [bool]) ->
     row[k] = value;
     seen[k] = true;
     v.cursor
+}
+
+// The chunks of a material up to its closing bracket.
+fn material_fields(text: &[u8], at: usize, row: &mut [i64], seen: &mut [bool]) -> Cursor
+    requires { ⌜ (length (now row) ≡ 9) × (length (now seen) ≡ 9) ⌝ }
+    requires { ⌜ Settled (now seen) (now row) ⌝ }
+    ensures { λ r. ⌜ reads (now (text .entry)) r (fieldsOf (now (seen .exit)) (now (row .exit))) ≡ fieldsIn 9 materialKinds (fieldsOf (now (seen .entry)) (now (row .entry))) (lexAt (now (text .entry)) at) ⌝ }
+    ensures { λ r. ⌜ Settled (now (seen .exit)) (now (row .exit)) ⌝ }
+{
+    let mut from = at;
+    let mut left: usize = 9;
+    loop {
+        let t = lexer::next(text, from);
+        let kind = t.kind;
+        let refused = Cursor {
+            refusal: 5,
+            at: t.start,
+        };
+        if chunks::is_closing(kind) {
+            return closed_at(t, seen);
+        }
+        if left == 0 {
+            return refused;
+        }
+        if !chunks::is_opening(kind) {
+            return refused;
+        }
+        let m = material_chunk(text, t.end, row, seen);
+        if m.refusal != 0 {
+            return m;
+        }
+        from = m.at;
+        left -= 1;
+    }
+}
+
+// The closing bracket of a material: all but `alpha` and `shininess` must have stood.
+fn closed_at(t: Span, seen: &[bool]) -> Cursor
+    ensures { λ r. ⌜ r ≡ closedAt t (coversAll (neededOf materialKinds) (now (seen .entry))) ⌝ }
+{
+    if chunks::covers(
+        &[true, true, true, true, true, true, true, false, false],
+        seen,
+    ) {
+        return Cursor {
+            refusal: 0,
+            at: t.end,
+        };
+    }
+    Cursor {
+        refusal: 5,
+        at: t.start,
+    }
+}
+
+// What stands in a material after its opening bracket, its nine numbers to the table from index `to` on.
+fn material_tail(text: &[u8], c: Cursor, out: &mut [i64], to: usize) -> Cursor
+    ensures { λ r. ⌜ reads (now (text .entry)) r (now (out .exit)) ≡ from (now (text .entry)) c (materialInto to (now (out .entry))) ⌝ }
+{
+    let d = chunks::keyword(text, c, b"material");
+    if d.refusal != 0 {
+        return d;
+    }
+    let mut row = [0i64; 9];
+    let mut seen = [false; 9];
+    let r = material_fields(text, d.at, &mut row, &mut seen);
+    chunks::store(out, to, &row);
+    r
+}
+
+// One material or more, up to the closing bracket after them, to the table; numbers past its end are dropped.
+pub(crate) fn materials(text: &[u8], c: Cursor, out: &mut [i64]) -> Counted
+    ensures { λ r. ⌜ reads (now (text .entry)) (r .cursor) (r .count, now (out .exit)) ≡ from (now (text .entry)) c (materialsInto (now (out .entry))) ⌝ }
+{
+    let first = material_tail(text, chunks::opening(text, c), out, 0);
+    more_materials(text, first, out)
+}
+
+// The materials after the first.
+fn more_materials(text: &[u8], c: Cursor, out: &mut [i64]) -> Counted
+    ensures { λ r. ⌜ reads (now (text .entry)) (r .cursor) (r .count, now (out .exit)) ≡ from (now (text .entry)) c (folded (rowStep 9) material (1, now (out .entry))) ⌝ }
+{
+    let mut d = c;
+    let mut i = 9;
+    let mut count = 1;
+    loop {
+        let item = chunks::next_item(text, d);
+        let start = item.cursor;
+        if item.ended {
+            return Counted {
+                cursor: start,
+                count,
+            };
+        }
+        d = material_tail(text, start, out, i);
+        if d.refusal != 0 {
+            return Counted { cursor: d, count };
+        }
+        count += 1;
+        i = chunks::advance(i, 9, out.len());
+    }
 }

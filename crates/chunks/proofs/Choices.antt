@@ -122,13 +122,12 @@ fieldsOf-set (b ∷ seen) [] k a e = absurd (omega arith)
 fieldsOf-set (b ∷ seen) (z ∷ row) zero a e = refl
 fieldsOf-set (b ∷ seen) (z ∷ row) (suc k) a e = ap (λ (l : List (Option _)). fieldOf b z ∷ l) (fieldsOf-set seen row k a (omega arith))
 
-pub fieldsOf-unread : {A : Type 0} (seen : List Bool) (row : List A) (k : ℕ) → getD seen k true ≡ false → length seen ≡ length row → getD (fieldsOf seen row) k none ≡ none
+pub fieldsOf-unread : {A : Type 0} (seen : List Bool) (row : List A) (k : ℕ) → getD seen k false ≡ false → getD (fieldsOf seen row) k none ≡ none
 unfolding fieldsOf fieldOf
-fieldsOf-unread [] [] k e l = refl
-fieldsOf-unread [] (z ∷ row) k e l = refl
-fieldsOf-unread (b ∷ seen) [] k e l = refl
-fieldsOf-unread (b ∷ seen) (z ∷ row) zero e l = rw (e, fieldOf)
-fieldsOf-unread (b ∷ seen) (z ∷ row) (suc k) e l = fieldsOf-unread seen row k e (omega arith)
+fieldsOf-unread [] row k e = refl
+fieldsOf-unread (b ∷ seen) [] k e = refl
+fieldsOf-unread (b ∷ seen) (z ∷ row) zero e = rw (e, fieldOf)
+fieldsOf-unread (b ∷ seen) (z ∷ row) (suc k) e = fieldsOf-unread seen row k e
 
 pub fieldsOf-read : {A : Type 0} (seen : List Bool) (row : List A) (k : ℕ) (d : A) → getD seen k false ≡ true → length seen ≡ length row → getD (fieldsOf seen row) k none ≡ some (getD row k d)
 unfolding fieldsOf fieldOf

@@ -31,12 +31,12 @@ not-got n p a l e = let z : _≡_ {A = ℕ} 0 1 = cc in omega arith
 pub got-rest : {A : Type 0} (a b : A) (l k : List Lexeme) → got a l ≡ got b k → length k ≡ length l
 got-rest a b l k e = let h : k ≡ l = cc in ap length h
 
-stop-not : {A : Type 0} (n : ℕ) (ms : List Lexeme) (a : A) (l : List Lexeme) → stop n ms ≡ got a l → ⊥
+pub stop-not : {A : Type 0} (n : ℕ) (ms : List Lexeme) (a : A) (l : List Lexeme) → stop n ms ≡ got a l → ⊥
 unfolding stop
 stop-not n [] a l e = not-got n 0 a l e
 stop-not n (m ∷ ms) a l e = not-got n (m .offset) a l e
 
-rest-short : (ms : List Lexeme) → length (rest ms) ≤ length ms
+pub rest-short : (ms : List Lexeme) → length (rest ms) ≤ length ms
 unfolding rest
 rest-short [] = omega arith
 rest-short (m ∷ ms) = omega arith

@@ -86,3 +86,13 @@ unfoldable pub fieldsOf : {A : Type 0} → List Bool → List A → List (Option
 fieldsOf [] row = []
 fieldsOf (b ∷ seen) [] = []
 fieldsOf (b ∷ seen) (a ∷ row) = fieldOf b a ∷ fieldsOf seen row
+
+-- which kinds must stand, and whether flags cover those that must
+unfoldable pub neededOf : {A : Type 0} → List (Kind A) → List Bool
+neededOf [] = []
+neededOf (k ∷ ks) = k .needed ∷ neededOf ks
+
+unfoldable pub coversAll : List Bool → List Bool → Bool
+coversAll [] seen = true
+coversAll (n ∷ ns) [] = true
+coversAll (n ∷ ns) (b ∷ seen) = (not n || b) && coversAll ns seen

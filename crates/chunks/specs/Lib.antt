@@ -2,6 +2,7 @@ pub mod Readers
 pub mod Fields
 pub mod Cursors
 pub mod Words
+pub mod Folds
 pub mod Answers
 pub mod Into
 pub mod Branches

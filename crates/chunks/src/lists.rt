@@ -123,7 +123,7 @@ pub fn next_item(text: &[u8], c: Cursor) -> Item
 }
 
 // The index `width` on, in a table of n numbers; past its end any index is as good as another.
-fn advance(i: usize, width: usize, n: usize) -> usize
+pub fn advance(i: usize, width: usize, n: usize) -> usize
     ensures { λ r. ⌜ min r n ≡ min (i + width) n ⌝ }
 {
     if n <= i {

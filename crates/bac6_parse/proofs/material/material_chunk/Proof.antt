@@ -1,63 +1,80 @@
+-- `material_chunk` reads the field of its keyword: by the keyword's row in the list, and whether that field has been read.
+use mathlib.Core.Path.{_≡_, refl, sym, _∙_}
+use Prim.Native.Nat.{_<_}
+use native.Mathlib.Omega.{arith}
+use denote.Ref.{now}
+use lib.IntN.{pos}
+use mir.Syntax.{w64}
+use mir.Facts.{toZ-ofZ}
+use Rattle.lexer.specs.Bytes.{bytes}
+use Rattle.chunks.proofs.Choices.{fieldsOf-length, fieldsOf-set, fieldsOf-unread, fieldsOf-read}
+use Rattle.chunks.proofs.Vocabulary.{chunk-other, chunk-again, chunk-took}
+use Rattle.bac6_text.specs.Grammar.{materialKinds}
+use Rattle.bac6_parse.proofs.Materials.{material-words, material-apart, material-count, settled-set}
 use borrow.Author.Needs.{needs}
 use Rattle.bac6_parse.proofs.material.material_chunk.Statement.{statement}
 use Rattle.bac6_parse.proofs.material.material_chunk.Tie as tie
-use Rattle.bac6_parse.proofs.material.material_chunk.Reads as reads
-use Rattle.bac6_parse.proofs.material.material_chunk.Lts as lts
-use Rattle.bac6_parse.proofs.material.material_value.Reads as material-value-reads
-use Rattle.chunks.proofs.word_index.Reads as word-index-reads
-use Rattle.lexer.proofs.next.Reads as next-reads
 
--- src/material.rt:49:9
 next-requires : tie.Need-next-requires
 next-requires c κs = search needs
 
--- src/material.rt:57:9
 slice-aggregate-word-index : tie.Need-slice-aggregate-word-index
 slice-aggregate-word-index c = search needs
 
--- src/material.rt:54:9
 word-index-requires : tie.Need-word-index-requires
 word-index-requires c κs = search needs
 
--- src/material.rt:60:9
 returns : tie.Need-returns
-returns c = ?
+unfolding bytes
+returns c =
+    let b = c .before .before in
+    (chunk-other _ _ _ (b .before .next .ensures) materialKinds _ _ material-words material-apart _ (c .before .word-index .ensures) (rw material-count (c .if1 .taken)) _, λ h. h)
 
--- src/material.rt:62:8
 slice-read-if2 : tie.Need-slice-read-if2
 slice-read-if2 c = search needs
 
--- src/material.rt:63:9
 returns-2 : tie.Need-returns-2
-returns-2 c = ?
+unfolding bytes
+returns-2 c =
+    let w = c .before .before .before in
+    let a = w .before .before .before .before .before .args in
+    let p = w .before .before .before .before .before .pre in
+    (chunk-again _ _ _ (w .before .before .next .ensures) materialKinds _ _ material-words material-apart _ (w .word-index .ensures) _ (fieldsOf-read (now (a .seen)) (now (a .row)) _ (pos 0) (c .if2 .taken) (p .1 ∙ sym (p .0))) _, λ h. h)
 
--- src/material.rt:69:9
 material-value-requires : tie.Need-material-value-requires
 material-value-requires c κs = search needs
 
--- src/material.rt:71:5
 mul-value : tie.Need-mul-value
 mul-value c = search needs
 
--- src/material.rt:71:5
 slice-set-from-value : tie.Need-slice-set-from-value
 slice-set-from-value c = search needs
 
--- src/material.rt:72:5
 slice-write-seen : tie.Need-slice-write-seen
 slice-write-seen c = search needs
 
--- src/material.rt:45:1
 same-length : tie.Need-same-length
 same-length c = search needs
 
--- src/material.rt:45:1
 same-length-2 : tie.Need-same-length-2
 same-length-2 c = search needs
 
--- src/material.rt:45:1
 returns-3 : tie.Need-returns-3
-returns-3 c = ?
+unfolding bytes
+returns-3 c =
+    let v = c .before .before in
+    let w = v .before .before .before .before in
+    let a = w .before .before .before .before .before .args in
+    let p = w .before .before .before .before .before .pre in
+    let l = p .1 ∙ sym (p .0) in
+    let z = v .material-value .result .value in
+    rw (toZ-ofZ {w = w64} {z = z} (record { sfits = c .before .struct-told .given .1 .0 .1 })) (
+      rw (fieldsOf-set (now (a .seen)) (now (a .row)) (w .word-index .result) z l)
+          (chunk-took _ _ _ (w .before .before .next .ensures) materialKinds _ _ material-words material-apart _ (w .word-index .ensures)
+          (rw material-count (v .before .before .before .if1 .left)) (fieldsOf-length (now (a .seen)) (now (a .row)) l ∙ p .0 ∙ sym material-count)
+          (fieldsOf-unread (now (a .seen)) (now (a .row)) _ (v .before .if2 .left)) _ _ (v .material-value .ensures)),
+      λ h. settled-set (now (a .seen)) (now (a .row)) (w .word-index .result) z l h,
+    )
 
 pub material-chunk-spec : {M : Type 1} → statement M
 material-chunk-spec =

@@ -1,0 +1,38 @@
+-- Readers of rows that write to a table, and what their parts leave.
+use mathlib.Core.Path.{_≡_}
+use mathlib.Core.List.{List, map}
+use mathlib.Core.Bool.{Bool, true, false}
+use Prim.Native.Nat.{ℕ, _+_, _*_}
+use lib.IntN.{ℤ}
+use Rattle.lexer.specs.declared.token.Span.{Span}
+use Rattle.chunks.specs.declared.cursor.Cursor.{Cursor}
+use Rattle.chunks.specs.Readers.{Reader, _>>=_, _>>_, pure, keyword}
+use Rattle.chunks.specs.Folds.{folded, stepped}
+use Rattle.chunks.specs.Fields.{fields, fieldsOf}
+use Rattle.chunks.specs.Cursors.{overlayAt}
+use Rattle.bac6_text.specs.Grammar.{orZero, materialKinds, material}
+
+-- a field that has not been read is 0
+abbrev pub Settled : List Bool → List ℤ → Type 0
+Settled seen row = map orZero (fieldsOf seen row) ≡ row
+
+-- past a closing bracket that may stand there, or refused at it
+unfoldable pub closedAt : Span → Bool → Cursor
+closedAt t true = record { refusal = 0; at = t .end }
+closedAt t false = record { refusal = 5; at = t .start }
+
+-- what stands in a material after its (
+unfoldable pub materialTail : Reader (List ℤ)
+materialTail = keyword "material" >> fields materialKinds >>= λ fs. pure (map orZero fs)
+
+-- its numbers, to a table from an index on
+unfoldable pub materialInto : ℕ → List ℤ → Reader (List ℤ)
+materialInto i table = materialTail >>= λ row. pure (overlayAt i row table)
+
+-- a row of w numbers more, after n rows
+unfoldable pub rowStep : ℕ → ℕ × List ℤ → List ℤ → ℕ × List ℤ
+rowStep w s row = (s .0 + 1, overlayAt (s .0 * w) row (s .1))
+
+-- one material or more
+unfoldable pub materialsInto : List ℤ → Reader (ℕ × List ℤ)
+materialsInto table = stepped (rowStep 9) material (0, table) >>= λ s. folded (rowStep 9) material s
