@@ -4,15 +4,17 @@ use mathlib.Core.List.{List, [], _∷_}
 use mathlib.Core.Bool.{Bool, true, false}
 use Prim.Native.Nat.{ℕ, suc, _<_}
 use lib.ListN.{length}
+use Prim.Native.String.{String}
 use native.Mathlib.Omega.{arith}
-use Rattle.lexer.specs.Tokens.{Lexeme, lexeme}
+use Rattle.lexer.specs.Bytes.{bytes}
+use Rattle.lexer.specs.Tokens.{Lexeme, lexAt, lexeme, isKeyword}
 use Rattle.lexer.specs.declared.token.Span.{Span}
 use Rattle.lexer.specs.Answers.{Next, lexemeOf}
 use Rattle.chunks.specs.declared.cursor.Cursor.{Cursor}
-use Rattle.chunks.specs.Readers.{Got, got, refused, Reader, after, _>>=_, _>>_, pure, tokenOf, rest, isOpening, isClosing, open-bracket, many}
+use Rattle.chunks.specs.Readers.{Got, got, refused, Reader, after, _>>=_, _>>_, pure, tokenOf, rest, isOpening, isClosing, open-bracket, take-if, wordOf, openedOf, opened, starts, optional, trailing, many}
 use Rattle.chunks.specs.Cursors.{reads, from}
-use Rattle.chunks.specs.Branches.{itemOf}
-use Rattle.chunks.proofs.Steps.{from-on, from-off, reads-on, next-token, next-rest, live, taken, not-taken, from-same, from-bind, after-reads}
+use Rattle.chunks.specs.Branches.{itemOf, startOf, lastOf}
+use Rattle.chunks.proofs.Steps.{from-on, from-off, reads-on, next-token, next-rest, live, taken, not-taken, from-same, from-bind, after-reads, seq}
 use Rattle.chunks.proofs.Binds.{after-after, after-same}
 use Rattle.chunks.proofs.Many.{Takes, not-got, got-rest, pure-keeps, then-takes, open-takes, many-end, many-more}
 
@@ -93,3 +95,112 @@ item-takes = record { less = less; none = none }
         go : (v : Bool) → isClosing (m .token) ≡ v → length l < suc (length ms)
         go true p = let h : got true ms ≡ got a l = sym (item-closed (m ∷ ms) p) ∙ e in omega (arith, got-rest true a ms l h)
         go false p = then-takes open-takes (pure-keeps false) .less (m ∷ ms) a l (rw (p, itemOf) at e)
+
+-- ---- chunks that may be left out
+
+bracket-yes : (ms : List Lexeme) → isOpening (tokenOf ms) ≡ true → open-bracket ms ≡ got tt (rest ms)
+unfolding open-bracket take-if
+bracket-yes ms e = rw (e, take-if)
+
+module _ (w : List ℕ) where
+  start-yes : (ms : List Lexeme) → isOpening (tokenOf ms) ≡ true → isKeyword w (tokenOf (rest ms)) ≡ true → startOf w ms ≡ got true (rest (rest ms))
+  unfolding startOf starts
+  start-yes ms e f = rw (e, f, startOf)
+
+  start-none : (ms : List Lexeme) → isOpening (tokenOf ms) ≡ false → startOf w ms ≡ got false ms
+  unfolding startOf starts
+  start-none ms e = rw (e, startOf)
+
+  start-other : (ms : List Lexeme) → isOpening (tokenOf ms) ≡ true → isKeyword w (tokenOf (rest ms)) ≡ false → startOf w ms ≡ got false ms
+  unfolding startOf starts
+  start-other ms e f = rw (e, f, startOf)
+
+  last-yes : (ms : List Lexeme) → isOpening (tokenOf ms) ≡ true → lastOf w ms ≡ after (wordOf w (rest ms)) (λ _. pure true)
+  unfolding lastOf openedOf _>>_ after
+  last-yes ms e = rw (e, lastOf) (rw (bracket-yes ms e))
+
+  last-none : (ms : List Lexeme) → isOpening (tokenOf ms) ≡ false → lastOf w ms ≡ got false ms
+  unfolding lastOf
+  last-none ms e = rw (e, lastOf)
+
+  module _ (text : List ℕ) (c : Cursor) (t : Span) (n : Next text (c .at) t) (o : c .refusal ≡ 0) where
+    pub start-no-bracket : isOpening (lexemeOf text t .token) ≡ false → reads text c false ≡ from text c (startOf w)
+    start-no-bracket e = reads-on text c false o ∙ sym (from-on text c (startOf w) o ∙ start-none _ (rw (next-token text (c .at) t n) e))
+
+    pub last-no-bracket : isOpening (lexemeOf text t .token) ≡ false → reads text c false ≡ from text c (lastOf w)
+    last-no-bracket e = reads-on text c false o ∙ sym (from-on text c (lastOf w) o ∙ last-none _ (rw (next-token text (c .at) t n) e))
+
+    module _ (e : isOpening (lexemeOf text t .token) ≡ true) where
+      inside : rest (lexAt text (c .at)) ≡ lexAt text (t .end)
+      unfolding lexemeOf lexeme isOpening
+      inside = next-rest text (c .at) t n (live isOpening refl (t .kind) _ e)
+
+      module _ (k : Span) (m : Next text (t .end) k) where
+        pub start-no-word : isKeyword w (lexemeOf text k .token) ≡ false → reads text c false ≡ from text c (startOf w)
+        start-no-word f = reads-on text c false o ∙ sym (from-on text c (startOf w) o ∙ start-other _ (rw (next-token text (c .at) t n) e) (rw (inside, next-token text (t .end) k m) f))
+
+        pub start-word : isKeyword w (lexemeOf text k .token) ≡ true → reads text (record { refusal = 0; at = k .end }) true ≡ from text c (startOf w)
+        unfolding lexemeOf lexeme isKeyword
+        start-word f =
+            reads-on text _ true refl
+            ∙ sym (from-on text c (startOf w) o ∙ start-yes _ (rw (next-token text (c .at) t n) e) (rw (inside, next-token text (t .end) k m) f)
+            ∙ rw inside (ap (got true) (next-rest text (t .end) k m (live (isKeyword w) refl (k .kind) _ f))))
+
+      pub last-bracket : (d : Cursor) → reads text d tt ≡ from text (record { refusal = 0; at = t .end }) (wordOf w) → reads text d true ≡ from text c (lastOf w)
+      unfolding reads _>>_
+      last-bracket d p =
+          seq text (record { refusal = 0; at = t .end }) d d tt true (wordOf w) (pure true) p refl
+          ∙ from-on text (record { refusal = 0; at = t .end }) (wordOf w >> pure true) refl
+          ∙ sym (from-on text c (lastOf w) o ∙ last-yes _ (rw (next-token text (c .at) t n) e) ∙ rw inside)
+
+-- what a chunk that may be left out gives: where it stands, what its reader does after ( and keyword
+module _ {A : Type 0} (k : String) (a : A) (r : Reader A) where
+  optional-pick : (ms : List Lexeme) → optional k a r ms ≡ (startOf (bytes k) >>= λ x. pick x r (pure a)) ms
+  unfolding optional startOf _>>=_ after pick pure
+  optional-pick ms = go (starts (bytes k) ms) refl
+    where
+      go : (v : Bool) → starts (bytes k) ms ≡ v → optional k a r ms ≡ (startOf (bytes k) >>= λ x. pick x r (pure a)) ms
+      go true e = rw (e, optional, startOf)
+      go false e = rw (e, optional, startOf)
+
+  trailing-pick : (ms : List Lexeme) → trailing k a r ms ≡ (lastOf (bytes k) >>= λ x. pick x r (pure a)) ms
+  unfolding trailing lastOf opened _>>=_ _>>_ after pick pure
+  trailing-pick ms = go (isOpening (tokenOf ms)) refl
+    where
+      go : (v : Bool) → isOpening (tokenOf ms) ≡ v → trailing k a r ms ≡ (lastOf (bytes k) >>= λ x. pick x r (pure a)) ms
+      go true e = rw (e, trailing, lastOf) (sym (after-after (openedOf (bytes k) ms) (λ _. pure true) _))
+      go false e = rw (e, trailing, lastOf)
+
+  module _ (text : List ℕ) (c d : Cursor) (v : Bool) where
+    module _ (p : reads text d v ≡ from text c (startOf (bytes k))) where
+      pub optional-yes : v ≡ true → (e : Cursor) (b : A) → reads text e b ≡ from text d r → reads text e b ≡ from text c (optional k a r)
+      optional-yes h e b q = q ∙ sym (from-same text c _ _ optional-pick ∙ chosen-yes text c d (startOf (bytes k)) v p r (pure a) h)
+
+      pub optional-no : v ≡ false → reads text d a ≡ from text c (optional k a r)
+      unfolding reads
+      optional-no h = sym (from-same text c _ _ optional-pick ∙ chosen-no text c d (startOf (bytes k)) v p r (pure a) h)
+
+    module _ (p : reads text d v ≡ from text c (lastOf (bytes k))) where
+      pub trailing-yes : v ≡ true → (e : Cursor) (b : A) → reads text e b ≡ from text d r → reads text e b ≡ from text c (trailing k a r)
+      trailing-yes h e b q = q ∙ sym (from-same text c _ _ trailing-pick ∙ chosen-yes text c d (lastOf (bytes k)) v p r (pure a) h)
+
+      pub trailing-no : v ≡ false → reads text d a ≡ from text c (trailing k a r)
+      unfolding reads
+      trailing-no h = sym (from-same text c _ _ trailing-pick ∙ chosen-no text c d (lastOf (bytes k)) v p r (pure a) h)
+
+-- a value that is only put into another form
+pub optional-map : {A B : Type 0} (k : String) (a : A) (r : Reader A) (g : A → B) (ms : List Lexeme) → (optional k a r >>= λ x. pure (g x)) ms ≡ optional k (g a) (r >>= λ x. pure (g x)) ms
+unfolding optional _>>=_ after pure
+optional-map {A} {B} k a r g ms = go (starts (bytes k) ms) refl
+  where
+    go : (v : Bool) → starts (bytes k) ms ≡ v → (optional k a r >>= λ x. pure (g x)) ms ≡ optional k (g a) (r >>= λ x. pure (g x)) ms
+    go true e = rw (e, optional)
+    go false e = rw (e, optional)
+
+pub trailing-map : {A B : Type 0} (k : String) (a : A) (r : Reader A) (g : A → B) (ms : List Lexeme) → (trailing k a r >>= λ x. pure (g x)) ms ≡ trailing k (g a) (r >>= λ x. pure (g x)) ms
+unfolding trailing _>>=_ _>>_ after pure
+trailing-map {A} {B} k a r g ms = go (isOpening (tokenOf ms)) refl
+  where
+    go : (v : Bool) → isOpening (tokenOf ms) ≡ v → (trailing k a r >>= λ x. pure (g x)) ms ≡ trailing k (g a) (r >>= λ x. pure (g x)) ms
+    go true e = rw (e, trailing) (after-after (opened k ms) (λ _. r) _)
+    go false e = rw (e, trailing)

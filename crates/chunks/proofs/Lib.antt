@@ -7,8 +7,10 @@ pub mod FieldKeeps
 pub mod FieldSteps
 pub mod Folds
 pub mod Given
+pub mod HeadSteps
 pub mod Into
 pub mod Many
+pub mod NameSteps
 pub mod NumberSteps
 pub mod Steps
 pub mod Stored

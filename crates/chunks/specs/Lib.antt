@@ -6,3 +6,4 @@ pub mod Folds
 pub mod Answers
 pub mod Into
 pub mod Branches
+pub mod Places

@@ -1,7 +1,10 @@
 // Readers that figures and movements share: chunks, keywords, numbers, names and rows.
 mod cursor;
+mod heading;
 mod lists;
+mod naming;
 mod numerals;
+mod optionals;
 mod places;
 mod words;
 
@@ -13,6 +16,8 @@ pub use cursor::is_plain;
 pub use cursor::keyword;
 pub use cursor::opened;
 pub use cursor::opening;
+pub use heading::head;
+pub use heading::text_end;
 pub use lists::Counted;
 pub use lists::Item;
 pub use lists::advance;
@@ -20,9 +25,15 @@ pub use lists::next_item;
 pub use lists::numbers;
 pub use lists::row;
 pub use lists::rows;
+pub use naming::Named;
+pub use naming::name;
+pub use naming::optional_name;
 pub use numerals::Form;
 pub use numerals::Numeric;
 pub use numerals::number;
+pub use optionals::Start;
+pub use optionals::optional;
+pub use optionals::trailing;
 pub use places::covers;
 pub use places::store;
 pub use words::one_of;
