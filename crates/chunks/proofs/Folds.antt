@@ -12,7 +12,7 @@ use Rattle.chunks.specs.Cursors.{from, reads, overlayAt}
 use Rattle.chunks.specs.Branches.{itemOf}
 use Rattle.chunks.specs.Folds.{fold, folded, stepped, rowStep}
 use Rattle.chunks.proofs.Steps.{join, seq, from-same, from-bind, after-reads}
-use Rattle.chunks.proofs.Binds.{after-after, after-same}
+use Rattle.chunks.proofs.Binds.{after-after, after-same, then-bind}
 use Rattle.chunks.proofs.Many.{Takes, Keeps, pure-keeps, bind-keeps, then-takes}
 use Rattle.chunks.proofs.Tables.{overlayAt-same}
 use Rattle.chunks.proofs.Counts.{falls}
@@ -60,3 +60,16 @@ row-stepped u w n i t t′ text d e h q =
   where
     same : (ms : List Lexeme) → (u >>= (λ row. pure (overlayAt i row t)) >>= λ (y : List ℤ). pure (n + 1, y)) ms ≡ stepped (rowStep w) u (n, t) ms
     same ms = row-same u w n i t ms h
+
+-- ---- one item or more
+
+pub stepped-opens : {A S : Type 0} (step : S → A → S) (r u : Reader A) → ((ms : List Lexeme) → r ms ≡ (open-bracket >> u) ms) → (s : S) (ms : List Lexeme) → stepped step r s ms ≡ (open-bracket >> stepped step u s) ms
+unfolding stepped _>>=_
+stepped-opens step r u opens s ms = ap (λ (g : Got _). after g (λ a. pure (step s a))) (opens ms) ∙ then-bind open-bracket u (λ a. pure (step s a)) ms
+
+-- the first item after its (, and then the others
+pub folded-first : {A S : Type 0} (step : S → A → S) (r u : Reader A) → ((ms : List Lexeme) → r ms ≡ (open-bracket >> u) ms) → (text : List ℕ) (c d e f : Cursor) (s x y : S) → reads text d tt ≡ from text c open-bracket → reads text e x ≡ from text d (stepped step u s) → reads text f y ≡ from text e (folded step r x) → reads text f y ≡ from text c (stepped step r s >>= λ z. folded step r z)
+folded-first step r u opens text c d e f s x y p q o =
+    join text c e f x y (stepped step r s) (λ z. folded step r z)
+    (seq text c d e tt x open-bracket (stepped step u s) p q ∙ sym (from-same text c _ _ (stepped-opens step r u opens s)))
+    o
