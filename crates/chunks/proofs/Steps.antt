@@ -115,3 +115,24 @@ from-same text c r s h = go (eqb (c .refusal) 0) refl
     go : (v : Bool) → eqb (c .refusal) 0 ≡ v → from text c r ≡ from text c s
     go true e = rw (e, from) (h (lexAt text (c .at)))
     go false e = rw (e, from)
+
+parted : {A P B : Type 0} (r : Reader A) (p : A → P) (k : P → Reader B) (ms : List Lexeme) → (r >>= λ a. k (p a)) ms ≡ (r >>= (λ a. pure (p a)) >>= k) ms
+unfolding _>>=_ pure
+parted r p k ms = go (r ms)
+  where
+    go : (g : Got _) → after g (λ a. k (p a)) ≡ after (after g (λ a. pure (p a))) k
+    go (got a l) = unfold after pure in refl
+    go (refused n o) = unfold after in refl
+
+-- a reader whose value is used by what a part of it says, read by the code as that part
+pub onward : {A P B : Type 0} (text : List ℕ) (c d : Cursor) (r : Reader A) (p : A → P) (x : P) (k : P → Reader B) → reads text d x ≡ from text c (r >>= λ a. pure (p a)) → from text c (r >>= λ a. k (p a)) ≡ from text d (k x)
+onward text c d r p x k q =
+    from-same text c _ _ (parted r p k)
+    ∙ from-bind text c k (r >>= λ a. pure (p a))
+    ∙ ap (λ (g : Got _). after g k) (sym q)
+    ∙ after-reads text d k x
+
+-- a reader that gives nothing, and what comes after it
+pub onward-then : {A B : Type 0} (text : List ℕ) (c d : Cursor) (a : A) (r : Reader A) (k : Reader B) → reads text d a ≡ from text c r → from text c (r >> k) ≡ from text d k
+unfolding _>>_
+onward-then text c d a r k q = unfold _>>=_ in (from-bind text c (λ _. k) r ∙ ap (λ (g : Got _). after g (λ _. k)) (sym q) ∙ after-reads text d (λ _. k) a)
