@@ -12,6 +12,7 @@ pub mod Into
 pub mod Many
 pub mod NameSteps
 pub mod NumberSteps
+pub mod RowCounts
 pub mod Steps
 pub mod Stored
 pub mod Tables

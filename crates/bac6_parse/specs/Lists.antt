@@ -1,0 +1,27 @@
+-- Lists of number rows, written to a table.
+use mathlib.Core.List.{List, [], _∷_}
+use mathlib.Core.Bool.{Bool, true, false}
+use Prim.Native.Nat.{ℕ}
+use lib.IntN.{ℤ}
+use lib.ListN.{length}
+use Rattle.lexer.specs.Numbers.{Form}
+use Rattle.chunks.specs.Readers.{Reader, _>>=_, pure, many⁺, rowOf}
+use Rattle.chunks.specs.Branches.{startOf}
+use Rattle.chunks.specs.Into.{flat, rowsInto}
+use Rattle.chunks.specs.Cursors.{overlayAt}
+
+-- how many rows, and the table with them at its start
+unfoldable pub laidRows : List ℤ → List (List ℤ) → ℕ × List ℤ
+laidRows table rs = (length rs, overlayAt 0 (flat rs) table)
+
+-- a chunk of rows that may be left out, by its keyword's bytes
+unfoldable pub sectionOf : Bool → List ℕ → Form → ℕ → List ℤ → Reader (ℕ × List ℤ)
+sectionOf true k f w table = rowsInto k f w 0 table
+sectionOf false k f w table = pure (0, table)
+
+unfoldable pub sectionInto : List ℕ → List ℕ → Form → ℕ → List ℤ → Reader (ℕ × List ℤ)
+sectionInto name k f w table = startOf name >>= λ present. sectionOf present k f w table
+
+-- one row or more
+unfoldable pub someInto : List ℕ → Form → ℕ → List ℤ → Reader (ℕ × List ℤ)
+someInto k f w table = many⁺ (rowOf k f w) >>= λ rs. pure (laidRows table rs)
