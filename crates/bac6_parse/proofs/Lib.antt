@@ -1,3 +1,4 @@
 -- Laws that belong to no one function.
 pub mod Closings
 pub mod Materials
+pub mod RowLists

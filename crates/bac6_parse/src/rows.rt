@@ -3,7 +3,6 @@ ghost use mathlib.Core.Path.{_≡_};
 ghost use Rattle.chunks.specs.Answers.{formNamed};
 ghost use Rattle.chunks.specs.Cursors.{reads, from};
 ghost use Rattle.bac6_parse.specs.Lists.{sectionInto, someInto};
-
 use chunks::Counted;
 use chunks::Cursor;
 use chunks::Form;
@@ -25,7 +24,10 @@ pub(crate) fn section(
     if s.present {
         return chunks::rows(text, d, word, form, width, out, 0);
     }
-    Counted { cursor: d, count: 0 }
+    Counted {
+        cursor: d,
+        count: 0,
+    }
 }
 
 // One row or more, up to the closing bracket after them.
