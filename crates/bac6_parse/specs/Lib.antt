@@ -1,3 +1,4 @@
 pub mod Closing
 pub mod Into
 pub mod Lists
+pub mod Front

@@ -1,3 +1,7 @@
 // Reads the shape of a figure's text into tables of rows.
 mod material;
+mod opening;
 mod rows;
+
+pub use opening::Front;
+pub use opening::read_front;

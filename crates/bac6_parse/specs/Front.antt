@@ -1,0 +1,40 @@
+-- The front of a figure's text, from its head to its normals, written to tables.
+use mathlib.Core.List.{List}
+use Prim.Native.Nat.{ℕ}
+use lib.IntN.{ℤ}
+use Rattle.lexer.specs.Bytes.{bytes}
+use Rattle.lexer.specs.Numbers.{INT, FLOAT}
+use Rattle.chunks.specs.Readers.{Reader, _>>=_, _>>_, pure, opened, close-bracket, head}
+use Rattle.chunks.specs.Places.{optionalName}
+use Rattle.chunks.specs.Into.{rowsInto}
+use Rattle.bac6_parse.specs.Into.{materialsInto}
+use Rattle.bac6_parse.specs.Lists.{sectionInto, someInto}
+
+-- the name's place and length; of each list how many rows it has, and its table
+pub record FrontValue : Type 0 where
+  pub name : ℕ × ℕ
+  pub textures : ℕ × List ℤ
+  pub colours : ℕ × List ℤ
+  pub materials : ℕ × List ℤ
+  pub points : ℕ × List ℤ
+  pub normals : ℕ × List ℤ
+
+unfoldable pub frontValue : ℕ × ℕ → ℕ × List ℤ → ℕ × List ℤ → ℕ × List ℤ → ℕ × List ℤ → ℕ × List ℤ → FrontValue
+frontValue n t c m p v = record { name = n; textures = t; colours = c; materials = m; points = p; normals = v }
+
+unfoldable pub frontInto : List ℤ → List ℤ → List ℤ → List ℤ → List ℤ → Reader FrontValue
+frontInto textures colours materials points normals = do
+  head "bacVersion" "6.0"
+  opened "Figure"
+  n ← optionalName
+  t ← sectionInto (bytes "Textures") (bytes "i2") INT 2 textures
+  c ← sectionInto (bytes "Colors") (bytes "f3") FLOAT 3 colours
+  opened "Materials"
+  m ← materialsInto materials
+  opened "Vertices"
+  opened "coords"
+  p ← someInto (bytes "pnt") FLOAT 3 points
+  opened "normals"
+  v ← rowsInto (bytes "vct") FLOAT 3 0 normals
+  close-bracket
+  pure (frontValue n t c m p v)
