@@ -13,6 +13,7 @@ pub mod Many
 pub mod NameSteps
 pub mod NumberSteps
 pub mod RowCounts
+pub mod Sequences
 pub mod Steps
 pub mod Stored
 pub mod Tables

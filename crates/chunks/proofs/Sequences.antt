@@ -1,0 +1,26 @@
+-- Sequences of readers, part by part: what is done at the end of one may be done inside it, and a value may be replaced by the part of it that is used.
+use mathlib.Core.Path.{_≡_, refl, ap, sym, _∙_}
+use mathlib.Core.List.{List}
+use Rattle.lexer.specs.Tokens.{Lexeme}
+use Rattle.chunks.specs.Readers.{Got, Reader, after, _>>=_, _>>_, pure}
+use Rattle.chunks.proofs.Binds.{after-after, after-same, bind-assoc, then-bind, then-same}
+
+-- the same reader, and the same after it
+pub bind-same : {A B : Type 0} (r : Reader A) (k j : A → Reader B) → ((a : A) (ms : List Lexeme) → k a ms ≡ j a ms) → (ms : List Lexeme) → (r >>= k) ms ≡ (r >>= j) ms
+unfolding _>>=_
+bind-same r k j h ms = after-same (r ms) k j h
+
+-- a value that is used by a part of it, and a reader of that part
+pub project : {A P B : Type 0} (r : Reader A) (p : A → P) (u : Reader P) → ((ms : List Lexeme) → (r >>= λ a. pure (p a)) ms ≡ u ms) → (k : A → Reader B) (j : P → Reader B) → ((a : A) (ms : List Lexeme) → k a ms ≡ j (p a) ms) → (ms : List Lexeme) → (r >>= k) ms ≡ (u >>= j) ms
+unfolding _>>=_ pure
+project r p u e k j h ms =
+    after-same (r ms) k (λ a. j (p a)) h
+    ∙ sym (after-after (r ms) (λ a. pure (p a)) j ∙ unfold _>>=_ pure after in refl)
+    ∙ ap (λ (g : Got _). after g j) (e ms)
+
+-- what comes after a sequence, inside it
+pub inside-bind : {A B C : Type 0} (r : Reader A) (k : A → Reader B) (h : B → Reader C) (j : A → Reader C) → ((a : A) (ms : List Lexeme) → (k a >>= h) ms ≡ j a ms) → (ms : List Lexeme) → (r >>= k >>= h) ms ≡ (r >>= j) ms
+inside-bind r k h j e ms = bind-assoc r k h ms ∙ bind-same r (λ a. k a >>= h) j e ms
+
+pub inside-then : {A B C : Type 0} (r : Reader A) (s : Reader B) (h : B → Reader C) (u : Reader C) → ((ms : List Lexeme) → (s >>= h) ms ≡ u ms) → (ms : List Lexeme) → (r >> s >>= h) ms ≡ (r >> u) ms
+inside-then r s h u e ms = then-bind r s h ms ∙ then-same r (s >>= h) u e ms
