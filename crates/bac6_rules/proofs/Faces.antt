@@ -94,7 +94,7 @@ module _ (t : ℤ → Bool) where
   four-corners (a ∷ b ∷ c ∷ d ∷ []) h rest = refl
   four-corners (a ∷ b ∷ c ∷ d ∷ e ∷ zs) h rest = absurd (omega arith)
 
-length-corners : (n : ℕ) (zs : List ℤ) → length (corners n zs) ≡ n
+pub length-corners : (n : ℕ) (zs : List ℤ) → length (corners n zs) ≡ n
 unfolding corners
 length-corners zero zs = refl
 length-corners (suc n) [] = ap suc (length-corners n [])

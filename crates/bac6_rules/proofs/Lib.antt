@@ -8,3 +8,4 @@ pub mod Placing
 pub mod Walks
 pub mod Whole
 pub mod Claims
+pub mod Laid
