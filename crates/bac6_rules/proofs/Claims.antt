@@ -1,14 +1,13 @@
 -- Rule 11 of a whole figure: claims in order find the fault that the rule names, and leave the owners of the layout.
--- A caller that folds entry by entry cites `claimed-none`, `claimed-one`; bone by bone, `bones-none`, `bones-one`;
--- and at the end `claims-fault` and `claims-owners`.
+-- A caller that folds entry by entry cites `claimed-none`, `claimed-one`, `one-tried`, `one-passed`;
+-- bone by bone, `bones-none`, `bones-one`, `bone-clear`, `bone-passed`; and at the end `claims-fault` and `claims-owners`.
 use mathlib.Core.Path.{_≡_, refl, ap, ap₂, sym, _∙_}
 use mathlib.Core.List.{List, [], _∷_, _++_}
 use mathlib.Core.Bool.{Bool, true, false, not, _&&_, _||_, false≢true}
-use Prim.Native.Nat.{ℕ, zero, suc, min, _+_, _-_, _≤_, _<_}
+use Prim.Native.Nat.{ℕ, zero, suc, min, _+_, _≤_, _<_}
 use native.Mathlib.Nat.{add-zero, zero-add}
 use native.Mathlib.Omega.{arith}
-use native.Mathlib.Decide.{ℕ-discrete}
-use borrow.Author.Tests.{ltb-true, ltb-false, eq-eqb, ne-eqb, eqb-true, eqb-false}
+use borrow.Author.Tests.{ltb-true, eq-eqb, ne-eqb, eqb-true, eqb-false}
 use lib.Dec.{ltb, eqb}
 use lib.ListN.{length, take, drop, getD, set, replicate, length-set, length-take, length-append, length-replicate, getD-replicate, List·getD-append, take-append-drop}
 use lib.Seq.{getD-set-same, getD-set-other, drop-set-lt, getD-take, ext-getD, drop-at}
@@ -19,7 +18,7 @@ use Rattle.bac6_text.specs.Rules.{isRow, isNone, sameNumber, member, entriesFin
 use Rattle.bac6_text.specs.Layout.{ownersFrom}
 use Rattle.bac6_rules.specs.Claims.{isFree, afterClaim, claimedOne, claimed, faultAt, afterBone, claimedBone, claimedBones}
 use Rattle.bac6_rules.proofs.Placing.{fault-not-clear}
-use Rattle.bac6_rules.proofs.Owners.{row-natural, row-below, claim-free, claim-taken}
+use Rattle.bac6_rules.proofs.Owners.{row-below, claim-free, claim-taken}
 
 -- ---- entry by entry
 
@@ -32,6 +31,15 @@ module _ (n : ℕ) (bone : ℤ) where
   unfolding claimed
   claimed-one s [] z = refl
   claimed-one s (y ∷ zs) z = claimed-one (claimedOne n bone s y) zs z
+
+  -- an entry is tried while those before it are free
+  pub one-tried : (owners : List ℤ) (z : ℤ) → claimedOne n bone (true, owners) z ≡ (isFree n z owners, afterClaim n bone z owners)
+  unfolding claimedOne
+  one-tried owners z = refl
+
+  pub one-passed : (owners : List ℤ) (z : ℤ) → claimedOne n bone (false, owners) z ≡ (false, owners)
+  unfolding claimedOne
+  one-passed owners z = refl
 
   -- once an entry is faulty nothing changes
   claimed-faulty : (owners zs : List ℤ) → claimed n bone (false, owners) zs ≡ (false, owners)
@@ -65,9 +73,14 @@ module _ (n : ℕ) where
   bones-faulty row k p owners [] = refl
   bones-faulty row k p owners (b ∷ bs) = bones-faulty (suc row) k p owners bs
 
-  bone-clear : (row : ℕ) (owners zs : List ℤ) → claimedBone n row (clear, owners) zs ≡ afterBone row (claimed n (pos row) (true, owners) zs)
+  -- a bone is tried while those before it are clear
+  pub bone-clear : (row : ℕ) (owners zs : List ℤ) → claimedBone n row (clear, owners) zs ≡ afterBone row (claimed n (pos row) (true, owners) zs)
   unfolding claimedBone
   bone-clear row owners zs = refl
+
+  pub bone-passed : (row k p : ℕ) (owners zs : List ℤ) → claimedBone n row (fault k p, owners) zs ≡ (fault k p, owners)
+  unfolding claimedBone
+  bone-passed row k p owners zs = refl
 
 -- ---- numbers
 
@@ -233,11 +246,11 @@ module _ (n bone : ℕ) where
 -- ---- all bones
 
 module _ (n : ℕ) where
-  fine-bone : (row : ℕ) (s : Bool × List ℤ) → s .0 ≡ true → afterBone row s ≡ (clear, s .1)
+  pub fine-bone : (row : ℕ) (s : Bool × List ℤ) → s .0 ≡ true → afterBone row s ≡ (clear, s .1)
   unfolding afterBone faultAt
   fine-bone row s e = rw e
 
-  faulty-bone : (row : ℕ) (s : Bool × List ℤ) → s .0 ≡ false → afterBone row s ≡ (fault 11 row, s .1)
+  pub faulty-bone : (row : ℕ) (s : Bool × List ℤ) → s .0 ≡ false → afterBone row s ≡ (fault 11 row, s .1)
   unfolding afterBone faultAt
   faulty-bone row s e = rw e
 

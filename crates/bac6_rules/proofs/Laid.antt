@@ -4,16 +4,16 @@ use mathlib.Core.Path.{_≡_, refl, ap, ap₂, sym, _∙_}
 use mathlib.Core.List.{List, [], _∷_, _++_, map, append-assoc}
 use mathlib.Core.Bool.{Bool, true, false}
 use mathlib.Core.Logic.{_⊎_}
-use Prim.Native.Nat.{ℕ, zero, suc, _+_, _-_, _*_, _≤_, _<_}
+use Prim.Native.Nat.{ℕ, suc, _+_, _*_}
 use native.Mathlib.Nat.{zero-add, suc-add}
 use native.Mathlib.Omega.{arith}
-use lib.ListN.{length, take, drop, getD, set, length-append, length-map}
+use lib.ListN.{length, getD, set, length-append, length-map}
 use lib.Seq.{take-at, drop-at, getD-at, getD-append-add, set-at, set-append-left}
 use lib.IntN.{ℤ, pos, negsuc}
-use Rattle.lexer.specs.Faults.{Fault, clear, fault}
+use Rattle.lexer.specs.Faults.{clear}
 use Rattle.bac6_text.specs.Figure.{Bone, Face, Group, Figure}
-use Rattle.bac6_text.specs.Layout.{flat, nameNumbers, boneRow, boneRows, corners, faceRow, groupRows, faceRows}
-use Rattle.bac6_text.specs.Rules.{Flags, groupFaces, facesOf, flagsOf, firstBad, faceFine, parentsIn, wholeList, bonesFault}
+use Rattle.bac6_text.specs.Layout.{flat, nameNumbers, boneRow, boneRows, faceRow, groupRows, faceRows}
+use Rattle.bac6_text.specs.Rules.{groupFaces, facesOf, flagsOf, firstBad, faceFine, parentsIn, wholeList, bonesFault}
 use Rattle.bac6_rules.specs.Rows.{rowsOf, faceRowFine}
 use Rattle.bac6_rules.specs.Bones.{rowFlags, flagsIn, parentsFrom, withParents, Settled}
 use Rattle.bac6_rules.proofs.Tables.{rows-more, bad-passed, bad-found}

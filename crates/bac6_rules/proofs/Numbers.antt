@@ -1,15 +1,15 @@
 -- What the code's tests on an `i64` say of the definitions' tests.
 use mathlib.Core.Path.{_≡_, refl, ap, sym, _∙_}
 use mathlib.Core.Bool.{Bool, true, false, not, _&&_, _||_}
-use Prim.Native.Nat.{ℕ, zero, suc, _-_, _^_, _≤_, _<_}
+use Prim.Native.Nat.{ℕ, zero, suc, _-_, _^_, _<_}
 use native.Mathlib.Omega.{arith}
-use borrow.Author.Tests.{eq-eqb, ne-eqb, not-true, not-false}
-use lib.Dec.{eqb, leb, ltb}
+use borrow.Author.Tests.{ne-eqb, not-true, not-false}
+use lib.Dec.{eqb, ltb}
 use lib.IntN.{ℤ, pos, negsuc, natAbs, pos-ne-negsuc}
 use lib.Signed.{mag, ltZ, leZ}
 use mir.Syntax.{w64}
-use mir.Val.{Fits, SFits, toZ, ofZ}
-use mir.Facts.{toZ-ofZ, fits-natAbs}
+use mir.Val.{SFits, toZ, ofZ}
+use mir.Facts.{toZ-ofZ}
 use Rattle.lexer.proofs.Signed.{below-zero, from-zero}
 use Rattle.bac6_text.specs.Rules.{isRow, isNone, isLevel}
 use Rattle.bac6_rules.specs.Rows.{isIndex}

@@ -1,12 +1,12 @@
 -- Laws of a list of bones: one bone and then the rest, and that more turns than rows change nothing.
-use mathlib.Core.Path.{_≡_, refl, ap, sym, _∙_}
+use mathlib.Core.Path.{_≡_, refl, ap, sym}
 use mathlib.Core.List.{List, [], _∷_, _++_, append-assoc}
 use mathlib.Core.Bool.{Bool, true, false}
-use Prim.Native.Nat.{ℕ, zero, suc, _+_, _-_, _*_, _≤_, _<_}
+use Prim.Native.Nat.{ℕ, zero, suc, _+_, _≤_}
 use native.Mathlib.Omega.{arith}
 use lib.ListN.{length, length-append}
 use lib.IntN.{ℤ, pos, negsuc}
-use Rattle.lexer.specs.Faults.{Fault, clear, fault}
+use Rattle.lexer.specs.Faults.{clear, fault}
 use Rattle.bac6_text.specs.Rules.{Flags, Placed, placed, short, isSet, joined, thenIf, boneList, parentsIn, wholeList, placedFault, bonesFault}
 use Rattle.bac6_rules.specs.Bones.{oneBone}
 

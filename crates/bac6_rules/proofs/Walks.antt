@@ -1,14 +1,14 @@
 -- Laws of a walk over a table of bones: its flags are not altered by parents, and each turn of the code is a turn of the definition.
 use mathlib.Core.Path.{_≡_, refl, ap, ap₂, sym, _∙_}
-use mathlib.Core.List.{List, [], _∷_, _++_, map}
+use mathlib.Core.List.{List, [], _∷_, _++_}
 use mathlib.Core.Bool.{Bool, true, false}
 use Prim.Native.Nat.{ℕ, zero, suc, _+_, _-_, _*_, _^_, _≤_, _<_}
 use native.Mathlib.Nat.{add-zero}
 use native.Mathlib.Omega.{arith}
 use borrow.Author.Tests.{leb-true, leb-false, ltb-true, ltb-false}
 use lib.Dec.{leb, ltb}
-use lib.ListN.{length, take, drop, getD, set, length-set, length-drop, length-append, length-map, drop-of-length-le}
-use lib.Seq.{drop-cons, getD-take, getD-drop, getD-set-other, take-set-le, take-set-lt, drop-set-lt, drop-set-add}
+use lib.ListN.{length, drop, getD, set, length-set, length-drop, length-append, drop-of-length-le}
+use lib.Seq.{drop-cons, getD-take, getD-drop, getD-set-other, drop-set-lt, drop-set-add}
 use lib.IntN.{ℤ, pos, negsuc}
 use mir.Syntax.{w64}
 use mir.Val.{SFits, ofZ}
@@ -234,9 +234,6 @@ module _ (n row : ℕ) (parent : ℤ) (t : List ℤ) (w : n * 14 ≤ length t) w
 
     pub next-within : (row < next) × (next ≤ n)
     next-within = let s = at-told n row t mid _ next q in (s .3, s .4)
-
-    pub mid-length : length mid ≡ length t
-    mid-length = rw (at-told n row t mid _ next q .1) (parents-length row _ t)
 
     brother : getD mid (row * 14 + 10) (pos 0) ≡ getD t (row * 14 + 10) (pos 0)
     brother = rw (at-told n row t mid _ next q .1) (brother-kept n row _ t row-there w)

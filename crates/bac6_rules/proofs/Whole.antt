@@ -1,6 +1,6 @@
 -- The whole list of bones: how many rows a table has, and what a walk over all of them answers.
-use mathlib.Core.Path.{_≡_, refl, ap, sym, _∙_}
-use mathlib.Core.List.{List, [], _∷_}
+use mathlib.Core.Path.{_≡_, refl, sym, _∙_}
+use mathlib.Core.List.{List, []}
 use mathlib.Core.Bool.{Bool, true, false}
 use Prim.Native.Nat.{ℕ, zero, suc, min, _+_, _-_, _*_, _/_, _≤_, _<_}
 use native.Mathlib.Nat.{sub-zero}
@@ -9,13 +9,13 @@ use borrow.Author.Tests.{leb-true, leb-false}
 use lib.Dec.{leb}
 use lib.ListN.{length, drop, length-drop}
 use lib.IntN.{ℤ, negsuc}
-use Rattle.lexer.specs.Faults.{Fault, clear, fault}
+use Rattle.lexer.specs.Faults.{clear, fault}
 use Rattle.bac6_text.specs.Rules.{Flags, Placed, placed, short, boneList, parentsIn, wholeList, placedFault, bonesFault}
 use Rattle.bac6_rules.specs.declared.bone.Walk.{Walk}
 use Rattle.bac6_rules.specs.declared.bone.Walk.the-variants.{At, Short}
-use Rattle.bac6_rules.specs.Bones.{flagsIn, parentsFrom, withParents, Walked, Settled}
+use Rattle.bac6_rules.specs.Bones.{flagsIn, withParents, Walked, Settled}
 use Rattle.bac6_rules.proofs.Placing.{fault-not-clear}
-use Rattle.bac6_rules.proofs.Walks.{flags-none, flags-more, flags-short, flags-length, flags-drop, flags-past, at-told, short-told, walked-as}
+use Rattle.bac6_rules.proofs.Walks.{flags-none, flags-more, flags-short, flags-length, flags-drop, flags-past, at-told, short-told}
 
 -- ---- how many rows
 

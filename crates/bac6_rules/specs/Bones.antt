@@ -1,8 +1,8 @@
 -- Rule 10 over a table of bones: its flags, and the parents that its rows are given.
 use mathlib.Core.Path.{_≡_}
 use mathlib.Core.List.{List, [], _∷_, map}
-use mathlib.Core.Bool.{Bool, true, false}
-use Prim.Native.Nat.{ℕ, zero, suc, _+_, _-_, _*_, _≤_, _<_}
+use mathlib.Core.Bool.{true, false}
+use Prim.Native.Nat.{ℕ, suc, _+_, _-_, _*_, _≤_, _<_}
 use lib.ListN.{length, drop, getD, set}
 use lib.IntN.{ℤ, pos}
 use Rattle.bac6_text.specs.Rules.{Flags, Placed, placed, short, isSet, joined, boneList, parentsIn}

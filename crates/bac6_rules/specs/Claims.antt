@@ -1,7 +1,7 @@
 -- Rule 11 over a table of owners, -1 where a vertex is unclaimed.
 use mathlib.Core.List.{List, [], _∷_}
 use mathlib.Core.Bool.{Bool, true, false, _&&_}
-use Prim.Native.Nat.{ℕ, zero, suc, min}
+use Prim.Native.Nat.{ℕ, suc, min}
 use lib.ListN.{length, getD, set}
 use lib.IntN.{ℤ, pos, natAbs}
 use Rattle.lexer.specs.Faults.{Fault, clear, fault}

@@ -1,6 +1,5 @@
 // Rule 13: a face's material, vertices and uvs.
 ghost use mathlib.Core.Path.{_≡_};
-ghost use mathlib.Core.Bool.{_||_};
 ghost use lib.ListN.{length};
 ghost use Rattle.lexer.specs.Answers.{refusal};
 ghost use Rattle.bac6_text.specs.Rules.{isRow, isNone, all, firstBad};

@@ -1,21 +1,19 @@
 -- The cycle {bone, bones}: each turn of the code is a turn of the definition, by the laws of walks.
 -- The measures are twice the rows left, and one more for a list, which hands its row to its first bone.
-use mathlib.Core.Path.{_≡_, refl, ap, sym, _∙_}
-use Prim.Native.Nat.{ℕ, suc, _+_, _-_, _*_, _^_, _≤_, _<_}
+use mathlib.Core.Path.{_≡_, ap, sym, _∙_}
+use Prim.Native.Nat.{ℕ, suc, _+_, _-_, _*_, _^_, _<_}
 use native.Mathlib.Omega.{arith}
 use native.Mathlib.Numerals.{add-one}
 use borrow.Author.Needs.{needs}
 use denote.Ref.{now}
-use lib.ListN.{length, drop, getD, set, length-set}
-use lib.IntN.{ℤ, pos}
+use lib.ListN.{drop, length-set}
 use mir.Syntax.{w64}
-use mir.Val.{SFits, toZ, ofZ}
+use mir.Val.{toZ, ofZ}
 use mir.Facts.{toZ-ofZ, toZ-pos}
-use Rattle.bac6_text.specs.Rules.{isSet, boneList}
-use Rattle.bac6_rules.specs.declared.bone.Walk.{Walk}
-use Rattle.bac6_rules.specs.declared.bone.Walk.the-variants.{At, Short}
+use Rattle.bac6_text.specs.Rules.{isSet}
+use Rattle.bac6_rules.specs.declared.bone.Walk.the-variants.{At}
 use Rattle.bac6_rules.specs.Bones.{flagsIn, oneBone, Walked}
-use Rattle.bac6_rules.proofs.Walks.{walked-as, child-kept, no-bone, bone-leaf, bone-child, list-short, list-last, list-more, row-there, next-within, mid-length, clear-bits, set-bits}
+use Rattle.bac6_rules.proofs.Walks.{walked-as, child-kept, no-bone, bone-leaf, bone-child, list-short, list-last, list-more, row-there, next-within, clear-bits, set-bits}
 use borrow.Fn.Kinds.{In}
 use borrow.Fn.PlainCycle.{Measures, is, falls, and}
 use Rattle.bac6_rules.proofs.bone.bone.Reads as bone

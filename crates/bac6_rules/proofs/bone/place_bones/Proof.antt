@@ -1,15 +1,11 @@
 -- `place_bones` is the walk over all whole rows, and its answer that of the whole list.
-use mathlib.Core.Path.{_≡_, refl, ap, sym, _∙_}
-use Prim.Native.Nat.{ℕ, min, _/_, _*_, _≤_}
-use native.Mathlib.Omega.{arith}
+use mathlib.Core.Path.{_≡_, refl, sym}
 use borrow.Author.Needs.{needs}
 use denote.Ref.{now}
-use lib.ListN.{length}
 use Rattle.lexer.specs.Answers.{refusal}
-use Rattle.bac6_text.specs.Rules.{wholeList, bonesFault, placedFault}
+use Rattle.bac6_text.specs.Rules.{wholeList, bonesFault}
 use Rattle.bac6_rules.specs.declared.bone.Walk.{Walk}
-use Rattle.bac6_rules.specs.declared.bone.Walk.the-variants.{At, Short}
-use Rattle.bac6_rules.specs.Bones.{flagsIn, Walked, Settled}
+use Rattle.bac6_rules.specs.Bones.{flagsIn, Walked}
 use Rattle.bac6_rules.proofs.Walks.{walked-as}
 use Rattle.bac6_rules.proofs.Whole.{rows-whole, rows-most, whole-flags, whole-walk, settled-short, settled-at, fault-short, fault-left, fault-none}
 use Rattle.bac6_rules.proofs.bone.place_bones.Statement.{statement}

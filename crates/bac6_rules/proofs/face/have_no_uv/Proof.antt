@@ -1,6 +1,5 @@
 -- `have_no_uv` is the test of each corner: each that passes leaves those after it.
 use mathlib.Core.Path.{_≡_, sym, _∙_}
-use mathlib.Core.Bool.{Bool}
 use borrow.Author.Needs.{needs}
 use denote.Ref.{now}
 use lib.ListN.{getD}

@@ -1,12 +1,10 @@
 -- `is_fine` is the definition: each test that passes leaves those after it.
 use mathlib.Core.Path.{_≡_, sym, _∙_}
-use mathlib.Core.Bool.{Bool, true, false, _&&_}
 use borrow.Author.Needs.{needs}
-use borrow.Author.Tests.{not-true, not-false}
 use denote.Ref.{now}
 use lib.ListN.{getD}
 use lib.IntN.{pos}
-use Rattle.bac6_text.specs.Rules.{isLevel, materialFine}
+use Rattle.bac6_text.specs.Rules.{isLevel}
 use Rattle.bac6_rules.specs.Rows.{isIndex}
 use Rattle.bac6_rules.proofs.Numbers.{tested, passed, failed}
 use Rattle.bac6_rules.proofs.Materials.{tests}

@@ -1,7 +1,5 @@
 -- `is_row` is the definition: a number below zero is no row, and any other is compared as it stands.
-use mathlib.Core.Path.{sym, ap, _∙_}
-use lib.IntN.{natAbs}
-use lib.Dec.{ltb}
+use mathlib.Core.Path.{sym}
 use mir.Facts.{toZ-ofZ, fits-natAbs}
 use Rattle.bac6_rules.proofs.Numbers.{negative, natural, negative-row, natural-row}
 use Rattle.bac6_rules.proofs.number.is_row.Statement.{statement}

@@ -1,7 +1,7 @@
 -- `claim` is the definition: where each test passes the entry is free, and its owner is set.
-use mathlib.Core.Path.{_≡_, refl, ap, sym, _∙_}
-use mathlib.Core.Bool.{Bool, true, false}
-use Prim.Native.Nat.{ℕ, _*_, _^_, _<_}
+use mathlib.Core.Path.{_≡_, ap, sym, _∙_}
+use mathlib.Core.Bool.{true, false}
+use Prim.Native.Nat.{ℕ, _<_}
 use native.Mathlib.Omega.{arith}
 use borrow.Author.Needs.{needs}
 use borrow.Author.Tests.{not-true, not-false}
@@ -9,7 +9,7 @@ use denote.Ref.{now}
 use lib.ListN.{length, getD}
 use lib.IntN.{pos, natAbs}
 use mir.Syntax.{w64}
-use mir.Val.{Fits, toZ, ofZ}
+use mir.Val.{toZ, ofZ}
 use mir.Facts.{toZ-ofZ, fits-natAbs}
 use Rattle.bac6_text.specs.Rules.{isRow, isNone}
 use Rattle.bac6_rules.specs.Claims.{isFree}
