@@ -2,3 +2,4 @@
 pub mod Closings
 pub mod Materials
 pub mod RowLists
+pub mod Fronts

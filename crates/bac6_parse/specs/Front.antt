@@ -1,12 +1,13 @@
 -- The front of a figure's text, from its head to its normals, written to tables.
-use mathlib.Core.List.{List}
+use mathlib.Core.List.{List, []}
 use Prim.Native.Nat.{ℕ}
 use lib.IntN.{ℤ}
 use Rattle.lexer.specs.Bytes.{bytes}
 use Rattle.lexer.specs.Numbers.{INT, FLOAT}
-use Rattle.chunks.specs.Readers.{Reader, _>>=_, _>>_, pure, opened, close-bracket, head}
+use Rattle.chunks.specs.Readers.{Name, absent, Reader, _>>=_, _>>_, pure, opened, close-bracket, head, closed, string, optional, many, many⁺, row}
 use Rattle.chunks.specs.Places.{optionalName}
 use Rattle.chunks.specs.Into.{rowsInto}
+use Rattle.bac6_text.specs.Grammar.{material}
 use Rattle.bac6_parse.specs.Into.{materialsInto}
 use Rattle.bac6_parse.specs.Lists.{sectionInto, someInto}
 
@@ -38,3 +39,21 @@ frontInto textures colours materials points normals = do
   v ← rowsInto (bytes "vct") FLOAT 3 0 normals
   close-bracket
   pure (frontValue n t c m p v)
+
+-- the same part of the text into lists, as the grammar has it, and what comes after it
+unfoldable pub frontThen : {B : Type 0} → (Name → List (List ℤ) → List (List ℤ) → List (List ℤ) → List (List ℤ) → List (List ℤ) → Reader B) → Reader B
+frontThen back = do
+  head "bacVersion" "6.0"
+  opened "Figure"
+  n ← optional "name" absent (closed string)
+  textures ← optional "Textures" [] (many (row "i2" INT 2))
+  colours ← optional "Colors" [] (many (row "f3" FLOAT 3))
+  opened "Materials"
+  materials ← many⁺ material
+  opened "Vertices"
+  opened "coords"
+  points ← many⁺ (row "pnt" FLOAT 3)
+  opened "normals"
+  normals ← many (row "vct" FLOAT 3)
+  close-bracket
+  back n textures colours materials points normals

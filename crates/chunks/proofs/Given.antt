@@ -1,12 +1,13 @@
 -- What holds of each value that a reader gives.
-use mathlib.Core.Path.{_≡_, refl, ap}
+use mathlib.Core.Path.{_≡_, refl, ap, sym, _∙_}
 use mathlib.Core.List.{List, [], _∷_}
+use mathlib.Core.Bool.{Bool, true, false}
 use Prim.Native.Nat.{ℕ, zero, suc}
 use lib.ListN.{length}
 use Rattle.lexer.specs.Tokens.{Lexeme}
 use Rattle.lexer.specs.Numbers.{Form}
-use Rattle.chunks.specs.Readers.{Got, got, refused, Reader, after, _>>=_, _>>_, pure, close-bracket, closed, numbers, openedOf, rowOf}
-use Rattle.chunks.proofs.Many.{not-got}
+use Rattle.chunks.specs.Readers.{Got, got, refused, Reader, after, _>>=_, _>>_, pure, stop, tokenOf, rest, isClosing, close-bracket, closed, numbers, openedOf, rowOf, manyIn, many}
+use Rattle.chunks.proofs.Many.{not-got, stop-not, many-in-end, many-in-more}
 
 abbrev pub Gives : {A : Type 0} → (A → Type 0) → Reader A → Type 0
 Gives {A} P r = (ms : List Lexeme) (a : A) (l : List Lexeme) → r ms ≡ got a l → P a
@@ -42,3 +43,23 @@ numbers-give f (suc n) = bind-gives (λ _. Unit {0}) (λ zs. length zs ≡ suc n
 pub row-of-gives : (k : List ℕ) (f : Form) (n : ℕ) → Gives (λ zs. length zs ≡ n) (rowOf k f n)
 unfolding rowOf
 row-of-gives k f n = then-gives (λ zs. length zs ≡ n) (openedOf k) (closed-gives (λ zs. length zs ≡ n) (numbers-give f n))
+
+-- ---- lists
+
+abbrev pub Every : {A : Type 0} → (A → Type 0) → List A → Type 0
+Every P [] = Unit {0}
+Every P (a ∷ l) = P a × Every P l
+
+module _ {A : Type 0} (P : A → Type 0) (r : Reader A) (h : Gives P r) where
+  many-in-gives : (n : ℕ) → Gives (Every P) (manyIn n r)
+  unfolding manyIn
+  many-in-gives zero ms l k e = absurd (stop-not 5 ms l k e)
+  many-in-gives (suc n) ms l k e = go (isClosing (tokenOf ms)) refl (many-in-gives n)
+    where
+      go : (v : Bool) → isClosing (tokenOf ms) ≡ v → Gives (Every P) (manyIn n r) → Every P l
+      go true o ih = pure-gives (Every P) [] tt (rest ms) l k (unfold pure in (sym (many-in-end n r ms o) ∙ e))
+      go false o ih = bind-gives P (Every P) h (λ a p. bind-gives (Every P) (Every P) ih (λ m q. pure-gives (Every P) (a ∷ m) (p, q))) ms l k (sym (many-in-more n r ms o) ∙ e)
+
+  pub many-gives : Gives (Every P) (many r)
+  unfolding many
+  many-gives ms = many-in-gives (length ms) ms

@@ -3,6 +3,7 @@ pub mod Binds
 pub mod Branches
 pub mod Choices
 pub mod Counts
+pub mod FieldCounts
 pub mod FieldKeeps
 pub mod FieldSteps
 pub mod Folds

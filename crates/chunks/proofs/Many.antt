@@ -256,11 +256,11 @@ trailing-keeps k a {r} t ms b l e = go (isOpening (tokenOf ms)) refl
 
 -- ---- many
 
-many-in-end : {A : Type 0} (n : ℕ) (r : Reader A) (ms : List Lexeme) → isClosing (tokenOf ms) ≡ true → manyIn (suc n) r ms ≡ got [] (rest ms)
+pub many-in-end : {A : Type 0} (n : ℕ) (r : Reader A) (ms : List Lexeme) → isClosing (tokenOf ms) ≡ true → manyIn (suc n) r ms ≡ got [] (rest ms)
 unfolding manyIn
 many-in-end n r ms e = rw (e, manyIn)
 
-many-in-more : {A : Type 0} (n : ℕ) (r : Reader A) (ms : List Lexeme) → isClosing (tokenOf ms) ≡ false → manyIn (suc n) r ms ≡ (r >>= λ a. manyIn n r >>= λ l. pure (a ∷ l)) ms
+pub many-in-more : {A : Type 0} (n : ℕ) (r : Reader A) (ms : List Lexeme) → isClosing (tokenOf ms) ≡ false → manyIn (suc n) r ms ≡ (r >>= λ a. manyIn n r >>= λ l. pure (a ∷ l)) ms
 unfolding manyIn
 many-in-more n r ms e = rw (e, manyIn)
 

@@ -24,3 +24,16 @@ inside-bind r k h j e ms = bind-assoc r k h ms ∙ bind-same r (λ a. k a >>= h)
 
 pub inside-then : {A B C : Type 0} (r : Reader A) (s : Reader B) (h : B → Reader C) (u : Reader C) → ((ms : List Lexeme) → (s >>= h) ms ≡ u ms) → (ms : List Lexeme) → (r >> s >>= h) ms ≡ (r >> u) ms
 inside-then r s h u e ms = then-bind r s h ms ∙ then-same r (s >>= h) u e ms
+
+-- ---- two sequences side by side, the one of values and the other of their parts, each with what is done after it
+
+module _ {A B C D : Type 0} (g : A → Reader C) (h : B → Reader C) where
+  pub into-then : (r : Reader D) (k : Reader A) (s : Reader B) → ((ms : List Lexeme) → (k >>= g) ms ≡ (s >>= h) ms) → (ms : List Lexeme) → (r >> k >>= g) ms ≡ (r >> s >>= h) ms
+  into-then r k s e ms = then-bind r k g ms ∙ then-same r (k >>= g) (s >>= h) e ms ∙ sym (then-bind r s h ms)
+
+  pub into-bind : {P : Type 0} (r : Reader D) (p : D → P) (u : Reader P) → ((ms : List Lexeme) → (r >>= λ a. pure (p a)) ms ≡ u ms) → (k : D → Reader A) (s : P → Reader B) → ((a : D) (ms : List Lexeme) → (k a >>= g) ms ≡ (s (p a) >>= h) ms) → (ms : List Lexeme) → (r >>= k >>= g) ms ≡ (u >>= s >>= h) ms
+  into-bind r p u e k s q ms = bind-assoc r k g ms ∙ project r p u e (λ a. k a >>= g) (λ x. s x >>= h) q ms ∙ sym (bind-assoc u s h ms)
+
+pub into-end : {B C : Type 0} (b : B) (h : B → Reader C) (ms : List Lexeme) → h b ms ≡ (pure b >>= h) ms
+unfolding _>>=_ pure after
+into-end b h ms = refl
