@@ -8,16 +8,15 @@ use lib.Dec.{eqb}
 use lib.IntN.{ℤ}
 use lib.ListN.{length}
 use Rattle.lexer.specs.Numbers.{INT}
-use Rattle.lexer.specs.Tokens.{Lexeme, lexAt}
+use Rattle.lexer.specs.Tokens.{Lexeme}
 use Rattle.chunks.specs.declared.cursor.Cursor.{Cursor}
-use Rattle.chunks.specs.Readers.{Got, got, Reader, after, _>>=_, _>>_, pure, open-bracket, close-bracket, keyword, closed, number, numbers, oneOf, rowOf, row}
+use Rattle.chunks.specs.Readers.{got, Reader, after, _>>=_, _>>_, pure, open-bracket, oneOf, row}
 use Rattle.chunks.specs.Cursors.{reads, from, overlayAt}
 use Rattle.chunks.specs.Folds.{stepped, rowStep}
 use Rattle.chunks.proofs.Steps.{join, from-same, from-off, reads-on}
 use Rattle.chunks.proofs.Binds.{after-after, after-same}
 use Rattle.chunks.proofs.Tables.{overlayAt-same}
 use Rattle.chunks.proofs.Many.{Keeps, Takes, not-got, takes-keeps, pure-keeps, bind-keeps, bind-takes, then-keeps, then-takes, keyword-takes, opened-takes, open-takes, close-takes, closed-keeps, number-takes, numbers-keeps, one-of-takes, row-takes}
-use Rattle.bac6_text.specs.Figure.{Face}
 use Rattle.bac6_text.specs.Grammar.{face, faceOf, faceBy}
 use Rattle.bac6_text.specs.Layout.{faceRow}
 use Rattle.bac6_faces.specs.Into.{faceTail, faceInto, faceStep}

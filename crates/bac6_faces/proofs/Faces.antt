@@ -8,20 +8,19 @@ use mir.Val.{SFits, toZ, ofZ}
 use mir.Facts.{toZ-ofZ}
 use Rattle.lexer.proofs.Signed.{bits-pos}
 use lib.IntN.{ℤ, pos, negsuc}
-use lib.ListN.{length, replicate, set}
+use lib.ListN.{length}
 use Rattle.lexer.specs.Numbers.{INT}
 use Rattle.lexer.specs.Bytes.{bytes, inWord}
-use Rattle.lexer.specs.Tokens.{Lexeme, lexAt}
+use Rattle.lexer.specs.Tokens.{Lexeme}
 use Rattle.chunks.specs.declared.cursor.Cursor.{Cursor}
-use Rattle.chunks.specs.Readers.{Got, got, Reader, after, _>>=_, _>>_, pure, open-bracket, close-bracket, keyword, wordOf, opened, openedOf, closed, number, numbers, oneOf, row, rowOf}
+use Rattle.chunks.specs.Readers.{Got, Reader, after, _>>=_, _>>_, pure, open-bracket, close-bracket, keyword, wordOf, opened, openedOf, closed, number, numbers, oneOf, row, rowOf}
 use Rattle.chunks.specs.Words.{words, onto, wordIn}
 use Rattle.chunks.specs.Into.{numbersInto, rowInto}
 use Rattle.chunks.specs.Cursors.{reads, from, overlay, overlayAt}
-use Rattle.chunks.proofs.Binds.{after-after, after-same, after-when, then-assoc, then-bind, bind-assoc, closed-map, closed-at}
+use Rattle.chunks.proofs.Binds.{after-after, after-same, after-when, then-assoc, then-bind, closed-map, closed-at}
 use Rattle.chunks.proofs.Steps.{join, seq, from-same}
-use Rattle.chunks.proofs.Given.{Gives, closed-gives, numbers-give, row-of-gives}
+use Rattle.chunks.proofs.Given.{closed-gives, numbers-give, row-of-gives}
 use Rattle.chunks.proofs.Vocabulary.{wordList, one-word}
-use Rattle.bac6_text.specs.Figure.{Face}
 use Rattle.bac6_text.specs.Grammar.{face, faceOf, faceBy}
 use Rattle.bac6_text.specs.Layout.{faceRow, corners}
 use Rattle.bac6_faces.specs.Into.{cornersOf, cornersInto, faceTail, faceInto}

@@ -2,8 +2,7 @@
 use mathlib.Core.Path.{_≡_, refl, ap, sym, _∙_}
 use mathlib.Core.List.{List, [], _∷_}
 use mathlib.Core.Bool.{Bool, true, false}
-use Prim.Native.Nat.{ℕ, suc, _+_, _*_, _^_, _≤_, _<_, min}
-use native.Mathlib.Omega.{arith}
+use Prim.Native.Nat.{ℕ, _+_, _*_, _^_, _≤_, _<_, min}
 use borrow.Author.Tests.{eqb-true, eqb-false}
 use lib.Dec.{eqb}
 use mir.Syntax.{w64}
@@ -13,16 +12,16 @@ use lib.ListN.{length}
 use Rattle.lexer.specs.Bytes.{bytes}
 use Rattle.lexer.specs.Tokens.{Lexeme, lexAt}
 use Rattle.chunks.specs.declared.cursor.Cursor.{Cursor}
-use Rattle.chunks.specs.Readers.{Got, got, Reader, after, _>>=_, _>>_, pure, open-bracket, keyword, wordOf, opened, openedOf, closed, Name, absent, string, optional, many}
+use Rattle.chunks.specs.Readers.{Got, Reader, after, _>>=_, _>>_, pure, open-bracket, keyword, wordOf, opened, openedOf, closed, Name, absent, string, optional, many}
 use Rattle.chunks.specs.Cursors.{reads, from, overlayAt}
 use Rattle.chunks.specs.Places.{placeOf, optionalName}
-use Rattle.chunks.specs.Folds.{fold, folded, stepped, rowStep}
+use Rattle.chunks.specs.Folds.{folded, stepped, rowStep}
 use Rattle.lexer.proofs.Signed.{bits-pos}
 use Rattle.chunks.proofs.Tables.{overlayAt-same}
 use Rattle.chunks.proofs.Steps.{join, seq, from-on, from-off, reads-on, from-same}
 use Rattle.chunks.proofs.Binds.{after-after, after-same, then-assoc, then-bind}
-use Rattle.chunks.proofs.Many.{Keeps, Takes, not-got, takes-keeps, pure-keeps, bind-keeps, bind-takes, then-keeps, then-takes, keyword-takes, word-takes, opened-takes, closed-keeps, string-takes, optional-keeps, many-keeps}
-use Rattle.bac6_text.specs.Figure.{Face, Group}
+use Rattle.chunks.proofs.Many.{Keeps, Takes, takes-keeps, pure-keeps, bind-keeps, bind-takes, then-keeps, then-takes, keyword-takes, word-takes, opened-takes, closed-keeps, string-takes, optional-keeps, many-keeps}
+use Rattle.bac6_text.specs.Figure.{Group}
 use Rattle.bac6_text.specs.Grammar.{face, group}
 use Rattle.bac6_text.specs.Layout.{nameNumbers}
 use Rattle.bac6_faces.specs.Into.{faceStep, groupTail, groupStep}

@@ -1,15 +1,15 @@
 -- Names stand within their text, so that their places are numbers of the tables.
-use mathlib.Core.Path.{_≡_, refl, ap, sym, _∙_}
+use mathlib.Core.Path.{_≡_, refl, sym, _∙_}
 use mathlib.Core.List.{List, [], _∷_}
 use mathlib.Core.Bool.{Bool, true, false}
-use Prim.Native.Nat.{ℕ, zero, suc, _+_, _≤_, min}
+use Prim.Native.Nat.{ℕ, zero, suc, _+_, _≤_}
 use native.Mathlib.Omega.{arith}
 use lib.ListN.{length, drop, length-drop}
 use Rattle.lexer.specs.Bytes.{bytes, Class, blank, opener, closer, quote, semicolon, letter, other, classOf, isLetter, inLine, inString, run}
 use Rattle.lexer.specs.Tokens.{Token, opening, closing, ending, quoted, plain, Lexeme, lexeme, tokens, lexAt, bytesOf}
 use Rattle.lexer.proofs.Runs.{run-length}
 use Rattle.chunks.specs.declared.cursor.Cursor.{Cursor}
-use Rattle.chunks.specs.Readers.{Got, got, refused, Reader, after, _>>=_, _>>_, pure, tokenOf, rest, close-bracket, closed, Name, absent, nameAt, string, starts, optional}
+use Rattle.chunks.specs.Readers.{Got, got, refused, after, _>>=_, _>>_, pure, tokenOf, rest, close-bracket, closed, Name, absent, nameAt, string, starts, optional}
 use Rattle.chunks.specs.Places.{placeOf, optionalName}
 use Rattle.chunks.specs.Cursors.{reads, from}
 use Rattle.chunks.proofs.Steps.{from-on, reads-on}

@@ -1,14 +1,16 @@
 -- Readers of faces and groups that write rows to tables.
-use mathlib.Core.List.{List, [], _∷_}
-use Prim.Native.Nat.{ℕ, zero, suc, _+_, _*_}
+use mathlib.Core.List.{List, [], _∷_, _++_, map}
+use Prim.Native.Nat.{ℕ}
+use lib.ListN.{length}
 use lib.IntN.{ℤ, pos, negsuc}
 use Rattle.lexer.specs.Numbers.{INT}
-use Rattle.chunks.specs.Readers.{Reader, _>>=_, _>>_, pure, open-bracket, close-bracket, keyword, closed, number, numbers, oneOf, rowOf, absent, string, optional, many}
+use Rattle.chunks.specs.Readers.{Reader, _>>=_, _>>_, pure, open-bracket, close-bracket, keyword, opened, closed, number, numbers, oneOf, rowOf, absent, string, optional, trailing, many}
 use Rattle.chunks.specs.Cursors.{overlayAt}
+use Rattle.chunks.specs.Into.{flat}
 use Rattle.chunks.specs.Folds.{fold, rowStep}
 use Rattle.bac6_text.specs.Figure.{Face, Group}
-use Rattle.bac6_text.specs.Grammar.{face, faceBy}
-use Rattle.bac6_text.specs.Layout.{faceRow, nameNumbers}
+use Rattle.bac6_text.specs.Grammar.{face, faceBy, group}
+use Rattle.bac6_text.specs.Layout.{faceRow, groupRows, groupNames, nameNumbers}
 
 -- a face after its first i3 or i4, by that word's bytes
 unfoldable pub cornersOf : ℤ → List ℕ → ℕ → Reader Face
@@ -37,3 +39,15 @@ groupTail = keyword "group" >> optional "name" absent (closed string) >>= λ n. 
 -- a group more: a row of the names, and its faces after those that stand
 unfoldable pub groupStep : (ℕ × List ℤ) × (ℕ × List ℤ) → Group → (ℕ × List ℤ) × (ℕ × List ℤ)
 groupStep s g = (rowStep 2 (s .0) (nameNumbers (g .name)), fold (faceStep (pos (s .0 .0))) (s .1) (g .faces))
+
+-- the rows of faces that have no group, and of groups' faces
+unfoldable pub allRows : List Face → List Group → List (List ℤ)
+allRows ps gs = map (faceRow (negsuc 0)) ps ++ groupRows 0 gs
+
+-- how many faces there are, their table, how many groups, and the table of their names
+unfoldable pub tablesOf : List ℤ → List ℤ → List Face → List Group → ℕ × List ℤ × ℕ × List ℤ
+tablesOf faces names ps gs = (length (allRows ps gs), overlayAt 0 (flat (allRows ps gs)) faces, length gs, overlayAt 0 (flat (groupNames gs)) names)
+
+-- the end of a figure: its faces and groups, to two tables
+unfoldable pub polygonsInto : List ℤ → List ℤ → Reader (ℕ × List ℤ × ℕ × List ℤ)
+polygonsInto faces names = opened "Polygons" >> many face >>= λ ps. trailing "DynamicPolygons" [] (many group) >>= λ gs. pure (tablesOf faces names ps gs)
