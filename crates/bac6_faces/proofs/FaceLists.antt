@@ -1,0 +1,61 @@
+-- Faces one after the other, each a row more in the table.
+use mathlib.Core.Path.{_≡_, refl, ap, sym, _∙_}
+use mathlib.Core.List.{List, [], _∷_}
+use mathlib.Core.Bool.{Bool, true, false}
+use Prim.Native.Nat.{ℕ, zero, suc, _+_, _*_, min}
+use borrow.Author.Tests.{eqb-true, eqb-false}
+use lib.Dec.{eqb}
+use lib.IntN.{ℤ}
+use lib.ListN.{length}
+use Rattle.lexer.specs.Numbers.{INT}
+use Rattle.lexer.specs.Tokens.{Lexeme}
+use Rattle.chunks.specs.declared.cursor.Cursor.{Cursor}
+use Rattle.chunks.specs.Readers.{got, Reader, after, _>>=_, _>>_, pure, open-bracket, oneOf, row}
+use Rattle.chunks.specs.Cursors.{reads, from, overlayAt}
+use Rattle.chunks.specs.Folds.{stepped, rowStep}
+use Rattle.chunks.proofs.Steps.{join, from-same, from-off, reads-on}
+use Rattle.chunks.proofs.Binds.{after-after, after-same}
+use Rattle.chunks.proofs.Tables.{overlayAt-same}
+use Rattle.chunks.proofs.Many.{Keeps, Takes, not-got, takes-keeps, pure-keeps, bind-keeps, bind-takes, then-keeps, then-takes, keyword-takes, opened-takes, open-takes, close-takes, closed-keeps, number-takes, numbers-keeps, one-of-takes, row-takes}
+use Rattle.bac6_text.specs.Grammar.{face, faceOf, faceBy}
+use Rattle.bac6_text.specs.Layout.{faceRow}
+use Rattle.bac6_faces.specs.Into.{faceTail, faceInto, faceStep}
+
+-- a reader that has not refused found a cursor that had not
+pub alive : {A : Type 0} (text : List ℕ) (d e : Cursor) (r : Reader A) (a : A) → reads text e a ≡ from text d r → e .refusal ≡ 0 → d .refusal ≡ 0
+alive text d e r a p o = go (eqb (d .refusal) 0) refl
+  where
+    go : (v : Bool) → eqb (d .refusal) 0 ≡ v → d .refusal ≡ 0
+    go true q = eqb-true _ _ q
+    go false q = absurd (not-got _ _ a _ (sym (sym (reads-on text e a o) ∙ p ∙ from-off text d r (eqb-false _ _ q))))
+
+-- ---- a face takes a token
+
+of-keeps : (m : ℤ) (k : ℕ) → Keeps (faceBy m k)
+unfolding faceBy faceOf
+of-keeps m zero = bind-keeps (closed-keeps (numbers-keeps INT 3)) (λ vs. bind-keeps (takes-keeps (row-takes "i3" INT 3)) (λ ts. then-keeps (takes-keeps close-takes) (pure-keeps _)))
+of-keeps m (suc k) = bind-keeps (closed-keeps (numbers-keeps INT 4)) (λ vs. bind-keeps (takes-keeps (row-takes "i4" INT 4)) (λ ts. then-keeps (takes-keeps close-takes) (pure-keeps _)))
+
+inside-keeps : (m : ℤ) → Keeps (open-bracket >> oneOf ("i3" ∷ "i4" ∷ []) >>= λ k. faceBy m k)
+inside-keeps m = bind-keeps (then-keeps (takes-keeps open-takes) (takes-keeps (one-of-takes ("i3" ∷ "i4" ∷ [])))) (λ k. of-keeps m k)
+
+pub face-keeps : Keeps faceTail
+unfolding faceTail
+face-keeps = bind-keeps (then-keeps (takes-keeps (keyword-takes "face")) (takes-keeps (number-takes INT))) inside-keeps
+
+pub face-takes : Takes face
+unfolding face
+face-takes = bind-takes (then-takes (opened-takes "face") (takes-keeps (number-takes INT))) inside-keeps
+
+-- ---- a face's row, set down at an index that is as good as that of row n
+
+module _ (g : ℤ) (n i : ℕ) (t : List ℤ) (h : min i (length t) ≡ min (n * 11) (length t)) where
+  face-same : (ms : List Lexeme) → (faceInto g i t >>= λ (y : List ℤ). pure (n + 1, y)) ms ≡ stepped (faceStep g) faceTail (n, t) ms
+  unfolding faceInto faceStep stepped rowStep _>>=_ pure after
+  face-same ms =
+      after-after (faceTail ms) (λ f. pure (overlayAt i (faceRow g f) t)) (λ (y : List ℤ). pure (n + 1, y))
+      ∙ after-same (faceTail ms) _ _ (λ f l. ap (λ (y : List ℤ). got (n + 1, y) l) (overlayAt-same i (n * 11) (faceRow g f) t h))
+
+  pub face-stepped : (text : List ℕ) (d e : Cursor) (t′ : List ℤ) → reads text e t′ ≡ from text d (faceInto g i t) → reads text e (n + 1, t′) ≡ from text d (stepped (faceStep g) faceTail (n, t))
+  unfolding reads
+  face-stepped text d e t′ q = join text d e e t′ (n + 1, t′) (faceInto g i t) (λ (y : List ℤ). pure (n + 1, y)) q refl ∙ from-same text d _ _ face-same

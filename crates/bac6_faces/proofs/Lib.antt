@@ -1,0 +1,7 @@
+-- Laws that belong to no one function.
+pub mod FaceLists
+pub mod Faces
+pub mod Groups
+pub mod Names
+pub mod PolygonSteps
+pub mod Rows
