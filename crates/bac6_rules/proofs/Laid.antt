@@ -12,7 +12,9 @@ use lib.Seq.{take-at, drop-at, getD-at, getD-append-add, set-at, set-append-left
 use lib.IntN.{ℤ, pos, negsuc}
 use Rattle.lexer.specs.Faults.{clear}
 use Rattle.bac6_text.specs.Figure.{Bone, Face, Group, Figure}
-use Rattle.bac6_text.specs.Layout.{flat, nameNumbers, boneRow, boneRows, faceRow, groupRows, faceRows}
+use Rattle.chunks.specs.Into.{flat}
+use Rattle.chunks.proofs.Given.{Every}
+use Rattle.bac6_text.specs.Layout.{nameNumbers, boneRow, boneRows, faceRow, groupRows, faceRows}
 use Rattle.bac6_text.specs.Rules.{groupFaces, facesOf, flagsOf, firstBad, faceFine, parentsIn, wholeList, bonesFault}
 use Rattle.bac6_rules.specs.Rows.{rowsOf, faceRowFine}
 use Rattle.bac6_rules.specs.Bones.{rowFlags, flagsIn, parentsFrom, withParents, Settled}
@@ -24,8 +26,7 @@ use Rattle.bac6_rules.proofs.Whole.{settled-clear}
 -- ---- rows of one width
 
 abbrev pub Wide : ℕ → List (List ℤ) → Type 0
-Wide w [] = Unit {0}
-Wide w (r ∷ rs) = (length r ≡ w) × Wide w rs
+Wide w rs = Every (λ r. length r ≡ w) rs
 
 flat-apart : (r : List ℤ) (rs : List (List ℤ)) (rest : List ℤ) → flat (r ∷ rs) ++ rest ≡ r ++ (flat rs ++ rest)
 unfolding flat
@@ -52,8 +53,7 @@ pub record WholeFace (f : Face) : Type 0 where
   pub uvs : length (f .uvs) ≡ f .size
 
 abbrev pub WholeFaces : List Face → Type 0
-WholeFaces [] = Unit {0}
-WholeFaces (f ∷ fs) = WholeFace f × WholeFaces fs
+WholeFaces fs = Every WholeFace fs
 
 whole-left : (a b : List Face) → WholeFaces (a ++ b) → WholeFaces a
 whole-left [] b h = tt
@@ -123,8 +123,7 @@ pub record WholeBone (b : Bone) : Type 0 where
   pub handle : length (b .handle) ≡ 3
 
 abbrev pub WholeBones : List Bone → Type 0
-WholeBones [] = Unit {0}
-WholeBones (b ∷ bs) = WholeBone b × WholeBones bs
+WholeBones bs = Every WholeBone bs
 
 -- a row: nine numbers, two flags, the parent, the name
 module _ (b : Bone) (w : WholeBone b) where

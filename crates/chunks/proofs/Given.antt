@@ -3,10 +3,12 @@ use mathlib.Core.Path.{_≡_, refl, ap, sym, _∙_}
 use mathlib.Core.List.{List, [], _∷_}
 use mathlib.Core.Bool.{Bool, true, false}
 use Prim.Native.Nat.{ℕ, zero, suc}
+use Prim.Native.String.{String}
 use lib.ListN.{length}
+use Rattle.lexer.specs.Bytes.{bytes}
 use Rattle.lexer.specs.Tokens.{Lexeme}
 use Rattle.lexer.specs.Numbers.{Form}
-use Rattle.chunks.specs.Readers.{Got, got, refused, Reader, after, _>>=_, _>>_, pure, stop, tokenOf, rest, isClosing, close-bracket, closed, numbers, openedOf, rowOf, manyIn, many}
+use Rattle.chunks.specs.Readers.{Got, got, refused, Reader, after, _>>=_, _>>_, pure, stop, tokenOf, rest, isClosing, close-bracket, closed, numbers, openedOf, rowOf, manyIn, many, many⁺, starts, isOpening, opened, optional, trailing}
 use Rattle.chunks.proofs.Many.{not-got, stop-not, many-in-end, many-in-more}
 
 abbrev pub Gives : {A : Type 0} → (A → Type 0) → Reader A → Type 0
@@ -63,3 +65,26 @@ module _ {A : Type 0} (P : A → Type 0) (r : Reader A) (h : Gives P r) where
   pub many-gives : Gives (Every P) (many r)
   unfolding many
   many-gives ms = many-in-gives (length ms) ms
+
+  pub some-give : Gives (Every P) (many⁺ r)
+  unfolding many⁺
+  some-give = bind-gives P (Every P) h (λ a p. bind-gives (Every P) (Every P) many-gives (λ l q. pure-gives (Every P) (a ∷ l) (p, q)))
+
+-- ---- what may be left out
+
+module _ {A : Type 0} (P : A → Type 0) (k : String) (a : A) (p : P a) (r : Reader A) (h : Gives P r) where
+  pub optional-gives : Gives P (optional k a r)
+  unfolding optional
+  optional-gives ms b l e = go (starts (bytes k) ms) refl
+    where
+      go : (v : Bool) → starts (bytes k) ms ≡ v → P b
+      go true o = h (rest (rest ms)) b l (rw (o, optional) at e)
+      go false o = pure-gives P a p ms b l (unfold pure in (rw (o, optional) at e))
+
+  pub trailing-gives : Gives P (trailing k a r)
+  unfolding trailing
+  trailing-gives ms b l e = go (isOpening (tokenOf ms)) refl
+    where
+      go : (v : Bool) → isOpening (tokenOf ms) ≡ v → P b
+      go true o = then-gives P (opened k) h ms b l (rw (o, trailing) at e)
+      go false o = pure-gives P a p ms b l (unfold pure in (rw (o, trailing) at e))

@@ -4,6 +4,7 @@ pub mod Branches
 pub mod Choices
 pub mod Counts
 pub mod FieldCounts
+pub mod FieldFits
 pub mod FieldKeeps
 pub mod FieldSteps
 pub mod Folds

@@ -1,0 +1,1 @@
+// Reads a figure's text.
