@@ -12,7 +12,8 @@ use lib.Seq.{take-at, drop-at, getD-at, getD-append-add, set-at, set-append-left
 use lib.IntN.{ℤ, pos, negsuc}
 use Rattle.lexer.specs.Faults.{clear}
 use Rattle.bac6_text.specs.Figure.{Bone, Face, Group, Figure}
-use Rattle.bac6_text.specs.Layout.{flat, nameNumbers, boneRow, boneRows, faceRow, groupRows, faceRows}
+use Rattle.chunks.specs.Into.{flat}
+use Rattle.bac6_text.specs.Layout.{nameNumbers, boneRow, boneRows, faceRow, groupRows, faceRows}
 use Rattle.bac6_text.specs.Rules.{groupFaces, facesOf, flagsOf, firstBad, faceFine, parentsIn, wholeList, bonesFault}
 use Rattle.bac6_rules.specs.Rows.{rowsOf, faceRowFine}
 use Rattle.bac6_rules.specs.Bones.{rowFlags, flagsIn, parentsFrom, withParents, Settled}
