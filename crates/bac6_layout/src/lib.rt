@@ -1,0 +1,4 @@
+// A figure's lists laid into the lent table, one after the other without gaps (document 01, "The table").
+mod table;
+
+pub use table::put;
