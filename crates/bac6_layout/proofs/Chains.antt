@@ -4,7 +4,7 @@ use mathlib.Core.List.{List, [], _∷_, _++_}
 use Prim.Native.Nat.{ℕ, zero, suc, _+_, _-_, _≤_, min}
 use native.Mathlib.Omega.{arith}
 use lib.IntN.{ℤ}
-use lib.ListN.{length, take, drop, length-drop, take-append-drop}
+use lib.ListN.{length, take, drop, length-drop, length-append, take-append-drop}
 use Rattle.chunks.specs.Cursors.{overlay, overlayAt}
 use Rattle.chunks.proofs.Tables.{overlayAt-append, overlayAt-length, overlayAt-past, overlayAt-same}
 
@@ -39,3 +39,18 @@ up-to (suc n) (z ∷ zs) (x ∷ s) h = ap (λ (l : List ℤ). z ∷ l) (up-to n 
 
 pub middle : (at end : ℕ) (zs t : List ℤ) → at ≤ end → end ≡ min (at + length zs) (length t) → take at t ++ (overlayAt 0 zs (take (end - at) (drop at t)) ++ drop (end - at) (drop at t)) ≡ overlayAt at zs t
 middle at end zs t h e = sym (from-index at zs t ∙ ap (λ (l : List ℤ). take at t ++ l) (up-to (end - at) zs (drop at t) (rw length-drop (omega arith))))
+
+-- ---- lists laid from a table's start on
+
+-- what a table holds after lists, and the index after them
+abbrev pub Laid : List ℤ → List ℤ → List ℤ → ℕ → Type 0
+Laid t zs exit i = (exit ≡ overlayAt 0 zs t) × (i ≡ min (length zs) (length t))
+
+pub laid-first : (t zs exit : List ℤ) (i : ℕ) → exit ≡ overlayAt 0 zs t → i ≡ min (0 + length zs) (length t) → Laid t zs exit i
+laid-first t zs exit i x e = (x, omega (arith, e))
+
+pub laid-next : (t zs mid : List ℤ) (i : ℕ) (b exit : List ℤ) (k : ℕ) → Laid t zs mid i → exit ≡ overlayAt i b mid → k ≡ min (i + length b) (length mid) → Laid t (zs ++ b) exit k
+laid-next t zs mid i b exit k l x e =
+    let n : length mid ≡ length t = ap length (l .0) ∙ overlayAt-length 0 zs t in
+    let a : length (zs ++ b) ≡ length zs + length b = length-append zs b in
+    (x ∙ ap (overlayAt i b) (l .0) ∙ put-chain 0 i zs b t (omega (arith, l .1)), omega (arith, l .1, e, n, a))
