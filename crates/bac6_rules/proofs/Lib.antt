@@ -9,3 +9,4 @@ pub mod Walks
 pub mod Whole
 pub mod Claims
 pub mod Laid
+pub mod Counts

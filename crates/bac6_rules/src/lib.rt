@@ -1,11 +1,14 @@
-// Rules 10 to 13 of a figure, over tables of rows (document 01, "Refusal numbers").
+// Rules 8 to 13 of a figure, over tables of rows (document 01, "Refusal numbers").
 mod bone;
+mod count;
 mod face;
 mod material;
 mod number;
 mod owner;
 
 pub use bone::place_bones;
+pub use count::normals_fault;
+pub use count::too_many;
 pub use face::UvRow;
 pub use face::VertexRow;
 pub use face::face_fault;
