@@ -2,12 +2,14 @@
 use mathlib.Core.Path.{_≡_, refl, ap, sym, _∙_}
 use mathlib.Core.List.{List, [], _∷_, _++_, map}
 use mathlib.Core.Bool.{Bool, true, false}
+use mathlib.Core.Logic.{_⊎_, inl, inr}
 use mathlib.Core.Option.{Option, none, some}
 use Prim.Native.Nat.{ℕ, zero, suc}
 use Prim.Native.String.{String}
 use lib.IntN.{ℤ}
 use lib.ListN.{length, getD}
-use Rattle.lexer.specs.Numbers.{INT, FLOAT}
+use Rattle.lexer.specs.Bytes.{bytes}
+use Rattle.lexer.specs.Numbers.{Form, INT, FLOAT}
 use Rattle.chunks.specs.Readers.{Reader, Name, absent, _>>=_, _>>_, pure, open-bracket, close-bracket, opened, closed, number, numbers, string, oneOf, optional, trailing, many, many⁺, row, head, text-end}
 use Rattle.chunks.specs.Fields.{Kind, kind, unread, complete, fields, fieldsIn, neededOf}
 use Rattle.chunks.proofs.Given.{Gives, Every, pure-gives, bind-gives, then-gives, closed-gives, numbers-give, row-of-gives, many-gives, some-give, optional-gives, trailing-gives}
@@ -15,6 +17,8 @@ use Rattle.chunks.proofs.FieldCounts.{fields-in-length}
 use Rattle.chunks.proofs.FieldFits.{AllGive, Whole, Stands, fields-fit, fields-stand}
 use Rattle.bac6_text.specs.Figure.{Bone, Face, Group, Figure}
 use Rattle.bac6_text.specs.Grammar.{BoneField, named, flag, several, boneKinds, boneOf, numbersIn, bone, truth, faceOf, faceBy, face, group, material, figure}
+use Rattle.bac6_text.specs.Rules.{groupFaces, facesOf}
+use Rattle.bac6_parse.proofs.Fronts.{material-wide}
 use Rattle.bac6_rules.proofs.Laid.{Wide, WholeFace, WholeFaces, WholeBone, WholeBones}
 
 -- any value
@@ -38,3 +42,109 @@ by-whole m (suc k) = corners-whole m "i4" 4 (inr refl)
 face-whole : Gives WholeFace face
 unfolding face
 face-whole = bind-gives (λ _. Unit {0}) WholeFace (any _) (λ m _. bind-gives (λ _. Unit {0}) WholeFace (any _) (λ k _. by-whole m k))
+
+group-whole : Gives (λ g. WholeFaces (g .faces)) group
+unfolding group
+group-whole =
+    bind-gives (λ _. Unit {0}) (λ g. WholeFaces (g .faces)) (any _) (λ n _.
+    bind-gives WholeFaces (λ g. WholeFaces (g .faces)) (many-gives WholeFace face face-whole) (λ fs h.
+    pure-gives (λ g. WholeFaces (g .faces)) (record { name = n; faces = fs }) h))
+
+-- ---- bones
+
+-- the fields 3 to 5 are three numbers
+abbrev Field : ℕ → BoneField → Type 0
+Field zero f = Unit {0}
+Field (suc zero) f = Unit {0}
+Field (suc (suc zero)) f = Unit {0}
+Field (suc (suc (suc zero))) f = length (numbersIn (some f)) ≡ 3
+Field (suc (suc (suc (suc zero)))) f = length (numbersIn (some f)) ≡ 3
+Field (suc (suc (suc (suc (suc zero))))) f = length (numbersIn (some f)) ≡ 3
+Field (suc (suc (suc (suc (suc (suc k)))))) f = Unit {0}
+
+three-give : Gives (λ f. length (numbersIn (some f)) ≡ 3) (closed (numbers FLOAT 3) >>= λ zs. pure (several zs))
+unfolding numbersIn
+three-give = bind-gives (λ zs. length zs ≡ 3) _ (closed-gives (λ zs. length zs ≡ 3) (numbers-give FLOAT 3)) (λ zs h. pure-gives (λ f. length (numbersIn (some f)) ≡ 3) (several zs) h)
+
+kinds-give : AllGive Field 0 boneKinds
+unfolding boneKinds kind
+kinds-give = (any _, (any _, (any _, (three-give, (three-give, (three-give, (any _, tt)))))))
+
+module _ (fs : List (Option BoneField)) (w : Whole Field boneKinds fs) (e : length fs ≡ 7) where
+  three-of : (k : ℕ) → (s : Stands Field 0 k fs) → length (numbersIn (some (s .value))) ≡ 3 → length (numbersIn (getD fs k none)) ≡ 3
+  three-of k s h = ap (λ (o : Option BoneField). length (numbersIn o)) (s .here) ∙ h
+
+  bone-of-whole : WholeBone (boneOf fs)
+  unfolding boneOf neededOf boneKinds kind
+  bone-of-whole =
+      let a = fields-stand Field boneKinds fs 3 w refl e in
+      let b = fields-stand Field boneKinds fs 4 w refl e in
+      let c = fields-stand Field boneKinds fs 5 w refl e in
+      record { translate = three-of 3 a (a .fits); rotate = three-of 4 b (b .fits); handle = three-of 5 c (c .fits) }
+
+bone-fields : Gives (λ fs. Whole Field boneKinds fs × (length fs ≡ 7)) (fields boneKinds)
+unfolding fields unread boneKinds
+bone-fields ms fs l e = (fields-fit Field boneKinds kinds-give ms fs l e, fields-in-length 7 boneKinds (unread boneKinds) ms fs l e)
+
+bone-whole : Gives WholeBone bone
+unfolding bone
+bone-whole =
+    bind-gives (λ fs. Whole Field boneKinds fs × (length fs ≡ 7)) WholeBone (then-gives (λ fs. Whole Field boneKinds fs × (length fs ≡ 7)) (opened "bone") bone-fields) (λ fs h.
+    pure-gives WholeBone (boneOf fs) (bone-of-whole fs (h .0) (h .1)))
+
+-- ---- the figure
+
+pub record WholeFigure (f : Figure) : Type 0 where
+  pub textures : Wide 2 (f .textures)
+  pub colours : Wide 3 (f .colours)
+  pub materials : Wide 9 (f .materials)
+  pub points : Wide 3 (f .points)
+  pub normals : Wide 3 (f .normals)
+  pub bones : WholeBones (f .bones)
+  pub uvs : Wide 2 (f .uvs)
+  pub polygons : WholeFaces (f .polygons)
+  pub groups : Every (λ g. WholeFaces (g .faces)) (f .groups)
+
+row-gives : (k : String) (f : Form) (n : ℕ) → Gives (λ r. length r ≡ n) (row k f n)
+unfolding row
+row-gives k f n = row-of-gives (bytes k) f n
+
+section-gives : (k w : String) (f : Form) (n : ℕ) → Gives (Wide n) (optional k [] (many (row w f n)))
+section-gives k w f n = optional-gives (Wide n) k [] tt (many (row w f n)) (many-gives (λ r. length r ≡ n) (row w f n) (row-gives w f n))
+
+pub figure-whole : Gives WholeFigure figure
+unfolding figure
+figure-whole =
+    then-gives WholeFigure (head "bacVersion" "6.0") (then-gives WholeFigure (opened "Figure")
+    (bind-gives (λ _. Unit {0}) WholeFigure (any _) (λ n _.
+    bind-gives (Wide 2) WholeFigure (section-gives "Textures" "i2" INT 2) (λ ts hts.
+    bind-gives (Wide 3) WholeFigure (section-gives "Colors" "f3" FLOAT 3) (λ cs hcs.
+    then-gives WholeFigure (opened "Materials")
+    (bind-gives (Wide 9) WholeFigure (some-give (λ r. length r ≡ 9) material material-wide) (λ mats hmats.
+    then-gives WholeFigure (opened "Vertices") (then-gives WholeFigure (opened "coords")
+    (bind-gives (Wide 3) WholeFigure (some-give (λ r. length r ≡ 3) (row "pnt" FLOAT 3) (row-gives "pnt" FLOAT 3)) (λ ps hps.
+    then-gives WholeFigure (opened "normals")
+    (bind-gives (Wide 3) WholeFigure (many-gives (λ r. length r ≡ 3) (row "vct" FLOAT 3) (row-gives "vct" FLOAT 3)) (λ vs hvs.
+    then-gives WholeFigure close-bracket (then-gives WholeFigure (opened "Bones")
+    (bind-gives WholeBones WholeFigure (some-give WholeBone bone bone-whole) (λ bs hbs.
+    bind-gives (Wide 2) WholeFigure (section-gives "TextureCoords" "f2" FLOAT 2) (λ us hus.
+    then-gives WholeFigure (opened "Polygons")
+    (bind-gives WholeFaces WholeFigure (many-gives WholeFace face face-whole) (λ fs hfs.
+    bind-gives (Every (λ g. WholeFaces (g .faces))) WholeFigure (trailing-gives (Every (λ g. WholeFaces (g .faces))) "DynamicPolygons" [] tt (many group) (many-gives (λ g. WholeFaces (g .faces)) group group-whole)) (λ gs hgs.
+    then-gives WholeFigure close-bracket (then-gives WholeFigure text-end
+    (pure-gives WholeFigure _ (record { textures = hts; colours = hcs; materials = hmats; points = hps; normals = hvs; bones = hbs; uvs = hus; polygons = hfs; groups = hgs }))))))))))))))))))))))
+
+-- all its faces, group by group
+
+every-append : (a b : List Face) → WholeFaces a → WholeFaces b → WholeFaces (a ++ b)
+every-append [] b h k = k
+every-append (f ∷ a) b h k = (h .0, every-append a b (h .1) k)
+
+groups-whole : (gs : List Group) → Every (λ g. WholeFaces (g .faces)) gs → WholeFaces (groupFaces gs)
+unfolding groupFaces
+groups-whole [] h = tt
+groups-whole (g ∷ gs) h = every-append (g .faces) (groupFaces gs) (h .0) (groups-whole gs (h .1))
+
+pub faces-whole : (f : Figure) → WholeFigure f → WholeFaces (facesOf f)
+unfolding facesOf
+faces-whole f w = every-append (f .polygons) (groupFaces (f .groups)) (w .polygons) (groups-whole (f .groups) (w .groups))

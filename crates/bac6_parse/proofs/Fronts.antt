@@ -54,7 +54,7 @@ fold-rows w n t (r ∷ rs) h =
 
 -- ---- materials
 
-material-wide : Gives (λ r. length r ≡ 9) material
+pub material-wide : Gives (λ r. length r ≡ 9) material
 unfolding material fields unread materialKinds
 material-wide = bind-gives (λ fs. length fs ≡ 9) (λ r. length r ≡ 9) (then-gives (λ fs. length fs ≡ 9) (opened "material") (fields-in-length 9 materialKinds (unread materialKinds))) (λ fs h. pure-gives (λ r. length r ≡ 9) (map orZero fs) (map-length orZero fs ∙ h))
 
