@@ -1,0 +1,2 @@
+// Reads the bones of a figure: their rows, and the claims of their vertex entries.
+mod entry;
