@@ -1,6 +1,6 @@
 -- The entries of a bone, turn by turn: the closing bracket, or an entry and those after it.
 use mathlib.Core.Path.{_≡_, refl, ap, sym, _∙_}
-use mathlib.Core.List.{List, [], _∷_}
+use mathlib.Core.List.{List}
 use mathlib.Core.Bool.{Bool, true, false, true≢false}
 use Prim.Native.Nat.{ℕ, _<_}
 use lib.IntN.{ℤ}
@@ -10,9 +10,9 @@ use Rattle.lexer.specs.Tokens.{Lexeme, lexeme, lexAt}
 use Rattle.lexer.specs.declared.token.Span.{Span}
 use Rattle.lexer.specs.Answers.{Next, lexemeOf}
 use Rattle.chunks.specs.declared.cursor.Cursor.{Cursor}
-use Rattle.chunks.specs.Readers.{Got, got, Reader, after, _>>=_, pure, tokenOf, rest, isClosing, number, many}
+use Rattle.chunks.specs.Readers.{Got, got, after, _>>=_, pure, tokenOf, rest, isClosing, number, many}
 use Rattle.chunks.specs.Cursors.{reads, from}
-use Rattle.chunks.proofs.Steps.{from-on, reads-on, next-token, next-rest, live, from-bind, after-reads}
+use Rattle.chunks.proofs.Steps.{from-on, reads-on, next-token, next-rest, live, after-reads}
 use Rattle.chunks.proofs.Binds.{after-after, after-same}
 use Rattle.chunks.proofs.Many.{number-takes, many-end, many-more}
 use Rattle.chunks.proofs.Counts.{falls}

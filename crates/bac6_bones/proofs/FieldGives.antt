@@ -1,15 +1,15 @@
 -- Chunks in a free order: what holds of each value that a kind's chunk gives holds of the fields, and those that must stand do.
-use mathlib.Core.Path.{_≡_, refl, ap, sym, _∙_}
+use mathlib.Core.Path.{_≡_, refl, ap}
 use mathlib.Core.List.{List, [], _∷_, map}
-use mathlib.Core.Bool.{Bool, true, false, not, _&&_, _||_, false≢true, true≢false}
+use mathlib.Core.Bool.{Bool, true, false, not, _&&_, _||_, false≢true}
 use mathlib.Core.Option.{Option, none, some}
 use Prim.Native.Nat.{ℕ, zero, suc, _<_}
 use native.Mathlib.Omega.{arith}
 use lib.ListN.{length, getD}
 use Rattle.lexer.specs.Bytes.{bytes}
 use Rattle.lexer.specs.Tokens.{Lexeme, isKeyword}
-use Rattle.chunks.specs.Readers.{Got, got, Reader, after, _>>=_, _>>_, pure, stop, tokenOf, rest, isClosing, open-bracket}
-use Rattle.chunks.specs.Fields.{Kind, isSome, complete, kindFrom, fieldsIn, fields, unread, neededOf, coversAll}
+use Rattle.chunks.specs.Readers.{Got, got, _>>=_, _>>_, pure, stop, tokenOf, rest, isClosing, open-bracket}
+use Rattle.chunks.specs.Fields.{Kind, isSome, complete, kindFrom, fieldsIn, neededOf, coversAll}
 use Rattle.chunks.proofs.Many.{stop-not}
 use Rattle.chunks.proofs.Given.{Gives, pure-gives, bind-gives, then-gives}
 

@@ -1,32 +1,26 @@
 -- The fields of a bone: which kind a token picks, and what each kind's field does to what the code keeps.
 use mathlib.Core.Path.{_≡_, refl, ap, sym, _∙_}
-use mathlib.Core.List.{List, [], _∷_, _++_, map}
-use mathlib.Core.Bool.{Bool, true, false, _&&_, false≢true, true≢false}
+use mathlib.Core.List.{List, [], _∷_, map}
+use mathlib.Core.Bool.{Bool, true, false, false≢true, true≢false}
 use mathlib.Core.Option.{Option, none, some}
-use Prim.Native.Nat.{ℕ, zero, suc, _+_, _*_, _-_, _≤_, _<_}
+use Prim.Native.Nat.{ℕ, zero, suc, _-_, _≤_, _<_}
 use native.Mathlib.Omega.{arith}
-use borrow.Author.Tests.{eq-eqb, eqb-true}
-use lib.Dec.{eqb}
 use lib.IntN.{ℤ, pos}
 use lib.ListN.{length, getD, set, replicate}
 use Rattle.lexer.specs.Bytes.{bytes, same, inWord}
-use Rattle.lexer.specs.Numbers.{INT, FLOAT}
-use Rattle.lexer.specs.Tokens.{Lexeme, lexAt}
+use Rattle.lexer.specs.Tokens.{lexAt}
 use Rattle.lexer.specs.declared.token.Span.{Span}
 use Rattle.lexer.specs.Answers.{Next, lexemeOf}
 use Rattle.chunks.specs.declared.cursor.Cursor.{Cursor}
-use Rattle.chunks.specs.Readers.{Got, Reader, _>>=_, pure, closed, number, numbers, many, string, Name}
-use Rattle.chunks.specs.Cursors.{reads, from, overlayAt, overlay}
-use Rattle.chunks.specs.Fields.{Kind, kind, isSome, complete, kindFrom, fieldsIn, fields, unread, insideAt}
+use Rattle.chunks.specs.Cursors.{overlayAt, overlay}
+use Rattle.chunks.specs.Fields.{kind, isSome, kindFrom, unread, insideAt}
 use Rattle.chunks.specs.Words.{words, onto, keysOf, apart, differs, indexIn}
 use Rattle.chunks.proofs.Steps.{from-on}
 use Rattle.chunks.proofs.Vocabulary.{chunk-other, chunk-again, chunk-took}
-use Rattle.chunks.proofs.Given.{Gives, pure-gives, bind-gives, closed-gives, numbers-give}
-use Rattle.bac6_text.specs.Grammar.{BoneField, named, flag, several, nameIn, flagIn, numbersIn, boneOf, boneKinds}
-use Rattle.bac6_text.specs.Layout.{nameNumbers, boneRow}
+use Rattle.bac6_text.specs.Grammar.{BoneField, nameIn, flagIn, numbersIn, boneKinds}
+use Rattle.bac6_text.specs.Layout.{nameNumbers}
 use Rattle.bac6_rules.specs.Claims.{claimed}
 use Rattle.bac6_bones.specs.Into.{Yields, three, boneNumbers, boneState, putRow}
-use Rattle.bac6_bones.proofs.FieldGives.{fits, AllGive, Whole, fields-in-gives}
 
 -- the keywords as one text, and no two are the same
 pub bone-words : words (bytes "name hasChild hasBrother translate rotate handle vertexIndices") ≡ keysOf boneKinds

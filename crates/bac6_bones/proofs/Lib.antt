@@ -5,3 +5,4 @@ pub mod FieldGives
 pub mod Fields
 pub mod Values
 pub mod Turns
+pub mod Lists

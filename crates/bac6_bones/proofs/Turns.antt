@@ -1,32 +1,32 @@
 -- The chunks of a bone, turn by turn, and the whole of a bone.
 use mathlib.Core.Path.{_≡_, refl, ap, sym, _∙_}
-use mathlib.Core.List.{List, [], _∷_, _++_, map}
-use mathlib.Core.Bool.{Bool, true, false, not, _&&_, _||_, false≢true, true≢false}
+use mathlib.Core.List.{List, [], _∷_, map}
+use mathlib.Core.Bool.{Bool, true, false, false≢true}
 use mathlib.Core.Option.{Option, none, some}
-use Prim.Native.Nat.{ℕ, zero, suc, _-_, _<_}
+use Prim.Native.Nat.{ℕ, suc, _-_}
 use native.Mathlib.Omega.{arith}
 use borrow.Author.Tests.{eq-eqb, eqb-true}
 use lib.Dec.{eqb}
 use lib.IntN.{ℤ, pos}
-use lib.ListN.{length, getD, set, replicate}
+use lib.ListN.{length, getD, replicate}
 use mir.Syntax.{w64}
 use mir.Val.{SFits, toZ, ofZ}
 use mir.Facts.{toZ-ofZ}
 use Rattle.lexer.specs.Bytes.{bytes}
-use Rattle.lexer.specs.Numbers.{INT, FLOAT}
-use Rattle.lexer.specs.Tokens.{Lexeme, lexAt}
+use Rattle.lexer.specs.Numbers.{FLOAT}
+use Rattle.lexer.specs.Tokens.{lexAt}
 use Rattle.lexer.specs.declared.token.Span.{Span}
 use Rattle.lexer.specs.Answers.{Next, lexemeOf}
 use Rattle.chunks.specs.declared.cursor.Cursor.{Cursor}
-use Rattle.chunks.specs.Readers.{Got, got, Reader, after, _>>=_, _>>_, pure, isClosing, isOpening, open-bracket, keyword, wordOf, opened, openedOf, closed, number, numbers, many, string}
+use Rattle.chunks.specs.Readers.{Got, _>>=_, _>>_, pure, isClosing, isOpening, keyword, wordOf, closed, numbers}
 use Rattle.chunks.specs.Cursors.{reads, from, overlayAt}
-use Rattle.chunks.specs.Fields.{Kind, kind, isSome, complete, kindFrom, fieldsIn, fields, unread, neededOf, coversAll}
-use Rattle.chunks.proofs.Steps.{join, seq, passed, from-on, from-off, from-same}
+use Rattle.chunks.specs.Fields.{kind, isSome, complete, kindFrom, fieldsIn, fields, unread, neededOf, coversAll}
+use Rattle.chunks.proofs.Steps.{join, seq, passed, from-on}
 use Rattle.chunks.proofs.FieldSteps.{turn-close, turn-early, turn-full, turn-other, turn-chunk}
 use Rattle.chunks.proofs.Given.{Gives, pure-gives, bind-gives, closed-gives, numbers-give}
 use Rattle.bac6_text.specs.Figure.{Bone}
-use Rattle.bac6_text.specs.Grammar.{BoneField, named, flag, several, nameIn, flagIn, numbersIn, boneOf, boneKinds, bone}
-use Rattle.bac6_text.specs.Layout.{nameNumbers, boneRow}
+use Rattle.bac6_text.specs.Grammar.{BoneField, named, flag, several, numbersIn, boneOf, boneKinds}
+use Rattle.bac6_text.specs.Layout.{boneRow}
 use Rattle.bac6_rules.specs.Claims.{claimed}
 use Rattle.bac6_bones.specs.Into.{Yields, three, boneNumbers, boneState, closedAt, boneTail, boneInto}
 use Rattle.bac6_bones.proofs.Yielding.{reads-same, given}

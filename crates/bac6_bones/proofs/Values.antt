@@ -1,19 +1,19 @@
 -- What stands in each chunk of a bone, from what the code's readers say.
 use mathlib.Core.Path.{_≡_, refl, ap, sym, _∙_}
-use mathlib.Core.List.{List, [], _∷_, _++_, map}
-use mathlib.Core.Bool.{Bool, true, false, false≢true, true≢false}
-use mathlib.Core.Option.{Option, none, some}
+use mathlib.Core.List.{List, [], _∷_}
+use mathlib.Core.Bool.{Bool, true, false}
+use mathlib.Core.Option.{some}
 use Prim.Native.Nat.{ℕ, zero, suc, _+_, _*_, _-_, _≤_, _<_, min}
 use native.Mathlib.Omega.{arith}
 use lib.IntN.{ℤ, pos}
-use lib.ListN.{length, getD, set, drop, length-drop}
-use Rattle.lexer.specs.Bytes.{Class, blank, opener, closer, quote, semicolon, letter, other, classOf, bytes, same, inWord, isLetter, inLine, inString, run}
+use lib.ListN.{length, set, drop, length-drop}
+use Rattle.lexer.specs.Bytes.{Class, blank, opener, closer, quote, semicolon, letter, other, classOf, bytes, inWord, inLine, inString, run}
 use Rattle.lexer.specs.Numbers.{INT, FLOAT}
-use Rattle.lexer.specs.Tokens.{Token, Lexeme, lexeme, tokens, lexAt}
+use Rattle.lexer.specs.Tokens.{Lexeme, lexeme, tokens, lexAt}
 use Rattle.lexer.proofs.Runs.{run-yes, run-no}
 use Rattle.chunks.specs.declared.cursor.Cursor.{Cursor}
-use Rattle.chunks.specs.Readers.{Got, got, refused, Reader, after, _>>=_, _>>_, pure, tokenOf, stop, closed, close-bracket, number, numbers, many, nameAt, string, Name, absent}
-use Rattle.chunks.specs.Cursors.{reads, from, overlayAt, overlay}
+use Rattle.chunks.specs.Readers.{Got, got, refused, Reader, after, _>>=_, _>>_, pure, tokenOf, closed, close-bracket, number, numbers, many, nameAt, string, Name, absent}
+use Rattle.chunks.specs.Cursors.{reads, from, overlayAt}
 use Rattle.chunks.specs.Into.{numbersInto}
 use Rattle.chunks.specs.Places.{placeOf, nameOf}
 use Rattle.chunks.specs.Fields.{kind, insideAt}
@@ -23,7 +23,7 @@ use Rattle.chunks.proofs.Binds.{closed-at}
 use Rattle.chunks.proofs.Vocabulary.{wordList, one-word}
 use Rattle.chunks.proofs.Tables.{overlayAt-cons, overlayAt-none}
 use Rattle.chunks.proofs.Many.{stop-not, not-got}
-use Rattle.chunks.proofs.Given.{Gives, bind-gives, then-gives, pure-gives, numbers-give}
+use Rattle.chunks.proofs.Given.{then-gives, pure-gives, numbers-give}
 use Rattle.bac6_text.specs.Grammar.{BoneField, named, flag, several, nameIn, flagIn, numbersIn, boneKinds, truth, word}
 use Rattle.bac6_text.specs.Layout.{nameNumbers}
 use Rattle.bac6_rules.specs.Claims.{claimed}

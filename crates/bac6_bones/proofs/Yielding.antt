@@ -3,14 +3,13 @@ use mathlib.Core.Path.{_≡_, refl, ap, sym, _∙_}
 use mathlib.Core.List.{List}
 use mathlib.Core.Bool.{Bool, true, false}
 use Prim.Native.Nat.{ℕ}
-use native.Mathlib.Omega.{arith}
 use borrow.Author.Tests.{eqb-true, eqb-false}
 use lib.Dec.{eqb}
 use Rattle.lexer.specs.Tokens.{Lexeme, lexAt}
 use Rattle.chunks.specs.declared.cursor.Cursor.{Cursor}
-use Rattle.chunks.specs.Readers.{Got, got, refused, Reader, after, _>>=_, pure}
+use Rattle.chunks.specs.Readers.{Got, got, refused, Reader, after, pure}
 use Rattle.chunks.specs.Cursors.{reads, from}
-use Rattle.chunks.proofs.Steps.{from-on, from-off, reads-on, from-bind}
+use Rattle.chunks.proofs.Steps.{from-off, reads-on}
 use Rattle.chunks.proofs.Many.{not-got}
 use Rattle.chunks.proofs.Given.{Gives}
 use Rattle.bac6_bones.specs.Into.{Yields}

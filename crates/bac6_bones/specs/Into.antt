@@ -3,20 +3,22 @@ use mathlib.Core.Path.{_≡_}
 use mathlib.Core.List.{List, [], _∷_, _++_, map}
 use mathlib.Core.Bool.{Bool, true, false}
 use mathlib.Core.Option.{Option, none, some}
-use Prim.Native.Nat.{ℕ, zero, suc}
+use Prim.Native.Nat.{ℕ, zero, suc, _+_, _*_}
 use lib.IntN.{ℤ, pos}
-use lib.ListN.{getD, set}
+use lib.ListN.{length, getD, set}
 use Rattle.lexer.specs.Numbers.{INT}
 use Rattle.lexer.specs.declared.token.Span.{Span}
 use Rattle.chunks.specs.declared.cursor.Cursor.{Cursor}
 use Rattle.lexer.specs.Tokens.{lexAt}
-use Rattle.chunks.specs.Readers.{Got, Reader, _>>=_, _>>_, pure, keyword, number, many}
+use Rattle.chunks.specs.Readers.{Got, Reader, _>>=_, _>>_, pure, keyword, number, many, many⁺}
 use Rattle.chunks.specs.Cursors.{reads, overlayAt}
 use Rattle.chunks.specs.Fields.{isSome, kindFrom, fields}
 use Rattle.bac6_text.specs.Figure.{Bone}
-use Rattle.bac6_text.specs.Grammar.{BoneField, nameIn, flagIn, numbersIn, boneOf, boneKinds}
+use Rattle.bac6_text.specs.Grammar.{BoneField, nameIn, flagIn, numbersIn, boneOf, boneKinds, bone}
 use Rattle.bac6_text.specs.Layout.{nameNumbers, boneRow}
-use Rattle.bac6_rules.specs.Claims.{claimed}
+use Rattle.chunks.specs.Into.{flat}
+use Rattle.lexer.specs.Faults.{Fault, clear, fault}
+use Rattle.bac6_rules.specs.Claims.{claimed, claimedBone, claimedBones}
 
 -- where a reader leaves a cursor: the value that it read, and what the code keeps of that where the cursor has not refused
 pub record Yields {A S : Type 0} (text : List ℕ) (r : Cursor) (g : Got A) (f : A → S) (s : S) : Type 0 where
@@ -70,3 +72,16 @@ boneTail = keyword "bone" >> fields boneKinds >>= λ fs. pure (boneOf fs)
 -- its row, to a table from an index on, and its claims
 unfoldable pub boneInto : ℕ → ℤ → ℕ → List ℤ → Bool × List ℤ → Reader (List ℤ × (Bool × List ℤ))
 boneInto n bone i table s = boneTail >>= λ b. pure (overlayAt i (boneRow b (pos 0)) table, claimed n bone s (b .vertices))
+
+-- the first fault of rule 11, as the code holds it
+unfoldable pub faultOf : Bool → ℕ → Fault
+faultOf false row = clear
+faultOf true row = fault 11 row
+
+-- a bone more: how many there are, their rows in a table, and their claims
+unfoldable pub boneStep : ℕ → ℕ × List ℤ × (Fault × List ℤ) → Bone → ℕ × List ℤ × (Fault × List ℤ)
+boneStep points s b = (s .0 + 1, overlayAt (s .0 * 14) (boneRow b (pos 0)) (s .1), claimedBone points (s .0) (s .2) (b .vertices))
+
+-- one bone or more up to ), of a figure with so many points
+unfoldable pub bonesInto : ℕ → List ℤ → List ℤ → Reader (ℕ × List ℤ × (Fault × List ℤ))
+bonesInto points table owners = many⁺ bone >>= λ bs. pure (length bs, overlayAt 0 (flat (map (λ b. boneRow b (pos 0)) bs)) table, claimedBones points 0 (clear, owners) bs)

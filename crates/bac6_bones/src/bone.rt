@@ -1,11 +1,7 @@
 // A bone: seven chunks in any order, each at most once.
 ghost use mathlib.Core.Path.{_≡_};
-ghost use mathlib.Core.List.{List};
-ghost use mathlib.Core.Bool.{Bool};
-ghost use mathlib.Core.Option.{Option};
-ghost use Prim.Native.Nat.{ℕ, _<_, _≤_};
+ghost use Prim.Native.Nat.{_<_, _≤_};
 ghost use lib.ListN.{length};
-ghost use lib.IntN.{ℤ};
 ghost use Rattle.lexer.specs.Tokens.{lexAt};
 ghost use lib.ListN.{replicate};
 ghost use lib.IntN.{pos};

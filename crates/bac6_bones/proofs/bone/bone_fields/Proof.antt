@@ -1,14 +1,12 @@
 -- `bone_fields` reads chunks turn by turn: the invariant names the fields that the row, the flags and the claims stand for, and from which the rest is read.
 use mathlib.Core.Path.{_≡_, refl, ap, sym, _∙_}
-use Prim.Native.Nat.{ℕ, suc, _-_, _<_}
-use native.Mathlib.Omega.{arith}
+use Prim.Native.Nat.{_-_}
 use borrow.Author.Needs.{needs}
 use borrow.Author.Tests.{not-true, not-false}
-use denote.Ref.{now}
 use lib.ListN.{length}
 use mir.Syntax.{w64}
-use mir.Val.{toZ, ofZ}
-use Rattle.lexer.specs.Tokens.{lexAt, lexeme}
+use mir.Val.{toZ}
+use Rattle.lexer.specs.Tokens.{lexeme}
 use Rattle.lexer.specs.Answers.{lexemeOf}
 use Rattle.bac6_bones.proofs.Turns.{Midway, midway-start, turn-ends, turn-none, turn-stray, turn-on, turn-off, state-bits}
 use Rattle.bac6_bones.proofs.bone.bone_fields.Statement.{statement}

@@ -1,7 +1,5 @@
 -- `entries` reads one entry a turn: the invariant says that the entries left, over the claims so far, are all of them over the claims as they came.
-use mathlib.Core.Path.{_≡_, refl, ap, sym, _∙_}
-use Prim.Native.Nat.{ℕ, _<_}
-use native.Mathlib.Omega.{arith}
+use mathlib.Core.Path.{_≡_, refl, sym, _∙_}
 use borrow.Author.Needs.{needs}
 use lib.ListN.{length}
 use mir.Syntax.{w64}
@@ -11,7 +9,6 @@ use Rattle.chunks.specs.Answers.{formNamed}
 use Rattle.chunks.specs.Cursors.{from}
 use Rattle.chunks.proofs.Steps.{passed, from-on}
 use Rattle.bac6_rules.specs.Claims.{claimedOne}
-use mir.Facts.{toZ-ofZ}
 use Rattle.lexer.specs.Tokens.{lexAt, lexeme}
 use Rattle.lexer.specs.Answers.{lexemeOf}
 use Rattle.bac6_bones.specs.Into.{entriesInto}
