@@ -1,0 +1,8 @@
+-- Laws that belong to no one function.
+pub mod Entries
+pub mod Yielding
+pub mod FieldGives
+pub mod Fields
+pub mod Values
+pub mod Turns
+pub mod Lists

@@ -1,0 +1,158 @@
+-- The chunks of a bone, turn by turn, and the whole of a bone.
+use mathlib.Core.Path.{_≡_, refl, ap, sym, _∙_}
+use mathlib.Core.List.{List, [], _∷_, map}
+use mathlib.Core.Bool.{Bool, true, false, false≢true}
+use mathlib.Core.Option.{Option, none, some}
+use Prim.Native.Nat.{ℕ, suc, _-_}
+use native.Mathlib.Omega.{arith}
+use borrow.Author.Tests.{eq-eqb, eqb-true}
+use lib.Dec.{eqb}
+use lib.IntN.{ℤ, pos}
+use lib.ListN.{length, getD, replicate}
+use mir.Syntax.{w64}
+use mir.Val.{SFits, toZ, ofZ}
+use mir.Facts.{toZ-ofZ}
+use Rattle.lexer.specs.Bytes.{bytes}
+use Rattle.lexer.specs.Numbers.{FLOAT}
+use Rattle.lexer.specs.Tokens.{lexAt}
+use Rattle.lexer.specs.declared.token.Span.{Span}
+use Rattle.lexer.specs.Answers.{Next, lexemeOf}
+use Rattle.chunks.specs.declared.cursor.Cursor.{Cursor}
+use Rattle.chunks.specs.Readers.{Got, _>>=_, _>>_, pure, isClosing, isOpening, keyword, wordOf, closed, numbers}
+use Rattle.chunks.specs.Cursors.{reads, from, overlayAt}
+use Rattle.chunks.specs.Fields.{kind, isSome, complete, kindFrom, fieldsIn, fields, unread, neededOf, coversAll}
+use Rattle.chunks.proofs.Steps.{join, seq, passed, from-on}
+use Rattle.chunks.proofs.FieldSteps.{turn-close, turn-early, turn-full, turn-other, turn-chunk}
+use Rattle.chunks.proofs.Given.{Gives, pure-gives, bind-gives, closed-gives, numbers-give}
+use Rattle.bac6_text.specs.Figure.{Bone}
+use Rattle.bac6_text.specs.Grammar.{BoneField, named, flag, several, numbersIn, boneOf, boneKinds}
+use Rattle.bac6_text.specs.Layout.{boneRow}
+use Rattle.bac6_rules.specs.Claims.{claimed}
+use Rattle.bac6_bones.specs.Into.{Yields, three, boneNumbers, boneState, closedAt, boneTail, boneInto}
+use Rattle.bac6_bones.proofs.Yielding.{reads-same, given}
+use Rattle.bac6_bones.proofs.FieldGives.{fits, AllGive, Whole, fields-in-gives, complete-seen, fits-length, fits-at, complete-at}
+use Rattle.bac6_bones.proofs.Values.{three-all}
+use Rattle.bac6_bones.proofs.Fields.{unread-state}
+
+-- ---- between two chunks: fields that the code's state stands for, and from which the rest is read
+
+pub record Midway (text : List ℕ) (at left from : ℕ) (n : ℕ) (b : ℤ) (s : Bool × List ℤ) (state : List Bool × List ℤ × (Bool × List ℤ)) : Type 0 where
+  pub fs : List (Option BoneField)
+  pub stands : boneState n b s fs ≡ state
+  pub on : fields boneKinds (lexAt text at) ≡ fieldsIn left boneKinds fs (lexAt text from)
+
+pub midway-start : (text : List ℕ) (at : ℕ) (n : ℕ) (b : ℤ) (s : Bool × List ℤ) (seen : List Bool) (row : List ℤ) → row ≡ replicate 14 (pos 0) → seen ≡ replicate 7 false → Midway text at 7 at n b s (seen, row, s)
+unfolding fields boneKinds
+midway-start text at n b s seen row e f = record { fs = unread boneKinds; stands = unread-state n b s ∙ rw (e, f); on = refl }
+
+module _ (text : List ℕ) (at left from′ : ℕ) (n : ℕ) (b : ℤ) (s : Bool × List ℤ) (seen : List Bool) (row : List ℤ) (c : Bool × List ℤ) (w : Midway text at left from′ n b s (seen, row, c)) (t : Span) (x : Next text from′ t) where
+  flags : map isSome (w .fs) ≡ seen
+  unfolding boneState
+  flags = ap (λ (p : List Bool × List ℤ × (Bool × List ℤ)). p .0) (w .stands)
+
+  pub turn-ends : isClosing (lexemeOf text t .token) ≡ true → Yields text (closedAt t (coversAll (neededOf boneKinds) seen)) (fields boneKinds (lexAt text at)) (boneState n b s) (seen, row, c)
+  unfolding closedAt
+  turn-ends e = record { value = w .fs; read = go (coversAll (neededOf boneKinds) seen) refl ∙ sym (w .on); kept = λ o. w .stands }
+    where
+      covered : complete boneKinds (w .fs) ≡ coversAll (neededOf boneKinds) seen
+      covered = complete-seen boneKinds (w .fs) ∙ rw flags
+
+      go : (v : Bool) → coversAll (neededOf boneKinds) seen ≡ v → reads text (closedAt t v) (w .fs) ≡ fieldsIn left boneKinds (w .fs) (lexAt text from′)
+      go true q = turn-close text from′ t x boneKinds (w .fs) left e (covered ∙ q)
+      go false q = turn-early text from′ t x boneKinds (w .fs) left (w .fs) e (covered ∙ q)
+
+  -- a token that cannot stand there
+  pub turn-none : left ≡ 0 → isClosing (lexemeOf text t .token) ≡ false → (state : List Bool × List ℤ × (Bool × List ℤ)) → Yields text (record { refusal = 5; at = t .start }) (fields boneKinds (lexAt text at)) (boneState n b s) state
+  turn-none z e state = record { value = w .fs; read = turn-full text from′ t x boneKinds (w .fs) (w .fs) e ∙ sym (w .on ∙ rw z); kept = λ o. absurd (omega arith) }
+
+  pub turn-stray : isClosing (lexemeOf text t .token) ≡ false → isOpening (lexemeOf text t .token) ≡ false → (state : List Bool × List ℤ × (Bool × List ℤ)) → Yields text (record { refusal = 5; at = t .start }) (fields boneKinds (lexAt text at)) (boneState n b s) state
+  turn-stray e f state = record { value = w .fs; read = turn-other text from′ t x boneKinds (w .fs) left (w .fs) e f ∙ sym (w .on); kept = λ o. absurd (omega arith) }
+
+  -- a chunk
+  module _ (m : Cursor) (state : List Bool × List ℤ × (Bool × List ℤ)) (y : Yields text m (kindFrom boneKinds (w .fs) (lexAt text (t .end))) (boneState n b s) state) (z : (left ≡ 0 → ⊥)) (e : isClosing (lexemeOf text t .token) ≡ false) (f : isOpening (lexemeOf text t .token) ≡ true) where
+    turned : fields boneKinds (lexAt text at) ≡ from text m (fieldsIn (left - 1) boneKinds (y .value))
+    turned =
+        let one : left ≡ suc (left - 1) = omega (arith, z) in
+        w .on ∙ ap (λ (k : ℕ). fieldsIn k boneKinds (w .fs) (lexAt text from′)) one ∙ turn-chunk text from′ t x boneKinds (w .fs) (left - 1) m (y .value) e f (y .read)
+
+    pub turn-on : m .refusal ≡ 0 → Midway text at (left - 1) (m .at) n b s state
+    turn-on o = record { fs = y .value; stands = y .kept o; on = turned ∙ from-on text m _ o }
+
+    pub turn-off : (m .refusal ≡ 0 → ⊥) → (any : List Bool × List ℤ × (Bool × List ℤ)) → Yields text m (fields boneKinds (lexAt text at)) (boneState n b s) any
+    turn-off o any = record { value = y .value; read = passed text m (y .value) _ o ∙ sym turned; kept = λ q. absurd (o q) }
+
+-- a bone's number from its bits
+pub state-bits : (text : List ℕ) (r : Cursor) (g : Got (List (Option BoneField))) (n : ℕ) (b : ℤ) (s : Bool × List ℤ) (state : List Bool × List ℤ × (Bool × List ℤ)) → SFits w64 b → Yields text r g (boneState n (toZ w64 (ofZ w64 b)) s) state → Yields text r g (boneState n b s) state
+state-bits text r g n b s state f y = record { value = y .value; read = y .read; kept = λ o. ap (λ (z : ℤ). boneState n z s (y .value)) (sym (toZ-ofZ f)) ∙ y .kept o }
+
+-- ---- the row of a bone that has been read whole
+
+unfoldable pub vector? : BoneField → Bool
+vector? (named m) = false
+vector? (flag z) = false
+vector? (several zs) = eqb (length zs) 3
+
+unfoldable pub any? : BoneField → Bool
+any? f = true
+
+unfoldable pub tests : List (BoneField → Bool)
+tests = any? ∷ any? ∷ any? ∷ vector? ∷ vector? ∷ vector? ∷ any? ∷ []
+
+vector-gives : Gives (λ f. vector? f ≡ true) (closed (numbers FLOAT 3) >>= λ zs. pure (several zs))
+vector-gives = bind-gives (λ zs. length zs ≡ 3) (λ f. vector? f ≡ true) (closed-gives (λ zs. length zs ≡ 3) (numbers-give FLOAT 3)) (λ zs h. pure-gives (λ f. vector? f ≡ true) (several zs) (unfold vector? in eq-eqb (length zs) 3 h))
+
+kinds-give : AllGive tests boneKinds
+unfolding tests boneKinds kind any?
+kinds-give = ((λ ms a l e. refl), ((λ ms a l e. refl), ((λ ms a l e. refl), (vector-gives, (vector-gives, (vector-gives, ((λ ms a l e. refl), tt)))))))
+
+pub fields-whole : Gives (λ gs. Whole tests boneKinds gs) (fields boneKinds)
+unfolding fields
+fields-whole = fields-in-gives tests boneKinds kinds-give (length boneKinds) (unread boneKinds) (unfold fits tests unread boneKinds in refl)
+
+vector-whole : (f : Option BoneField) → isSome f ≡ true → ((a : BoneField) → f ≡ some a → vector? a ≡ true) → three (numbersIn f) ≡ numbersIn f
+unfolding vector? isSome numbersIn
+vector-whole none e h = absurd (false≢true e)
+vector-whole (some (named m)) e h = absurd (false≢true (h (named m) refl))
+vector-whole (some (flag z)) e h = absurd (false≢true (h (flag z) refl))
+vector-whole (some (several zs)) e h = three-all zs (eqb-true (length zs) 3 (h (several zs) refl))
+
+pub row-whole : (gs : List (Option BoneField)) → Whole tests boneKinds gs → boneNumbers gs ≡ boneRow (boneOf gs) (pos 0)
+unfolding boneNumbers boneRow boneOf
+row-whole gs w =
+    rw (
+      vector-whole (getD gs 3 none) (needed 3 (unfold neededOf boneKinds kind in refl)) (λ a e. unfold tests in fits-at tests gs 3 any? a (w .0) e (omega arith)),
+      vector-whole (getD gs 4 none) (needed 4 (unfold neededOf boneKinds kind in refl)) (λ a e. unfold tests in fits-at tests gs 4 any? a (w .0) e (omega arith)),
+      vector-whole (getD gs 5 none) (needed 5 (unfold neededOf boneKinds kind in refl)) (λ a e. unfold tests in fits-at tests gs 5 any? a (w .0) e (omega arith)),
+    )
+  where
+    needed : (k : ℕ) → getD (neededOf boneKinds) k false ≡ true → isSome (getD gs k none) ≡ true
+    needed k h = complete-at boneKinds gs k (w .1) (unfold boneKinds tests in fits-length tests gs (w .0)) h
+
+-- ---- a whole bone
+
+module _ (text : List ℕ) (c d r : Cursor) (gs : List (Option BoneField)) (o : reads text d tt ≡ from text c (wordOf (bytes "bone"))) (n : ℕ) (b : ℤ) (i : ℕ) (table : List ℤ) (s : Bool × List ℤ) where
+  bone-from : reads text r gs ≡ from text d (fields boneKinds) → reads text r (overlayAt i (boneRow (boneOf gs) (pos 0)) table, claimed n b s (boneOf gs .vertices)) ≡ from text c (boneInto n b i table s)
+  unfolding boneInto boneTail keyword reads
+  bone-from q =
+      join text c r r (boneOf gs) _ boneTail (λ (x : Bone). pure (overlayAt i (boneRow x (pos 0)) table, claimed n b s (x .vertices)))
+      (join text c r r gs _ (keyword "bone" >> fields boneKinds) (λ (fs : List (Option BoneField)). pure (boneOf fs))
+      (seq text c d r tt gs (wordOf (bytes "bone")) (fields boneKinds) o q) refl) refl
+
+-- refused before its first chunk
+pub bone-off : (text : List ℕ) (c d : Cursor) (n : ℕ) (b : ℤ) (i : ℕ) (table : List ℤ) (s : Bool × List ℤ) (any : List ℤ × (Bool × List ℤ)) → reads text d tt ≡ from text c (wordOf (bytes "bone")) → (d .refusal ≡ 0 → ⊥) → reads text d any ≡ from text c (boneInto n b i table s)
+bone-off text c d n b i table s any o h = reads-same text d any _ (λ q. absurd (h q)) ∙ bone-from text c d d [] o n b i table s (passed text d [] (fields boneKinds) h)
+
+-- read to its closing bracket, or refused at one of its chunks
+pub bone-on : (text : List ℕ) (c d r : Cursor) (n : ℕ) (b : ℤ) (i : ℕ) (table : List ℤ) (s : Bool × List ℤ) (seen : List Bool) (row : List ℤ) (s′ : Bool × List ℤ) → reads text d tt ≡ from text c (wordOf (bytes "bone")) → d .refusal ≡ 0 → Yields text r (fields boneKinds (lexAt text (d .at))) (boneState n b s) (seen, row, s′) → reads text r (overlayAt i row table, s′) ≡ from text c (boneInto n b i table s)
+unfolding boneState boneOf
+bone-on text c d r n b i table s seen row s′ o h y =
+    reads-same text r _ _ same
+    ∙ bone-from text c d r (y .value) o n b i table s (y .read ∙ sym (from-on text d (fields boneKinds) h))
+  where
+    same : r .refusal ≡ 0 → _≡_ {A = List ℤ × (Bool × List ℤ)} (overlayAt i row table, s′) (overlayAt i (boneRow (boneOf (y .value)) (pos 0)) table, claimed n b s (boneOf (y .value) .vertices))
+    same q =
+        let k = y .kept q in
+        let u : boneNumbers (y .value) ≡ row = ap (λ (p : List Bool × List ℤ × (Bool × List ℤ)). p .1) k in
+        let v : claimed n b s (numbersIn (getD (y .value) 6 none)) ≡ s′ = ap (λ (p : List Bool × List ℤ × (Bool × List ℤ)). p .2) k in
+        let w = row-whole (y .value) (given (λ gs. Whole tests boneKinds gs) (fields boneKinds) fields-whole text r (lexAt text (d .at)) (y .value) (y .read) q) in
+        rw (← u, ← v, w)

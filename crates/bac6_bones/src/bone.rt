@@ -1,0 +1,212 @@
+// A bone: seven chunks in any order, each at most once.
+ghost use mathlib.Core.Path.{_≡_};
+ghost use Prim.Native.Nat.{_<_, _≤_};
+ghost use lib.ListN.{length};
+ghost use Rattle.lexer.specs.Tokens.{lexAt};
+ghost use lib.ListN.{replicate};
+ghost use lib.IntN.{pos};
+ghost use mathlib.Core.Bool.{false};
+ghost use Rattle.chunks.specs.Fields.{insideAt, fields, neededOf, coversAll};
+ghost use Rattle.chunks.specs.Cursors.{reads, from};
+ghost use Rattle.bac6_text.specs.Grammar.{boneKinds};
+ghost use Rattle.bac6_bones.specs.Into.{Yields, putRow, ChunkRead, boneState, closedAt, boneInto};
+use crate::entry::Claims;
+use crate::entry::entries;
+use chunks::Cursor;
+use chunks::Form;
+use lexer::Span;
+
+// The name's place and length, to the row.
+fn bone_name(text: &[u8], at: usize, row: &mut [i64]) -> Cursor
+    requires { ⌜ length (now row) ≡ 14 ⌝ }
+    ensures { λ r. ⌜ Yields (now (text .entry)) r (insideAt boneKinds 0 (lexAt (now (text .entry)) at)) (putRow 0 (now (row .entry))) (now (row .exit)) ⌝ }
+{
+    let inside = Cursor { refusal: 0, at };
+    let n = chunks::name(text, inside);
+    let d = n.cursor;
+    if d.refusal != 0 {
+        return d;
+    }
+    let place = n.place as i64;
+    let size = n.length as i64;
+    row[12] = place;
+    row[13] = size;
+    d
+}
+
+// A flag, to the row.
+fn bone_flag(text: &[u8], at: usize, k: usize, row: &mut [i64]) -> Cursor
+    requires { ⌜ (length (now row) ≡ 14) × (0 < k) × (k < 3) ⌝ }
+    ensures { λ r. ⌜ Yields (now (text .entry)) r (insideAt boneKinds k (lexAt (now (text .entry)) at)) (putRow k (now (row .entry))) (now (row .exit)) ⌝ }
+{
+    let inside = Cursor { refusal: 0, at };
+    let n = chunks::one_of(text, inside, b"false true", 2);
+    let d = n.cursor;
+    let value = n.value;
+    row[8 + k] = value;
+    chunks::closing(text, d)
+}
+
+// Three numbers, to the row.
+fn bone_vector(text: &[u8], at: usize, k: usize, row: &mut [i64]) -> Cursor
+    requires { ⌜ (3 ≤ k) × (k < 6) ⌝ }
+    ensures { λ r. ⌜ Yields (now (text .entry)) r (insideAt boneKinds k (lexAt (now (text .entry)) at)) (putRow k (now (row .entry))) (now (row .exit)) ⌝ }
+{
+    let inside = Cursor { refusal: 0, at };
+    let to = (k - 3) * 3;
+    let d = chunks::numbers(text, inside, Form::Float, 3, row, to);
+    chunks::closing(text, d)
+}
+
+// What stands in the chunk of kind k, to the row.
+fn bone_numbers(text: &[u8], at: usize, k: usize, row: &mut [i64]) -> Cursor
+    requires { ⌜ (length (now row) ≡ 14) × (k < 6) ⌝ }
+    ensures { λ r. ⌜ Yields (now (text .entry)) r (insideAt boneKinds k (lexAt (now (text .entry)) at)) (putRow k (now (row .entry))) (now (row .exit)) ⌝ }
+{
+    if k == 0 {
+        return bone_name(text, at, row);
+    }
+    if k < 3 {
+        return bone_flag(text, at, k, row);
+    }
+    bone_vector(text, at, k, row)
+}
+
+// One chunk after its opening bracket: the field of its keyword is read, where it has not been.
+fn bone_chunk(
+    text: &[u8],
+    at: usize,
+    points: usize,
+    bone: i64,
+    row: &mut [i64],
+    seen: &mut [bool],
+    owners: &mut [i64],
+    fine: bool,
+) -> Claims
+    requires { ⌜ (length (now row) ≡ 14) × (length (now seen) ≡ 7) ⌝ }
+    ensures { λ r. ⌜ ChunkRead (now (text .entry)) at points bone (now (seen .entry), now (row .entry), (fine, now (owners .entry))) (r .cursor) (now (seen .exit), now (row .exit), (r .fine, now (owners .exit))) ⌝ }
+{
+    let t = lexer::next(text, at);
+    let refused = Cursor {
+        refusal: 5,
+        at: t.start,
+    };
+    let k = chunks::word_index(
+        text,
+        t,
+        b"name hasChild hasBrother translate rotate handle vertexIndices",
+    );
+    if 7 <= k {
+        return Claims {
+            cursor: refused,
+            fine,
+        };
+    }
+    if seen[k] {
+        return Claims {
+            cursor: refused,
+            fine,
+        };
+    }
+    seen[k] = true;
+    if k < 6 {
+        return Claims {
+            cursor: bone_numbers(text, t.end, k, row),
+            fine,
+        };
+    }
+    entries(text, t.end, points, bone, owners, fine)
+}
+
+// The closing bracket of a bone: all but `name` and `vertexIndices` must have stood.
+fn closed_at(t: Span, seen: &[bool]) -> Cursor
+    ensures { λ r. ⌜ r ≡ closedAt t (coversAll (neededOf boneKinds) (now (seen .entry))) ⌝ }
+{
+    if chunks::covers(&[false, true, true, true, true, true, false], seen) {
+        return Cursor {
+            refusal: 0,
+            at: t.end,
+        };
+    }
+    Cursor {
+        refusal: 5,
+        at: t.start,
+    }
+}
+
+// The chunks of a bone up to its closing bracket, from an empty row.
+fn bone_fields(
+    text: &[u8],
+    at: usize,
+    points: usize,
+    bone: i64,
+    row: &mut [i64],
+    seen: &mut [bool],
+    owners: &mut [i64],
+    fine: bool,
+) -> Claims
+    requires { ⌜ (now row ≡ replicate 14 (pos 0)) × (now seen ≡ replicate 7 false) ⌝ }
+    ensures { λ r. ⌜ Yields (now (text .entry)) (r .cursor) (fields boneKinds (lexAt (now (text .entry)) at)) (boneState points bone (fine, now (owners .entry))) (now (seen .exit), now (row .exit), (r .fine, now (owners .exit))) ⌝ }
+{
+    let mut from = at;
+    let mut left: usize = 7;
+    let mut free = fine;
+    loop {
+        let t = lexer::next(text, from);
+        let kind = t.kind;
+        let refused = Cursor {
+            refusal: 5,
+            at: t.start,
+        };
+        if chunks::is_closing(kind) {
+            return Claims {
+                cursor: closed_at(t, seen),
+                fine: free,
+            };
+        }
+        if left == 0 {
+            return Claims {
+                cursor: refused,
+                fine: free,
+            };
+        }
+        if !chunks::is_opening(kind) {
+            return Claims {
+                cursor: refused,
+                fine: free,
+            };
+        }
+        let m = bone_chunk(text, t.end, points, bone, row, seen, owners, free);
+        let d = m.cursor;
+        if d.refusal != 0 {
+            return m;
+        }
+        from = d.at;
+        free = m.fine;
+        left -= 1;
+    }
+}
+
+// What stands in a bone after its opening bracket: its row to the table from index `to` on, and its claims.
+pub(crate) fn bone_tail(
+    text: &[u8],
+    c: Cursor,
+    points: usize,
+    bone: i64,
+    out: &mut [i64],
+    to: usize,
+    owners: &mut [i64],
+    fine: bool,
+) -> Claims
+    ensures { λ r. ⌜ reads (now (text .entry)) (r .cursor) (now (out .exit), (r .fine, now (owners .exit))) ≡ from (now (text .entry)) c (boneInto points bone to (now (out .entry)) (fine, now (owners .entry))) ⌝ }
+{
+    let d = chunks::keyword(text, c, b"bone");
+    if d.refusal != 0 {
+        return Claims { cursor: d, fine };
+    }
+    let mut row = [0i64; 14];
+    let mut seen = [false; 7];
+    let r = bone_fields(text, d.at, points, bone, &mut row, &mut seen, owners, fine);
+    chunks::store(out, to, &row);
+    r
+}
