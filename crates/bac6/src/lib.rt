@@ -1,1 +1,6 @@
 // Reads a figure's text.
+mod back;
+mod shape;
+
+pub use shape::Parsed;
+pub use shape::parse;

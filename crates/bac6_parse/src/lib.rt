@@ -5,3 +5,4 @@ mod rows;
 
 pub use opening::Front;
 pub use opening::read_front;
+pub use rows::section;

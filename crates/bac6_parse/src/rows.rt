@@ -8,7 +8,7 @@ use chunks::Cursor;
 use chunks::Form;
 
 // A chunk of rows that may be left out.
-pub(crate) fn section(
+pub fn section(
     text: &[u8],
     c: Cursor,
     name: &[u8],
