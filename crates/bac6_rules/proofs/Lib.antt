@@ -10,3 +10,4 @@ pub mod Whole
 pub mod Claims
 pub mod Laid
 pub mod Counts
+pub mod Orders

@@ -4,6 +4,7 @@ mod count;
 mod face;
 mod material;
 mod number;
+mod order;
 mod owner;
 
 pub use bone::place_bones;
@@ -20,4 +21,6 @@ pub use number::is_index;
 pub use number::is_level;
 pub use number::is_none;
 pub use number::is_row;
+pub use order::Counts;
+pub use order::first_fault;
 pub use owner::claim;

@@ -1,0 +1,120 @@
+-- The rules in order, by their steps: the first fault of tables that a figure's rows stand in is the figure's.
+use mathlib.Core.Path.{_≡_, refl, sym, _∙_}
+use mathlib.Core.List.{List, [], _++_}
+use Prim.Native.Nat.{ℕ}
+use lib.ListN.{length}
+use lib.IntN.{ℤ}
+use Rattle.lexer.specs.Faults.{Fault, clear, fault}
+use Rattle.lexer.specs.Answers.{refusal}
+use Rattle.lexer.specs.declared.check.Checked.{Checked}
+use Rattle.lexer.specs.declared.check.Checked.the-variants.{Clear, Refused}
+use Rattle.chunks.specs.Into.{flat}
+use Rattle.bac6_text.specs.Figure.{Figure}
+use Rattle.bac6_text.specs.Layout.{boneRows, faceRows}
+use Rattle.bac6_text.specs.Rules.{orElse, facesOf, countsOf, mosts, tooMany, normalsFault, flagsOf, bonesFault, wholeList, parentsIn, verticesFault, firstBad, materialFine, faceFine, figureFault}
+use Rattle.bac6_rules.specs.declared.order.Counts.{Counts}
+use Rattle.bac6_rules.specs.Bones.{flagsIn, Settled}
+use Rattle.bac6_rules.specs.Order.{countsIn, figureCounts, countsFault, laterFault, tablesFault, LeftBy, BonesLeft}
+use Rattle.bac6_rules.proofs.Laid.{Wide, WholeBones, WholeFaces, rows-laid, flags-laid, faces-laid, bones-laid}
+
+-- ---- what an answer says of a rule
+
+pub refused-by : {r : Checked} {a : Fault} {k p : ℕ} → refusal r ≡ a → r ≡ Refused k p → a ≡ fault k p
+unfolding refusal
+refused-by e d = sym e ∙ rw d
+
+pub clear-by : {r : Checked} {a : Fault} → refusal r ≡ a → r ≡ Clear → a ≡ clear
+unfolding refusal
+clear-by e d = sym e ∙ rw d
+
+-- ---- the first of two
+
+pub or-clear : {a : Fault} (b : Fault) → a ≡ clear → orElse a b ≡ b
+unfolding orElse
+or-clear b e = rw e
+
+pub or-fault : {a : Fault} (b : Fault) {k p : ℕ} → a ≡ fault k p → orElse a b ≡ fault k p
+unfolding orElse
+or-fault b e = rw e
+
+pub or-assoc : (a b d : Fault) → orElse (orElse a b) d ≡ orElse a (orElse b d)
+unfolding orElse
+or-assoc clear b d = refl
+or-assoc (fault k p) b d = refl
+
+pub or-first : (a b : Fault) → orElse a b ≡ clear → a ≡ clear
+unfolding orElse
+or-first clear b e = refl
+or-first (fault k p) b e = e
+
+pub or-second : (a b : Fault) → orElse a b ≡ clear → b ≡ clear
+or-second a b e = sym (or-clear b (or-first a b e)) ∙ e
+
+-- the rules before the bones', and those after
+pub tables-parts : (n : Counts) (claims : Fault) (ms bs fs : List ℤ) → tablesFault n claims ms bs fs ≡ orElse (countsFault n) (orElse (bonesFault (flagsIn (n .bones) bs)) (laterFault n claims ms fs))
+unfolding tablesFault countsFault laterFault
+tables-parts n claims ms bs fs = sym (or-assoc (tooMany 0 (countsIn n) mosts) (normalsFault (n .points) (n .normals)) _)
+
+-- ---- the bones at exit
+
+module _ (n : Counts) (entry exit : List ℤ) where
+  pub left-placed : countsFault n ≡ clear → Settled (n .bones) entry exit (wholeList (flagsIn (n .bones) entry)) → BonesLeft n entry exit
+  unfolding LeftBy BonesLeft
+  left-placed e h = rw e h
+
+  pub left-same : {k p : ℕ} → countsFault n ≡ fault k p → exit ≡ entry → BonesLeft n entry exit
+  unfolding LeftBy BonesLeft
+  left-same e h = rw e h
+
+  pub placed-left : countsFault n ≡ clear → BonesLeft n entry exit → Settled (n .bones) entry exit (wholeList (flagsIn (n .bones) entry))
+  unfolding LeftBy BonesLeft
+  placed-left e h = rw e at h
+
+-- ---- a figure's tables
+
+module _ (f : Figure) where
+  figure-counts : countsIn (figureCounts f) ≡ countsOf f
+  unfolding countsIn figureCounts countsOf
+  figure-counts = refl
+
+  abbrev rest-fault : Fault
+  rest-fault =
+      orElse (bonesFault (flagsOf (f .bones)))
+      (orElse (verticesFault (length (f .points)) [] 0 (f .bones))
+      (orElse (firstBad 12 (materialFine (length (f .textures)) (length (f .colours))) 0 (f .materials))
+      (firstBad 13 (faceFine (length (f .materials)) (length (f .points)) (length (f .uvs))) 0 (facesOf f))))
+
+  figure-parts : figureFault f ≡ orElse (countsFault (figureCounts f)) rest-fault
+  unfolding figureFault countsFault figureCounts countsIn countsOf
+  figure-parts = sym (or-assoc (tooMany 0 (countsOf f) mosts) (normalsFault (length (f .points)) (length (f .normals))) rest-fault)
+
+  -- where a list has too many rows, whatever the tables hold
+  pub tables-over : {k p : ℕ} → tooMany 0 (countsOf f) mosts ≡ fault k p → (claims : Fault) (ms bs fs : List ℤ) → tablesFault (figureCounts f) claims ms bs fs ≡ figureFault f
+  unfolding tablesFault figureFault
+  tables-over e claims ms bs fs = or-fault _ (rw figure-counts e) ∙ sym (or-fault _ e)
+
+  -- so the tables need hold the figure only where none has
+  pub tables-within : (claims : Fault) (ms bs fs : List ℤ) → (tooMany 0 (countsOf f) mosts ≡ clear → tablesFault (figureCounts f) claims ms bs fs ≡ figureFault f) → tablesFault (figureCounts f) claims ms bs fs ≡ figureFault f
+  tables-within claims ms bs fs h = go (tooMany 0 (countsOf f) mosts) refl
+    where
+      go : (v : Fault) → tooMany 0 (countsOf f) mosts ≡ v → tablesFault (figureCounts f) claims ms bs fs ≡ figureFault f
+      go clear e = h e
+      go (fault k p) e = tables-over e claims ms bs fs
+
+  module _ (ps rm rb rf : List ℤ) (wm : Wide 9 (f .materials)) (wb : WholeBones (f .bones)) (wf : WholeFaces (facesOf f)) (e : length ps ≡ length (f .bones)) where
+    -- the first fault of the tables is the figure's
+    pub tables-laid : tablesFault (figureCounts f) (verticesFault (length (f .points)) [] 0 (f .bones)) (flat (f .materials) ++ rm) (flat (boneRows (f .bones) ps) ++ rb) (flat (faceRows f) ++ rf) ≡ figureFault f
+    unfolding tablesFault figureFault figureCounts
+    tables-laid =
+        rw (figure-counts, flags-laid (f .bones) ps rb wb e, rows-laid 9 (f .materials) rm wm, faces-laid (length (f .materials)) (length (f .points)) (length (f .uvs)) f rf wf)
+
+    -- and where there is none, the bones have their parents
+    pub bones-left : (exit : List ℤ) → figureFault f ≡ clear → BonesLeft (figureCounts f) (flat (boneRows (f .bones) ps) ++ rb) exit → exit ≡ flat (boneRows (f .bones) (parentsIn (wholeList (flagsOf (f .bones))))) ++ rb
+    unfolding figureCounts
+    bones-left exit h left =
+        let whole = sym figure-parts ∙ h in
+        let bones = or-first _ _ (or-second _ _ whole) in
+        bones-laid (length (f .bones)) (f .bones) ps rb exit wb e bones (settled (or-first _ _ whole))
+      where
+        settled : countsFault (figureCounts f) ≡ clear → Settled (length (f .bones)) (flat (boneRows (f .bones) ps) ++ rb) exit (wholeList (flagsOf (f .bones)))
+        settled k = rw (flags-laid (f .bones) ps rb wb e) at (placed-left (figureCounts f) (flat (boneRows (f .bones) ps) ++ rb) exit k left)

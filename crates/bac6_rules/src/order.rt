@@ -1,0 +1,80 @@
+// Rules 8 to 13 in order: of a figure's faults the lowest number, with its lowest row.
+ghost use mathlib.Core.Path.{_≡_};
+ghost use Rattle.lexer.specs.Answers.{refusal};
+ghost use Rattle.bac6_rules.specs.Order.{countsFault, laterFault, tablesFault, BonesLeft};
+use crate::bone::place_bones;
+use crate::count::normals_fault;
+use crate::count::too_many;
+use crate::face::face_fault;
+use crate::material::material_fault;
+use lexer::Checked;
+
+// How many rows each list has.
+pub struct Counts {
+    pub textures: usize,
+    pub colours: usize,
+    pub materials: usize,
+    pub points: usize,
+    pub normals: usize,
+    pub bones: usize,
+    pub uvs: usize,
+    pub faces: usize,
+    pub groups: usize,
+}
+
+// The first fault of the tables, where `claims` is what reading the vertex entries found of rule 11.
+// The bones are given their parents, unless rule 8 or 9 refuses.
+pub fn first_fault(
+    n: Counts,
+    claims: Checked,
+    materials: &[i64],
+    bones: &mut [i64],
+    faces: &[i64],
+) -> Checked
+    ensures answer { λ r. ⌜ refusal r ≡ tablesFault n (refusal claims) (now (materials .entry)) (now (bones .entry)) (now (faces .entry)) ⌝ }
+    ensures content { λ r. ⌜ BonesLeft n (now (bones .entry)) (now (bones .exit)) ⌝ }
+{
+    match counts_fault(n) {
+        Checked::Refused { number, offset } => Checked::Refused { number, offset },
+        Checked::Clear => match place_bones(bones, n.bones) {
+            Checked::Refused { number, offset } => Checked::Refused { number, offset },
+            Checked::Clear => later_fault(n, claims, materials, faces),
+        },
+    }
+}
+
+// Rules 8 and 9.
+fn counts_fault(n: Counts) -> Checked
+    ensures { λ r. ⌜ refusal r ≡ countsFault n ⌝ }
+{
+    let counts = [
+        n.textures,
+        n.colours,
+        n.materials,
+        n.points,
+        n.normals,
+        n.bones,
+        n.uvs,
+        n.faces,
+        n.groups,
+    ];
+    match too_many(&counts) {
+        Checked::Refused { number, offset } => Checked::Refused { number, offset },
+        Checked::Clear => normals_fault(n.points, n.normals),
+    }
+}
+
+// Rules 11 to 13.
+fn later_fault(n: Counts, claims: Checked, materials: &[i64], faces: &[i64]) -> Checked
+    ensures { λ r. ⌜ refusal r ≡ laterFault n (refusal claims) (now (materials .entry)) (now (faces .entry)) ⌝ }
+{
+    match claims {
+        Checked::Refused { number, offset } => Checked::Refused { number, offset },
+        Checked::Clear => {
+            match material_fault(materials, n.materials, n.textures, n.colours) {
+                Checked::Refused { number, offset } => Checked::Refused { number, offset },
+                Checked::Clear => face_fault(faces, n.faces, n.materials, n.points, n.uvs),
+            }
+        }
+    }
+}
