@@ -37,3 +37,15 @@ module _ {A B C D : Type 0} (g : A → Reader C) (h : B → Reader C) where
 pub into-end : {B C : Type 0} (b : B) (h : B → Reader C) (ms : List Lexeme) → h b ms ≡ (pure b >>= h) ms
 unfolding _>>=_ pure after
 into-end b h ms = refl
+
+-- two values as a pair
+pub pair-up : {A B C D : Type 0} (q : Reader D) (r : Reader A) (s : A → Reader B) (k : A → B → Reader C) (ms : List Lexeme) → (q >> (r >>= λ a. s a >>= λ b. k a b)) ms ≡ (q >> (r >>= λ (a : A). s a >>= λ (b : B). pure (a, b)) >>= λ (x : A × B). k (x .0) (x .1)) ms
+pair-up {A} {B} {C} q r s k ms =
+    then-same q _ (r >>= (λ (a : A). s a >>= λ (b : B). pure (a, b)) >>= λ (x : A × B). k (x .0) (x .1)) inner ms
+    ∙ sym (then-bind q (r >>= λ (a : A). s a >>= λ (b : B). pure (a, b)) (λ (x : A × B). k (x .0) (x .1)) ms)
+  where
+    second : (a : A) (ms : List Lexeme) → (s a >>= λ b. k a b) ms ≡ (s a >>= (λ (b : B). pure (a, b)) >>= λ (x : A × B). k (x .0) (x .1)) ms
+    second a ms = sym (bind-assoc (s a) (λ (b : B). pure (a, b)) (λ (x : A × B). k (x .0) (x .1)) ms ∙ bind-same (s a) _ (λ b. k a b) (λ b l. sym (into-end (a, b) (λ (x : A × B). k (x .0) (x .1)) l)) ms)
+
+    inner : (ms : List Lexeme) → (r >>= λ a. s a >>= λ b. k a b) ms ≡ (r >>= (λ (a : A). s a >>= λ (b : B). pure (a, b)) >>= λ (x : A × B). k (x .0) (x .1)) ms
+    inner ms = bind-same r _ (λ (a : A). s a >>= (λ (b : B). pure (a, b)) >>= λ (x : A × B). k (x .0) (x .1)) second ms ∙ sym (bind-assoc r (λ (a : A). s a >>= λ (b : B). pure (a, b)) (λ (x : A × B). k (x .0) (x .1)) ms)
