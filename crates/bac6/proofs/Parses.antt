@@ -9,10 +9,11 @@ use Rattle.lexer.specs.Tokens.{Lexeme, lex, lexAt, tokens}
 use Rattle.chunks.specs.declared.cursor.Cursor.{Cursor}
 use Rattle.lexer.specs.Bytes.{bytes}
 use Rattle.lexer.specs.Numbers.{FLOAT}
-use Rattle.chunks.specs.Readers.{Name, Got, Reader, after, _>>=_, _>>_, pure, opened, close-bracket, text-end, optional, trailing, many, many⁺, row}
+use Rattle.chunks.specs.Readers.{Name, Got, got, refused, Reader, after, _>>=_, _>>_, pure, opened, close-bracket, text-end, optional, trailing, many, many⁺, row}
 use Rattle.chunks.specs.Cursors.{reads, from}
 use Rattle.chunks.specs.Places.{placeOf}
-use Rattle.chunks.proofs.Steps.{from-on, join}
+use Rattle.chunks.proofs.Steps.{from-on, from-off, join}
+use Rattle.chunks.proofs.Many.{not-got}
 use Rattle.chunks.proofs.Sequences.{into-then, into-bind, into-end, pair-up}
 use Rattle.bac6_text.specs.Figure.{Bone, Face, Group, Figure}
 use Rattle.bac6_text.specs.Grammar.{bone, face, group, figure}
@@ -125,3 +126,36 @@ module _ (t c m p v b o u fs g : List ℤ) where
   pub figure-same : (ms : List Lexeme) → (figure >>= λ f. pure (values f)) ms ≡ figureInto t c m p v b o u fs g ms
   unfolding figureInto keep rejoin front frontValue laidRows
   figure-same ms = bind-first figure (frontThen backFrom) keep ms (figure-parts ms) ∙ front-same t c m p v backFrom keep (λ x. backInto (x .points .0) b o u fs g >>= rejoin x) (λ n ts cs mats ps vs l. back-same n ts cs mats ps vs l) ms
+
+-- ---- what a parsed text says of the grammar's figure
+
+-- the figure that was read, and what parsing keeps of it
+pub record Found (text : List ℕ) (t c m p v b o u fs g : List ℤ) (x : FrontValue × BackValue) : Type 0 where
+  pub read : Figure
+  pub left : List Lexeme
+  pub gives : figure (lex text) ≡ got read left
+  pub kept : values t c m p v b o u fs g read ≡ x
+
+refusals : {A B : Type 0} (n i k j : ℕ) → _≡_ {A = Got A} (refused k j) (refused n i) → _≡_ {A = Got B} (refused n i) (refused k j)
+refusals n i k j h = let a : n ≡ k = cc in let b : i ≡ j = cc in rw (a, b)
+
+module _ (text : List ℕ) (t c m p v b o u fs g : List ℤ) (d : Cursor) (x : FrontValue × BackValue) (e : reads text d x ≡ figureInto t c m p v b o u fs g (lex text)) where
+  same-figure : reads text d x ≡ after (figure (lex text)) (λ f. pure (values t c m p v b o u fs g f))
+  unfolding _>>=_
+  same-figure = e ∙ sym (figure-same t c m p v b o u fs g (lex text))
+
+  pub parsed-found : d .refusal ≡ 0 → Found text t c m p v b o u fs g x
+  unfolding reads after pure
+  parsed-found z = go (figure (lex text)) refl
+    where
+      go : (r : Got Figure) → figure (lex text) ≡ r → Found text t c m p v b o u fs g x
+      go (got f l) q = let h : got x (lexAt text (d .at)) ≡ got (values t c m p v b o u fs g f) l = sym (from-on text d (pure x) z) ∙ same-figure ∙ ap (λ (y : Got Figure). after y (λ f. pure (values t c m p v b o u fs g f))) q in record { read = f; left = l; gives = q; kept = cc }
+      go (refused n i) q = let h : got x (lexAt text (d .at)) ≡ refused n i = sym (from-on text d (pure x) z) ∙ same-figure ∙ ap (λ (y : Got Figure). after y (λ f. pure (values t c m p v b o u fs g f))) q in absurd (not-got n i x (lexAt text (d .at)) (sym h))
+
+  pub parsed-refused : (d .refusal ≡ 0 → ⊥) → figure (lex text) ≡ refused (d .refusal) (d .at)
+  unfolding reads after pure
+  parsed-refused z = go (figure (lex text)) refl
+    where
+      go : (r : Got Figure) → figure (lex text) ≡ r → figure (lex text) ≡ refused (d .refusal) (d .at)
+      go (got f l) q = let h : refused (d .refusal) (d .at) ≡ got (values t c m p v b o u fs g f) l = sym (from-off text d (pure x) z) ∙ same-figure ∙ ap (λ (y : Got Figure). after y (λ f. pure (values t c m p v b o u fs g f))) q in absurd (not-got (d .refusal) (d .at) (values t c m p v b o u fs g f) l h)
+      go (refused n i) q = let h : _≡_ {A = Got (FrontValue × BackValue)} (refused (d .refusal) (d .at)) (refused n i) = sym (from-off text d (pure x) z) ∙ same-figure ∙ ap (λ (y : Got Figure). after y (λ f. pure (values t c m p v b o u fs g f))) q in q ∙ refusals n i (d .refusal) (d .at) h
