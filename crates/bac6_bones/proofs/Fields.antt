@@ -13,6 +13,7 @@ use Rattle.lexer.specs.declared.token.Span.{Span}
 use Rattle.lexer.specs.Answers.{Next, lexemeOf}
 use Rattle.chunks.specs.declared.cursor.Cursor.{Cursor}
 use Rattle.chunks.specs.Cursors.{overlayAt, overlay}
+use Rattle.chunks.specs.Readers.{absent}
 use Rattle.chunks.specs.Fields.{kind, isSome, kindFrom, unread, insideAt}
 use Rattle.chunks.specs.Words.{words, onto, keysOf, apart, differs, indexIn}
 use Rattle.chunks.proofs.Steps.{from-on}
@@ -36,8 +37,8 @@ unfolding boneKinds
 bone-count = refl
 
 pub unread-state : (n : ℕ) (b : ℤ) (s : Bool × List ℤ) → boneState n b s (unread boneKinds) ≡ (replicate 7 false, replicate 14 (pos 0), s)
-unfolding boneState boneNumbers unread boneKinds isSome three numbersIn flagIn nameIn nameNumbers claimed
-unread-state n b s = unfold Rattle.chunks.specs.Readers.absent in refl
+unfolding boneState boneNumbers unread boneKinds isSome three numbersIn flagIn nameIn nameNumbers absent claimed
+unread-state n b s = refl
 
 -- ---- fields by their flags
 

@@ -35,7 +35,7 @@ use Rattle.chunks.proofs.Given.{Gives, pure-gives, bind-gives, then-gives}
 use Rattle.chunks.proofs.Tables.{overlayAt-none, overlayAt-append, overlayAt-same}
 use Rattle.bac6_text.specs.Figure.{Bone}
 use Rattle.bac6_text.specs.Grammar.{BoneField, named, flag, several, boneOf, boneKinds, bone, word, truth}
-use Rattle.bac6_text.specs.Layout.{boneRow}
+use Rattle.bac6_text.specs.Layout.{nameNumbers, boneRow}
 use Rattle.bac6_rules.specs.Claims.{claimedOne, claimed, faultAt, afterBone, claimedBone, claimedBones}
 use Rattle.bac6_bones.specs.Into.{three, boneNumbers, boneTail, boneInto, faultOf, boneStep, bonesInto}
 use Rattle.bac6_bones.proofs.FieldGives.{Whole}
@@ -120,7 +120,7 @@ Rows (b ∷ bs) = (length (boneRow b (pos 0)) ≡ 14) × Rows bs
 
 row-gives : Gives (λ b. length (boneRow b (pos 0)) ≡ 14) bone
 unfolding bone
-row-gives = bind-gives (λ gs. Whole tests boneKinds gs) (λ b. length (boneRow b (pos 0)) ≡ 14) (then-gives (λ gs. Whole tests boneKinds gs) (opened "bone") fields-whole) (λ gs w. pure-gives (λ b. length (boneRow b (pos 0)) ≡ 14) (boneOf gs) (rw (← row-whole gs w) (unfold boneNumbers three in unfold Rattle.bac6_text.specs.Layout.nameNumbers in refl)))
+row-gives = bind-gives (λ gs. Whole tests boneKinds gs) (λ b. length (boneRow b (pos 0)) ≡ 14) (then-gives (λ gs. Whole tests boneKinds gs) (opened "bone") fields-whole) (λ gs w. pure-gives (λ b. length (boneRow b (pos 0)) ≡ 14) (boneOf gs) (rw (← row-whole gs w) (unfold boneNumbers three nameNumbers in refl)))
 
 rows-in : (n : ℕ) → Gives Rows (manyIn n bone)
 unfolding manyIn Rows

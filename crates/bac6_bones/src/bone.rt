@@ -1,11 +1,10 @@
 // A bone: seven chunks in any order, each at most once.
 ghost use mathlib.Core.Path.{_≡_};
 ghost use Prim.Native.Nat.{_<_, _≤_};
-ghost use lib.ListN.{length};
-ghost use Rattle.lexer.specs.Tokens.{lexAt};
-ghost use lib.ListN.{replicate};
-ghost use lib.IntN.{pos};
 ghost use mathlib.Core.Bool.{false};
+ghost use lib.IntN.{pos};
+ghost use lib.ListN.{length, replicate};
+ghost use Rattle.lexer.specs.Tokens.{lexAt};
 ghost use Rattle.chunks.specs.Fields.{insideAt, fields, neededOf, coversAll};
 ghost use Rattle.chunks.specs.Cursors.{reads, from};
 ghost use Rattle.bac6_text.specs.Grammar.{boneKinds};
@@ -87,9 +86,12 @@ fn bone_chunk(
     ensures { λ r. ⌜ ChunkRead (now (text .entry)) at points bone (now (seen .entry), now (row .entry), (fine, now (owners .entry))) (r .cursor) (now (seen .exit), now (row .exit), (r .fine, now (owners .exit))) ⌝ }
 {
     let t = lexer::next(text, at);
-    let refused = Cursor {
-        refusal: 5,
-        at: t.start,
+    let refused = Claims {
+        cursor: Cursor {
+            refusal: 5,
+            at: t.start,
+        },
+        fine,
     };
     let k = chunks::word_index(
         text,
@@ -97,16 +99,10 @@ fn bone_chunk(
         b"name hasChild hasBrother translate rotate handle vertexIndices",
     );
     if 7 <= k {
-        return Claims {
-            cursor: refused,
-            fine,
-        };
+        return refused;
     }
     if seen[k] {
-        return Claims {
-            cursor: refused,
-            fine,
-        };
+        return refused;
     }
     seen[k] = true;
     if k < 6 {
@@ -154,9 +150,12 @@ fn bone_fields(
     loop {
         let t = lexer::next(text, from);
         let kind = t.kind;
-        let refused = Cursor {
-            refusal: 5,
-            at: t.start,
+        let refused = Claims {
+            cursor: Cursor {
+                refusal: 5,
+                at: t.start,
+            },
+            fine: free,
         };
         if chunks::is_closing(kind) {
             return Claims {
@@ -165,16 +164,10 @@ fn bone_fields(
             };
         }
         if left == 0 {
-            return Claims {
-                cursor: refused,
-                fine: free,
-            };
+            return refused;
         }
         if !chunks::is_opening(kind) {
-            return Claims {
-                cursor: refused,
-                fine: free,
-            };
+            return refused;
         }
         let m = bone_chunk(text, t.end, points, bone, row, seen, owners, free);
         let d = m.cursor;

@@ -26,18 +26,18 @@ fn tried(owners: &mut [i64], points: usize, z: i64, bone: i64, fine: bool) -> bo
 // Claims up to ), which is taken too.
 pub(crate) fn entries(
     text: &[u8],
-    at: usize,
+    start: usize,
     points: usize,
     bone: i64,
     owners: &mut [i64],
     fine: bool,
 ) -> Claims
-    ensures { λ r. ⌜ reads (now (text .entry)) (r .cursor) (r .fine, now (owners .exit)) ≡ entriesInto points bone (fine, now (owners .entry)) (lexAt (now (text .entry)) at) ⌝ }
+    ensures { λ r. ⌜ reads (now (text .entry)) (r .cursor) (r .fine, now (owners .exit)) ≡ entriesInto points bone (fine, now (owners .entry)) (lexAt (now (text .entry)) start) ⌝ }
 {
-    let mut from = at;
+    let mut at = start;
     let mut free = fine;
     loop {
-        let t = lexer::next(text, from);
+        let t = lexer::next(text, at);
         let kind = t.kind;
         if chunks::is_closing(kind) {
             return Claims {
@@ -48,10 +48,7 @@ pub(crate) fn entries(
                 fine: free,
             };
         }
-        let here = Cursor {
-            refusal: 0,
-            at: from,
-        };
+        let here = Cursor { refusal: 0, at };
         let n = chunks::number(text, here, Form::Int);
         let d = n.cursor;
         if d.refusal != 0 {
@@ -61,6 +58,6 @@ pub(crate) fn entries(
             };
         }
         free = tried(owners, points, n.value, bone, free);
-        from = d.at;
+        at = d.at;
     }
 }

@@ -17,13 +17,13 @@ use Rattle.bac6_bones.proofs.entry.entries.Statement.{statement}
 use Rattle.bac6_bones.proofs.entry.entries.Tie as tie
 
 abbrev Inv-loop : tie.InvT-loop
-Inv-loop text at points bone owners₀ fine from₀ free₀ owners from free = (entriesInto points (toZ w64 bone) (fine, owners₀) (lexAt text at) ≡ entriesInto points (toZ w64 bone) (free, owners) (lexAt text from)) × (length owners ≡ length owners₀)
+Inv-loop text start points bone owners₀ fine at₀ free₀ owners at free = (entriesInto points (toZ w64 bone) (fine, owners₀) (lexAt text start) ≡ entriesInto points (toZ w64 bone) (free, owners) (lexAt text at)) × (length owners ≡ length owners₀)
 
 abbrev μ-loop : tie.MeasureT-loop
-μ-loop text at points bone owners₀ fine from₀ free₀ owners from free = length (lexAt text from)
+μ-loop text start points bone owners₀ fine at₀ free₀ owners at free = length (lexAt text at)
 
 -- an entry read, before it is tried
-read : (m : tie.After-number Inv-loop μ-loop) → entriesInto (m .before .before .before .before .before .before .args .points) (toZ w64 (ofZ w64 (m .before .before .before .before .before .before .args .bone))) (m .before .before .before .before .loop .free, m .before .before .before .before .loop .owners) (lexAt (now (m .before .before .before .before .before .before .args .text)) (m .before .before .before .before .loop .from)) ≡ from (now (m .before .before .before .before .before .before .args .text)) (m .number .result .cursor) (entriesInto (m .before .before .before .before .before .before .args .points) (toZ w64 (ofZ w64 (m .before .before .before .before .before .before .args .bone))) (claimedOne (m .before .before .before .before .before .before .args .points) (toZ w64 (ofZ w64 (m .before .before .before .before .before .before .args .bone))) (m .before .before .before .before .loop .free, m .before .before .before .before .loop .owners) (m .number .result .value)))
+read : (m : tie.After-number Inv-loop μ-loop) → entriesInto (m .before .before .before .before .before .before .args .points) (toZ w64 (ofZ w64 (m .before .before .before .before .before .before .args .bone))) (m .before .before .before .before .loop .free, m .before .before .before .before .loop .owners) (lexAt (now (m .before .before .before .before .before .before .args .text)) (m .before .before .before .before .loop .at)) ≡ from (now (m .before .before .before .before .before .before .args .text)) (m .number .result .cursor) (entriesInto (m .before .before .before .before .before .before .args .points) (toZ w64 (ofZ w64 (m .before .before .before .before .before .before .args .bone))) (claimedOne (m .before .before .before .before .before .before .args .points) (toZ w64 (ofZ w64 (m .before .before .before .before .before .before .args .bone))) (m .before .before .before .before .loop .free, m .before .before .before .before .loop .owners) (m .number .result .value)))
 unfolding lexemeOf lexeme formNamed
 read m =
     let k = m .before .before in
