@@ -12,12 +12,15 @@ use lib.IntN.{ℤ, pos}
 use Rattle.lexer.specs.Faults.{clear, fault}
 use Rattle.chunks.specs.Cursors.{overlayAt}
 use Rattle.chunks.specs.Into.{flat}
+use Rattle.chunks.specs.Readers.{Name}
 use Rattle.bac6_text.specs.Figure.{Bone, Group, Figure}
-use Rattle.bac6_text.specs.Rules.{facesOf, countsOf, mosts, tooMany}
-use Rattle.bac6_text.specs.Layout.{nameNumbers, boneRow, boneRows, groupNames}
+use Rattle.bac6_text.specs.Rules.{facesOf, countsOf, mosts, tooMany, flagsOf, wholeList, parentsIn}
+use Rattle.bac6_text.specs.Layout.{layoutOf, nameNumbers, boneRow, boneRows, ownersFrom, faceRows, groupNames}
 use Rattle.bac6_layout.proofs.Chains.{overlay-whole}
-use Rattle.bac6_rules.proofs.Laid.{Wide}
+use Rattle.bac6_layout.proofs.Layouts.{layout-lists}
+use Rattle.bac6_rules.proofs.Laid.{Wide, face-rows-wide, face-rows-length, bones-wide, bones-count}
 use Rattle.bac6_rules.proofs.Placing.{fault-not-clear}
+use Rattle.bac6.proofs.Whole.{WholeFigure}
 
 -- ---- the most rows of each list
 
@@ -97,3 +100,58 @@ pub bones-rows : (bs : List Bone) → map (λ (b : Bone). boneRow b (pos 0)) bs 
 unfolding boneRows
 bones-rows [] = refl
 bones-rows (b ∷ bs) = ap (λ (l : List (List ℤ)). boneRow b (pos 0) ∷ l) (bones-rows bs)
+
+-- ---- the layout
+
+pub owners-length : (bs : List Bone) (i n : ℕ) → length (ownersFrom bs i n) ≡ n
+unfolding ownersFrom
+owners-length bs i zero = refl
+owners-length bs i (suc n) = ap suc (owners-length bs (suc i) n)
+
+-- a list has so many numbers
+record Has (zs : List ℤ) (n : ℕ) : Type 0 where
+  long : length zs ≡ n
+
+-- one list more
+more : {a b : List ℤ} {m n : ℕ} → Has a m → Has b n → Has (a ++ b) (m + n)
+more {a} {b} h k = record { long = length-append a b ∙ ap₂ _+_ (h .long) (k .long) }
+
+-- rows of one width
+rows : (w n : ℕ) (rs : List (List ℤ)) → Wide w rs → length rs ≡ n → Has (flat rs) (n * w)
+rows w n rs h e = record { long = flat-length w rs h ∙ ap (λ (k : ℕ). k * w) e }
+
+name : (n : Name) → Has (nameNumbers n) 2
+unfolding nameNumbers
+name n = record { long = refl }
+
+owners : (bs : List Bone) (n : ℕ) → Has (ownersFrom bs 0 n) n
+owners bs n = record { long = owners-length bs 0 n }
+
+-- how many numbers a figure lays
+pub total :
+    (f : Figure) → WholeFigure f → length (parentsIn (wholeList (flagsOf (f .bones)))) ≡ length (f .bones) →
+    length (layoutOf f)
+    ≡ 2
+    + length (f .textures) * 2
+    + length (f .colours) * 3
+    + length (f .materials) * 9
+    + length (f .points) * 3
+    + length (f .normals) * 3
+    + length (f .bones) * 14
+    + length (f .points)
+    + length (f .uvs) * 2
+    + length (facesOf f) * 11
+    + length (f .groups) * 2
+total f w e =
+    let ps = parentsIn (wholeList (flagsOf (f .bones))) in
+    let textures = more (name (f .name)) (rows 2 (length (f .textures)) (f .textures) (w .textures) refl) in
+    let colours = more textures (rows 3 (length (f .colours)) (f .colours) (w .colours) refl) in
+    let materials = more colours (rows 9 (length (f .materials)) (f .materials) (w .materials) refl) in
+    let points = more materials (rows 3 (length (f .points)) (f .points) (w .points) refl) in
+    let normals = more points (rows 3 (length (f .normals)) (f .normals) (w .normals) refl) in
+    let bones = more normals (rows 14 (length (f .bones)) (boneRows (f .bones) ps) (bones-wide (f .bones) ps (w .bones)) (bones-count (f .bones) ps e)) in
+    let owned = more bones (owners (f .bones) (length (f .points))) in
+    let uvs = more owned (rows 2 (length (f .uvs)) (f .uvs) (w .uvs) refl) in
+    let faces = more uvs (rows 11 (length (facesOf f)) (faceRows f) (face-rows-wide f) (face-rows-length f)) in
+    let groups = more faces (rows 2 (length (f .groups)) (groupNames (f .groups)) (groups-wide (f .groups)) (groups-count (f .groups))) in
+    ap length (layout-lists f) ∙ groups .long
