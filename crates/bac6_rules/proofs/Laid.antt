@@ -153,13 +153,13 @@ module _ (b : Bone) (w : WholeBone b) where
       eleven : length (nine ++ (b .child ∷ b .brother ∷ [])) ≡ 11
       eleven = rw (length-append nine (b .child ∷ b .brother ∷ []), nine-length)
 
-bones-wide : (bs : List Bone) (ps : List ℤ) → WholeBones bs → Wide 14 (boneRows bs ps)
+pub bones-wide : (bs : List Bone) (ps : List ℤ) → WholeBones bs → Wide 14 (boneRows bs ps)
 unfolding boneRows
 bones-wide [] ps w = tt
 bones-wide (b ∷ bs) [] w = tt
 bones-wide (b ∷ bs) (p ∷ ps) w = (bone-wide b (w .0) p, bones-wide bs ps (w .1))
 
-bones-count : (bs : List Bone) (ps : List ℤ) → length ps ≡ length bs → length (boneRows bs ps) ≡ length bs
+pub bones-count : (bs : List Bone) (ps : List ℤ) → length ps ≡ length bs → length (boneRows bs ps) ≡ length bs
 unfolding boneRows
 bones-count [] ps e = refl
 bones-count (b ∷ bs) [] e = absurd (omega arith)

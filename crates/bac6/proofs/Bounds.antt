@@ -1,0 +1,157 @@
+-- How many rows and numbers a figure's lists have, so that each fits its table and the layout's length is their sum.
+use mathlib.Core.Path.{_≡_, refl, ap, ap₂, sym, _∙_}
+use mathlib.Core.List.{List, [], _∷_, _++_, map}
+use mathlib.Core.Bool.{Bool, true, false}
+use Prim.Native.Nat.{ℕ, zero, suc, _+_, _*_, _≤_}
+use native.Mathlib.Nat.{zero-mul, suc-mul, add-comm, le-trans, mul-le-mul-right}
+use borrow.Author.Tests.{leb-true}
+use lib.Dec.{leb}
+use lib.ListN.{length, take, drop, replicate, length-append}
+use lib.Seq.{take-at}
+use lib.IntN.{ℤ, pos}
+use Rattle.lexer.specs.Faults.{clear, fault}
+use Rattle.chunks.specs.Cursors.{overlayAt}
+use Rattle.chunks.specs.Into.{flat}
+use Rattle.chunks.specs.Readers.{Name}
+use Rattle.bac6_text.specs.Figure.{Bone, Group, Figure}
+use Rattle.bac6_text.specs.Rules.{facesOf, countsOf, mosts, tooMany, flagsOf, wholeList, parentsIn}
+use Rattle.bac6_text.specs.Layout.{layoutOf, nameNumbers, boneRow, boneRows, ownersFrom, faceRows, groupNames}
+use Rattle.bac6_layout.proofs.Chains.{overlay-whole}
+use Rattle.bac6_layout.proofs.Layouts.{layout-lists}
+use Rattle.bac6_rules.proofs.Laid.{Wide, face-rows-wide, face-rows-length, bones-wide, bones-count}
+use Rattle.bac6_rules.proofs.Placing.{fault-not-clear}
+use Rattle.bac6.proofs.Whole.{WholeFigure}
+
+-- ---- the most rows of each list
+
+pub record Within (f : Figure) : Type 0 where
+  pub textures : length (f .textures) ≤ 16
+  pub colours : length (f .colours) ≤ 256
+  pub materials : length (f .materials) ≤ 64
+  pub points : length (f .points) ≤ 2048
+  pub normals : length (f .normals) ≤ 2048
+  pub bones : length (f .bones) ≤ 128
+  pub uvs : length (f .uvs) ≤ 4096
+  pub faces : length (facesOf f) ≤ 1024
+  pub groups : length (f .groups) ≤ 32
+
+module _ (i n m : ℕ) (ns ms : List ℕ) where
+  count-fine : leb n m ≡ true → tooMany i (n ∷ ns) (m ∷ ms) ≡ tooMany (suc i) ns ms
+  unfolding tooMany
+  count-fine e = rw (e, tooMany)
+
+  count-over : leb n m ≡ false → tooMany i (n ∷ ns) (m ∷ ms) ≡ fault 8 i
+  unfolding tooMany
+  count-over e = rw (e, tooMany)
+
+  -- a list without fault is within its most, and so are those after it
+  count-clear : tooMany i (n ∷ ns) (m ∷ ms) ≡ clear → (n ≤ m) × (tooMany (suc i) ns ms ≡ clear)
+  count-clear h = go (leb n m) refl
+    where
+      go : (v : Bool) → leb n m ≡ v → (n ≤ m) × (tooMany (suc i) ns ms ≡ clear)
+      go true e = (leb-true n m e, sym (count-fine e) ∙ h)
+      go false e = absurd (fault-not-clear 8 i (sym (count-over e) ∙ h))
+
+pub bounds : (f : Figure) → tooMany 0 (countsOf f) mosts ≡ clear → Within f
+unfolding countsOf mosts
+bounds f h =
+    let t = count-clear 0 (length (f .textures)) 16 _ _ h in
+    let c = count-clear 1 (length (f .colours)) 256 _ _ (t .1) in
+    let m = count-clear 2 (length (f .materials)) 64 _ _ (c .1) in
+    let p = count-clear 3 (length (f .points)) 2048 _ _ (m .1) in
+    let v = count-clear 4 (length (f .normals)) 2048 _ _ (p .1) in
+    let b = count-clear 5 (length (f .bones)) 128 _ _ (v .1) in
+    let u = count-clear 6 (length (f .uvs)) 4096 _ _ (b .1) in
+    let s = count-clear 7 (length (facesOf f)) 1024 _ _ (u .1) in
+    let g = count-clear 8 (length (f .groups)) 32 _ _ (s .1) in
+    record { textures = t .0; colours = c .0; materials = m .0; points = p .0; normals = v .0; bones = b .0; uvs = u .0; faces = s .0; groups = g .0 }
+
+-- ---- rows of one width
+
+pub flat-length : (w : ℕ) (rs : List (List ℤ)) → Wide w rs → length (flat rs) ≡ length rs * w
+unfolding flat
+flat-length w [] h = sym (zero-mul w)
+flat-length w (r ∷ rs) h = length-append r (flat rs) ∙ ap₂ _+_ (h .0) (flat-length w rs (h .1)) ∙ add-comm w (length rs * w) ∙ sym (suc-mul (length rs) w)
+
+-- rows in a table with room for n of them
+pub held : (w n : ℕ) (rs : List (List ℤ)) (t : List ℤ) → Wide w rs → length rs ≤ n → n * w ≤ length t → overlayAt 0 (flat rs) t ≡ flat rs ++ drop (length (flat rs)) t
+held w n rs t h l k = overlay-whole (flat rs) t (rw (flat-length w rs h) (le-trans (mul-le-mul-right w l) k))
+
+-- and those rows alone
+pub prefix : (w : ℕ) (rs : List (List ℤ)) (rest : List ℤ) → Wide w rs → take (length rs * w) (flat rs ++ rest) ≡ flat rs
+prefix w rs rest h = take-at (flat rs) rest (length rs * w) (flat-length w rs h)
+
+-- ---- groups
+
+pub groups-wide : (gs : List Group) → Wide 2 (groupNames gs)
+unfolding groupNames nameNumbers
+groups-wide [] = tt
+groups-wide (g ∷ gs) = (refl, groups-wide gs)
+
+pub groups-count : (gs : List Group) → length (groupNames gs) ≡ length gs
+unfolding groupNames
+groups-count [] = refl
+groups-count (g ∷ gs) = ap suc (groups-count gs)
+
+-- ---- bones
+
+-- rows that have no parent yet
+pub bones-rows : (bs : List Bone) → map (λ (b : Bone). boneRow b (pos 0)) bs ≡ boneRows bs (replicate (length bs) (pos 0))
+unfolding boneRows
+bones-rows [] = refl
+bones-rows (b ∷ bs) = ap (λ (l : List (List ℤ)). boneRow b (pos 0) ∷ l) (bones-rows bs)
+
+-- ---- the layout
+
+pub owners-length : (bs : List Bone) (i n : ℕ) → length (ownersFrom bs i n) ≡ n
+unfolding ownersFrom
+owners-length bs i zero = refl
+owners-length bs i (suc n) = ap suc (owners-length bs (suc i) n)
+
+-- a list has so many numbers
+record Has (zs : List ℤ) (n : ℕ) : Type 0 where
+  long : length zs ≡ n
+
+-- one list more
+more : {a b : List ℤ} {m n : ℕ} → Has a m → Has b n → Has (a ++ b) (m + n)
+more {a} {b} h k = record { long = length-append a b ∙ ap₂ _+_ (h .long) (k .long) }
+
+-- rows of one width
+rows : (w n : ℕ) (rs : List (List ℤ)) → Wide w rs → length rs ≡ n → Has (flat rs) (n * w)
+rows w n rs h e = record { long = flat-length w rs h ∙ ap (λ (k : ℕ). k * w) e }
+
+name : (n : Name) → Has (nameNumbers n) 2
+unfolding nameNumbers
+name n = record { long = refl }
+
+owners : (bs : List Bone) (n : ℕ) → Has (ownersFrom bs 0 n) n
+owners bs n = record { long = owners-length bs 0 n }
+
+-- how many numbers a figure lays
+pub total :
+    (f : Figure) → WholeFigure f → length (parentsIn (wholeList (flagsOf (f .bones)))) ≡ length (f .bones) →
+    length (layoutOf f)
+    ≡ 2
+    + length (f .textures) * 2
+    + length (f .colours) * 3
+    + length (f .materials) * 9
+    + length (f .points) * 3
+    + length (f .normals) * 3
+    + length (f .bones) * 14
+    + length (f .points)
+    + length (f .uvs) * 2
+    + length (facesOf f) * 11
+    + length (f .groups) * 2
+total f w e =
+    let ps = parentsIn (wholeList (flagsOf (f .bones))) in
+    let textures = more (name (f .name)) (rows 2 (length (f .textures)) (f .textures) (w .textures) refl) in
+    let colours = more textures (rows 3 (length (f .colours)) (f .colours) (w .colours) refl) in
+    let materials = more colours (rows 9 (length (f .materials)) (f .materials) (w .materials) refl) in
+    let points = more materials (rows 3 (length (f .points)) (f .points) (w .points) refl) in
+    let normals = more points (rows 3 (length (f .normals)) (f .normals) (w .normals) refl) in
+    let bones = more normals (rows 14 (length (f .bones)) (boneRows (f .bones) ps) (bones-wide (f .bones) ps (w .bones)) (bones-count (f .bones) ps e)) in
+    let owned = more bones (owners (f .bones) (length (f .points))) in
+    let uvs = more owned (rows 2 (length (f .uvs)) (f .uvs) (w .uvs) refl) in
+    let faces = more uvs (rows 11 (length (facesOf f)) (faceRows f) (face-rows-wide f) (face-rows-length f)) in
+    let groups = more faces (rows 2 (length (f .groups)) (groupNames (f .groups)) (groups-wide (f .groups)) (groups-count (f .groups))) in
+    ap length (layout-lists f) ∙ groups .long
