@@ -2,3 +2,4 @@
 pub mod Whole
 pub mod Parses
 pub mod Bounds
+pub mod Rules
