@@ -3,3 +3,4 @@ pub mod Whole
 pub mod Parses
 pub mod Bounds
 pub mod Rules
+pub mod FigureName

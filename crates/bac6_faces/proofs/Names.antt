@@ -20,18 +20,18 @@ use Rattle.bac6_faces.proofs.FaceLists.{alive}
 -- ---- tokens within b bytes
 
 -- a token but the last has a byte
-unfoldable least : Token → ℕ
+unfoldable pub least : Token → ℕ
 least opening = 1
 least closing = 1
 least ending = 0
 least (quoted bs) = 1
 least (plain bs) = 1
 
-unfoldable Within : ℕ → List Lexeme → Type 0
+unfoldable pub Within : ℕ → List Lexeme → Type 0
 Within b [] = Unit {0}
 Within b (m ∷ ms) = (m .offset + least (m .token) ≤ b) × (length (bytesOf (m .token)) ≤ b) × Within b ms
 
-tokens-within : (b k p : ℕ) (bs : List ℕ) → p + length bs ≤ b → Within b (tokens k p bs)
+pub tokens-within : (b k p : ℕ) (bs : List ℕ) → p + length bs ≤ b → Within b (tokens k p bs)
 unfolding Within tokens lexeme bytesOf least
 tokens-within b k p [] h = (omega arith, omega arith, tt)
 tokens-within b (suc k) p (x ∷ bs) h = tokens-within b k (suc p) bs (omega arith)
@@ -50,14 +50,14 @@ lexAt-within : (text : List ℕ) (at : ℕ) → Within (length text) (lexAt text
 unfolding lexAt
 lexAt-within text at = tokens-within (length text) 0 _ (drop at text) (omega (arith, length-drop at text))
 
-rest-within : (b : ℕ) (ms : List Lexeme) → Within b ms → Within b (rest ms)
+pub rest-within : (b : ℕ) (ms : List Lexeme) → Within b ms → Within b (rest ms)
 unfolding Within rest
 rest-within b [] h = tt
 rest-within b (m ∷ ms) h = h .2
 
 -- ---- names
 
-abbrev Placed : ℕ → Name → Type 0
+abbrev pub Placed : ℕ → Name → Type 0
 Placed b x = (x .at ≤ b) × (length (x .bytes) ≤ b)
 
 name-within : (b : ℕ) (t : Token) (m : Lexeme) (ms : List Lexeme) (x : Name) (l : List Lexeme) → m .offset + least t ≤ b → length (bytesOf t) ≤ b → nameAt t (m ∷ ms) ≡ got x l → Placed b x
@@ -78,7 +78,7 @@ unfolding after
 closed-within b (got y k) h x l e = then-gives (Placed b) close-bracket (pure-gives (Placed b) y (h y k refl)) k x l e
 closed-within b (refused i p) h x l e = absurd (not-got i p x l e)
 
-optional-within : (b : ℕ) (ms : List Lexeme) (x : Name) (l : List Lexeme) → Within b ms → optional "name" absent (closed string) ms ≡ got x l → Placed b x
+pub optional-within : (b : ℕ) (ms : List Lexeme) (x : Name) (l : List Lexeme) → Within b ms → optional "name" absent (closed string) ms ≡ got x l → Placed b x
 unfolding optional closed _>>=_ absent
 optional-within b ms x l h e = go (starts (bytes "name") ms) refl
   where
