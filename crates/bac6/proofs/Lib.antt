@@ -4,3 +4,4 @@ pub mod Parses
 pub mod Bounds
 pub mod Rules
 pub mod FigureName
+pub mod Settings

@@ -1,0 +1,87 @@
+-- What a figure's answer says, and how it follows from what was parsed.
+use mathlib.Core.List.{List, [], _∷_, _++_}
+use mathlib.Core.Bool.{Bool, true, false}
+use Prim.Native.Nat.{ℕ, _+_, _*_, _≤_}
+use lib.Dec.{leb}
+use lib.IntN.{ℤ, pos}
+use lib.ListN.{length, take}
+use Rattle.chunks.specs.Cursors.{overlayAt}
+use Rattle.bac6_text.specs.Figure.{Figure}
+use Rattle.bac6_text.specs.Rules.{facesOf}
+use Rattle.bac6_text.specs.Layout.{layoutOf}
+use Rattle.bac6_text.specs.Answer.{Outcome, rejected, accepted}
+use Rattle.bac6.specs.declared.shape.Parsed.{Parsed}
+use Rattle.bac6.specs.declared.setting.FigureAnswer.{FigureAnswer}
+
+-- a refusal's number and place, file 0 and zeros
+unfoldable pub refusedWith : ℕ → ℕ → FigureAnswer
+refusedWith n p =
+    record { refusal = n; place = p; file = 0; total = 0; textures = 0; colours = 0; materials = 0; points = 0; normals = 0; bones = 0; uvs = 0; faces = 0; groups = 0 }
+
+-- that, or the total and the nine counts
+unfoldable pub answerOf : Outcome → FigureAnswer
+answerOf (rejected n p) = refusedWith n p
+answerOf (accepted f) =
+    record {
+      refusal = 0;
+      place = 0;
+      file = 0;
+      total = length (layoutOf f);
+      textures = length (f .textures);
+      colours = length (f .colours);
+      materials = length (f .materials);
+      points = length (f .points);
+      normals = length (f .normals);
+      bones = length (f .bones);
+      uvs = length (f .uvs);
+      faces = length (facesOf f);
+      groups = length (f .groups);
+    }
+
+-- ---- from the counts and tables
+
+unfoldable pub totalOf : Parsed → ℕ
+totalOf p =
+    2 + p .textures * 2 + p .colours * 3 + p .materials * 9 + p .points * 3 + p .normals * 3 + p .bones * 14 + p .points + p .uvs * 2 + p .faces * 11 + p .groups * 2
+
+unfoldable pub countsAnswer : Parsed → FigureAnswer
+countsAnswer p =
+    record { refusal = 0; place = 0; file = 0; total = totalOf p; textures = p .textures; colours = p .colours; materials = p .materials; points = p .points; normals = p .normals; bones = p .bones; uvs = p .uvs; faces = p .faces; groups = p .groups }
+
+-- 17 where the table is too short
+unfoldable pub downAnswer : Parsed → ℕ → FigureAnswer
+downAnswer p room = elim (leb (totalOf p) room) [ true ↦ countsAnswer p | false ↦ refusedWith 17 (totalOf p) ]
+
+unfoldable pub downTable : Parsed → List ℤ → List ℤ → List ℤ
+downTable p numbers table = elim (leb (totalOf p) (length table)) [ true ↦ overlayAt 0 numbers table | false ↦ table ]
+
+-- the lists' parts of the tables, one after the other
+unfoldable pub partsOf : Parsed → List ℤ → List ℤ → List ℤ → List ℤ → List ℤ → List ℤ → List ℤ → List ℤ → List ℤ → List ℤ → List ℤ
+partsOf p t c m q v b o u f g =
+    (pos (p .place) ∷ pos (p .length) ∷ [])
+    ++ take (p .textures * 2) t
+    ++ take (p .colours * 3) c
+    ++ take (p .materials * 9) m
+    ++ take (p .points * 3) q
+    ++ take (p .normals * 3) v
+    ++ take (p .bones * 14) b
+    ++ take (p .points) o
+    ++ take (p .uvs * 2) u
+    ++ take (p .faces * 11) f
+    ++ take (p .groups * 2) g
+
+-- the tables have all rows, and the numbers are small
+pub record Fits (p : Parsed) (t c m q v b o u f g : List ℤ) : Type 0 where
+  pub place : p .place ≤ 65536
+  pub size : p .length ≤ 65536
+  pub total : totalOf p ≤ 37026
+  pub textures : p .textures * 2 ≤ length t
+  pub colours : p .colours * 3 ≤ length c
+  pub materials : p .materials * 9 ≤ length m
+  pub points : p .points * 3 ≤ length q
+  pub normals : p .normals * 3 ≤ length v
+  pub bones : p .bones * 14 ≤ length b
+  pub owners : p .points ≤ length o
+  pub uvs : p .uvs * 2 ≤ length u
+  pub faces : p .faces * 11 ≤ length f
+  pub groups : p .groups * 2 ≤ length g
