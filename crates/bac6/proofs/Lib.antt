@@ -5,3 +5,4 @@ pub mod Bounds
 pub mod Rules
 pub mod FigureName
 pub mod Settings
+pub mod Taken
