@@ -6,3 +6,5 @@ pub mod Rules
 pub mod FigureName
 pub mod Settings
 pub mod Taken
+pub mod Parts
+pub mod Down

@@ -20,7 +20,7 @@ use Rattle.bac6.proofs.Whole.{WholeFigure, faces-whole}
 use Rattle.bac6.proofs.Bounds.{Within, bounds, held, bones-rows}
 
 -- as many unclaimed vertices as there are points, and the others
-unclaimed-parts : (n k : ℕ) → n ≤ k → replicate k (negsuc 0) ≡ unclaimed n (replicate (k - n) (negsuc 0))
+pub unclaimed-parts : (n k : ℕ) → n ≤ k → replicate k (negsuc 0) ≡ unclaimed n (replicate (k - n) (negsuc 0))
 unclaimed-parts zero k h = let z : k - 0 ≡ k = omega arith in rw z
 unclaimed-parts (suc n) zero h = absurd (omega arith)
 unclaimed-parts (suc n) (suc k) h =
@@ -36,10 +36,10 @@ module _ (f : Figure) (w : WholeFigure f) (m b fs : List ℤ) (lm : length m ≡
   abbrev pub boneTable : List ℤ
   boneTable = overlayAt 0 (flat (map (λ (x : Bone). boneRow x (pos 0)) (f .bones))) b
 
-  abbrev zeros : List ℤ
+  abbrev pub zeros : List ℤ
   zeros = replicate (length (f .bones)) (pos 0)
 
-  bones-held : Within f → boneTable ≡ flat (boneRows (f .bones) zeros) ++ drop (length (flat (boneRows (f .bones) zeros))) b
+  pub bones-held : Within f → boneTable ≡ flat (boneRows (f .bones) zeros) ++ drop (length (flat (boneRows (f .bones) zeros))) b
   bones-held v =
       let e = bones-count (f .bones) zeros (length-replicate (length (f .bones)) (pos 0)) in
       let h = v .bones in
