@@ -8,3 +8,4 @@ pub mod Settings
 pub mod Taken
 pub mod Parts
 pub mod Down
+pub mod Outcomes
