@@ -18,6 +18,7 @@ use Rattle.bac6_text.specs.Rules.{facesOf, countsOf, mosts, tooMany, flagsOf, w
 use Rattle.bac6_text.specs.Layout.{layoutOf, nameNumbers, boneRow, boneRows, ownersFrom, faceRows, groupNames}
 use Rattle.bac6_layout.proofs.Chains.{overlay-whole}
 use Rattle.bac6_layout.proofs.Layouts.{layout-lists}
+use Rattle.bac6_rules.proofs.Claims.{owners-length}
 use Rattle.bac6_rules.proofs.Laid.{Wide, face-rows-wide, face-rows-length, bones-wide, bones-count}
 use Rattle.bac6_rules.proofs.Placing.{fault-not-clear}
 use Rattle.bac6.proofs.Whole.{WholeFigure}
@@ -102,11 +103,6 @@ bones-rows [] = refl
 bones-rows (b ∷ bs) = ap (λ (l : List (List ℤ)). boneRow b (pos 0) ∷ l) (bones-rows bs)
 
 -- ---- the layout
-
-pub owners-length : (bs : List Bone) (i n : ℕ) → length (ownersFrom bs i n) ≡ n
-unfolding ownersFrom
-owners-length bs i zero = refl
-owners-length bs i (suc n) = ap suc (owners-length bs (suc i) n)
 
 -- a list has so many numbers
 record Has (zs : List ℤ) (n : ℕ) : Type 0 where

@@ -14,8 +14,8 @@ use Rattle.bac6_text.specs.Rules.{facesOf, flagsOf, wholeList, parentsIn, verti
 use Rattle.bac6_text.specs.Layout.{nameNumbers, boneRow, boneRows, ownersFrom, faceRows, groupNames, layoutOf}
 use Rattle.bac6_rules.specs.Claims.{claimedBones}
 use Rattle.bac6_rules.specs.Order.{figureCounts, BonesLeft}
-use Rattle.bac6_rules.proofs.Claims.{claims-owners}
-use Rattle.bac6_rules.proofs.Laid.{face-rows-wide, face-rows-length, bones-wide, bones-count}
+use Rattle.bac6_rules.proofs.Claims.{owners-length, claims-owners}
+use Rattle.bac6_rules.proofs.Laid.{face-rows-wide, face-rows-length, bones-wide, bones-count, flags-count}
 use Rattle.bac6_rules.proofs.Placing.{whole-length}
 use Rattle.bac6_rules.proofs.Orders.{or-first, or-second, bones-left}
 use Rattle.bac6_layout.proofs.Layouts.{layout-lists}
@@ -23,10 +23,10 @@ use Rattle.bac6.specs.declared.shape.Parsed.{Parsed}
 use Rattle.bac6.specs.Answers.{Fits, totalOf, partsOf}
 use Rattle.bac6.proofs.Parses.{values}
 use Rattle.bac6.proofs.Whole.{WholeFigure, faces-whole}
-use Rattle.bac6.proofs.Bounds.{Within, bounds, groups-wide, groups-count, owners-length, total}
+use Rattle.bac6.proofs.Bounds.{Within, bounds, groups-wide, groups-count, total}
 use Rattle.bac6.proofs.Rules.{unclaimed-parts, bones-held}
 use Rattle.bac6.proofs.Parts.{rows-part, rows-room, part-is, room-is}
-use Rattle.bac6.proofs.Taken.{countsOf as parsedCounts, parsedAs, name-is, textures-are, colours-are, materials-are, points-are, normals-are, bones-are, claims-are, uvs-are, faces-are, groups-are, counts-are}
+use Rattle.bac6.proofs.Taken.{parsedCounts, parsedAs, name-is, textures-are, colours-are, materials-are, points-are, normals-are, bones-are, claims-are, uvs-are, faces-are, groups-are, counts-are}
 
 module _ (f : Figure) (clean : figureFault f ≡ clear) where
   pub within : Within f
@@ -43,11 +43,6 @@ module _ (f : Figure) (clean : figureFault f ≡ clear) where
 
   abbrev pub parents : List ℤ
   parents = parentsIn (wholeList (flagsOf (f .bones)))
-
-  flags-count : (bs : List Bone) → length (flagsOf bs) ≡ length bs
-  unfolding flagsOf
-  flags-count [] = refl
-  flags-count (b ∷ bs) = ap suc (flags-count bs)
 
   pub parents-count : length parents ≡ length (f .bones)
   parents-count = whole-length (flagsOf (f .bones)) bones-clean ∙ flags-count (f .bones)

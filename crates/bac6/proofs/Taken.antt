@@ -27,8 +27,8 @@ use Rattle.bac6.proofs.Parses.{values, Found}
 use Rattle.bac6.proofs.Whole.{WholeFigure, figure-whole}
 use Rattle.bac6.proofs.Rules.{rules-same}
 
-unfoldable pub countsOf : Parsed → Counts
-countsOf p =
+unfoldable pub parsedCounts : Parsed → Counts
+parsedCounts p =
     record { textures = p .textures; colours = p .colours; materials = p .materials; points = p .points; normals = p .normals; bones = p .bones; uvs = p .uvs; faces = p .faces; groups = p .groups }
 
 -- what parsing answers, with the tables that it leaves
@@ -82,13 +82,13 @@ module _ (f : Figure) (t c m q v b u fs g : List ℤ) (p : Parsed) (t′ c′ m�
   unfolding parsedAs backOf backValue tablesOf
   groups-are = (ap (λ x. x .1 .polygons .2) k, ap (λ x. x .1 .polygons .3) k)
 
-  pub counts-are : countsOf p ≡ figureCounts f
-  unfolding countsOf figureCounts
+  pub counts-are : parsedCounts p ≡ figureCounts f
+  unfolding parsedCounts figureCounts
   counts-are =
       rw (textures-are .0, colours-are .0, materials-are .0, points-are .0, normals-are .0, bones-are .0, uvs-are .0, faces-are .0, groups-are .0)
 
   -- the rules over the tables are the figure's
-  pub rules-are : WholeFigure f → length m ≡ 576 → length b ≡ 1792 → length fs ≡ 11264 → tablesFault (countsOf p) (faultOf (p .faulty) (p .fault)) m′ b′ fs′ ≡ figureFault f
+  pub rules-are : WholeFigure f → length m ≡ 576 → length b ≡ 1792 → length fs ≡ 11264 → tablesFault (parsedCounts p) (faultOf (p .faulty) (p .fault)) m′ b′ fs′ ≡ figureFault f
   rules-are w lm lb lf =
       rw (counts-are, ← ap (λ (x : Fault × List ℤ). x .0) claims-are, ← materials-are .1, ← bones-are .1, ← faces-are .1)
       (rules-same f w m b fs lm lb lf)

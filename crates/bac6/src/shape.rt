@@ -8,7 +8,7 @@ ghost use Rattle.bac6.specs.Parse.{backValue, figureInto};
 use crate::back::read_back;
 use chunks::Cursor;
 
-// A cursor past the text, its name's place and length, how many rows each list has, and the row of the first bone whose claims are at fault, if there is one; where the cursor has refused, all else is free.
+// A cursor past the text, its name's place and length, how many rows each list has, and the row of the first bone whose claims are at fault, if there is one (else `fault` is free); where the cursor has refused, all else is free.
 pub struct Parsed {
     pub cursor: Cursor,
     pub place: usize,

@@ -19,7 +19,7 @@ use Rattle.lexer.specs.declared.token.Span.{Span}
 use Rattle.lexer.specs.Answers.{Next, lexemeOf}
 use Rattle.chunks.specs.declared.cursor.Cursor.{Cursor}
 use Rattle.chunks.specs.Readers.{Got, _>>=_, _>>_, pure, isClosing, isOpening, keyword, wordOf, closed, numbers}
-use Rattle.chunks.specs.Cursors.{reads, from, overlayAt}
+use Rattle.chunks.specs.Cursors.{reads, from, overlayAt, closedAt}
 use Rattle.chunks.specs.Fields.{kind, isSome, complete, kindFrom, fieldsIn, fields, unread, neededOf, coversAll}
 use Rattle.chunks.proofs.Steps.{join, seq, passed, from-on}
 use Rattle.chunks.proofs.FieldSteps.{turn-close, turn-early, turn-full, turn-other, turn-chunk}
@@ -28,7 +28,7 @@ use Rattle.bac6_text.specs.Figure.{Bone}
 use Rattle.bac6_text.specs.Grammar.{BoneField, named, flag, several, numbersIn, boneOf, boneKinds}
 use Rattle.bac6_text.specs.Layout.{boneRow}
 use Rattle.bac6_rules.specs.Claims.{claimed}
-use Rattle.bac6_bones.specs.Into.{Yields, three, boneNumbers, boneState, closedAt, boneTail, boneInto}
+use Rattle.bac6_bones.specs.Into.{Yields, three, boneNumbers, boneState, boneTail, boneInto}
 use Rattle.bac6_bones.proofs.Yielding.{reads-same, given}
 use Rattle.bac6_bones.proofs.FieldGives.{fits, AllGive, Whole, fields-in-gives, complete-seen, fits-length, fits-at, complete-at}
 use Rattle.bac6_bones.proofs.Values.{three-all}

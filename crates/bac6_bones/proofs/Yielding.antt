@@ -58,11 +58,3 @@ module _ {A B : Type 0} (text : List ℕ) (r : Cursor) (f : A → B) (b : B) (an
 -- what holds of each value that a reader gives
 pub given : {A : Type 0} (P : A → Type 0) (s : Reader A) → Gives P s → (text : List ℕ) (r : Cursor) (ms : List Lexeme) (a : A) → reads text r a ≡ s ms → r .refusal ≡ 0 → P a
 given P s h text r ms a e o = h ms a _ (sym e ∙ reads-on text r a o)
-
--- a cursor that has not refused came from one that had not
-pub live-before : {A : Type 0} (text : List ℕ) (c r : Cursor) (a : A) (s : Reader A) → reads text r a ≡ from text c s → r .refusal ≡ 0 → c .refusal ≡ 0
-live-before text c r a s e o = go (eqb (c .refusal) 0) refl
-  where
-    go : (v : Bool) → eqb (c .refusal) 0 ≡ v → c .refusal ≡ 0
-    go true q = eqb-true _ _ q
-    go false q = absurd (not-got _ _ a _ (sym (from-off text c s (eqb-false _ _ q)) ∙ sym e ∙ reads-on text r a o))

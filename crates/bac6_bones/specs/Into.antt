@@ -60,11 +60,6 @@ putRow (suc (suc (suc (suc (suc (suc k)))))) row f = row
 abbrev pub ChunkRead : List ℕ → ℕ → ℕ → ℤ → List Bool × List ℤ × (Bool × List ℤ) → Cursor → List Bool × List ℤ × (Bool × List ℤ) → Type 0
 ChunkRead text at n bone entry r exit = (fs : List (Option BoneField)) (s : Bool × List ℤ) → boneState n bone s fs ≡ entry → Yields text r (kindFrom boneKinds fs (lexAt text at)) (boneState n bone s) exit
 
--- past a closing bracket that may stand there, or refused at it
-unfoldable pub closedAt : Span → Bool → Cursor
-closedAt t true = record { refusal = 0; at = t .end }
-closedAt t false = record { refusal = 5; at = t .start }
-
 -- what stands in a bone after its (
 unfoldable pub boneTail : Reader Bone
 boneTail = keyword "bone" >> fields boneKinds >>= λ fs. pure (boneOf fs)

@@ -10,7 +10,7 @@ use crate::bone::bone_tail;
 use chunks::Cursor;
 
 // How many bones were read, a cursor past them, and the row of the first whose claims are at fault, if there is one (rule 11);
-// where the cursor has refused, all but the cursor is free.
+// where there is none, `fault` is free, and where the cursor has refused, all but the cursor is.
 pub struct Boned {
     pub cursor: Cursor,
     pub count: usize,
@@ -96,7 +96,7 @@ fn more_bones(
 }
 
 // One bone or more, up to the closing bracket after them: their rows to the table, each with parent 0, and their claims on the
-// first `points` vertices to the owners; numbers past the table's end are dropped.
+// first `points` vertices to the owners; numbers past the table's end are dropped. Where the cursor has refused, what both hold is free.
 pub fn bones(text: &[u8], c: Cursor, points: usize, table: &mut [i64], owners: &mut [i64]) -> Boned
     ensures { λ r. ⌜ reads (now (text .entry)) (r .cursor) (r .count, now (table .exit), (faultOf (r .faulty) (r .fault), now (owners .exit))) ≡ from (now (text .entry)) c (bonesInto points (now (table .entry)) (now (owners .entry))) ⌝ }
 {

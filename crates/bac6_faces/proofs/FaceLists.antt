@@ -3,8 +3,6 @@ use mathlib.Core.Path.{_≡_, refl, ap, sym, _∙_}
 use mathlib.Core.List.{List, [], _∷_}
 use mathlib.Core.Bool.{Bool, true, false}
 use Prim.Native.Nat.{ℕ, zero, suc, _+_, _*_, min}
-use borrow.Author.Tests.{eqb-true, eqb-false}
-use lib.Dec.{eqb}
 use lib.IntN.{ℤ}
 use lib.ListN.{length}
 use Rattle.lexer.specs.Numbers.{INT}
@@ -13,21 +11,13 @@ use Rattle.chunks.specs.declared.cursor.Cursor.{Cursor}
 use Rattle.chunks.specs.Readers.{got, Reader, after, _>>=_, _>>_, pure, open-bracket, oneOf, row}
 use Rattle.chunks.specs.Cursors.{reads, from, overlayAt}
 use Rattle.chunks.specs.Folds.{stepped, rowStep}
-use Rattle.chunks.proofs.Steps.{join, from-same, from-off, reads-on}
+use Rattle.chunks.proofs.Steps.{join, from-same}
 use Rattle.chunks.proofs.Binds.{after-after, after-same}
 use Rattle.chunks.proofs.Tables.{overlayAt-same}
-use Rattle.chunks.proofs.Many.{Keeps, Takes, not-got, takes-keeps, pure-keeps, bind-keeps, bind-takes, then-keeps, then-takes, keyword-takes, opened-takes, open-takes, close-takes, closed-keeps, number-takes, numbers-keeps, one-of-takes, row-takes}
+use Rattle.chunks.proofs.Many.{Keeps, Takes, takes-keeps, pure-keeps, bind-keeps, bind-takes, then-keeps, then-takes, keyword-takes, opened-takes, open-takes, close-takes, closed-keeps, number-takes, numbers-keeps, one-of-takes, row-takes}
 use Rattle.bac6_text.specs.Grammar.{face, faceOf, faceBy}
 use Rattle.bac6_text.specs.Layout.{faceRow}
 use Rattle.bac6_faces.specs.Into.{faceTail, faceInto, faceStep}
-
--- a reader that has not refused found a cursor that had not
-pub alive : {A : Type 0} (text : List ℕ) (d e : Cursor) (r : Reader A) (a : A) → reads text e a ≡ from text d r → e .refusal ≡ 0 → d .refusal ≡ 0
-alive text d e r a p o = go (eqb (d .refusal) 0) refl
-  where
-    go : (v : Bool) → eqb (d .refusal) 0 ≡ v → d .refusal ≡ 0
-    go true q = eqb-true _ _ q
-    go false q = absurd (not-got _ _ a _ (sym (sym (reads-on text e a o) ∙ p ∙ from-off text d r (eqb-false _ _ q))))
 
 -- ---- a face takes a token
 

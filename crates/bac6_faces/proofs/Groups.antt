@@ -25,7 +25,8 @@ use Rattle.bac6_text.specs.Figure.{Group}
 use Rattle.bac6_text.specs.Grammar.{face, group}
 use Rattle.bac6_text.specs.Layout.{nameNumbers}
 use Rattle.bac6_faces.specs.Into.{faceStep, groupTail, groupStep}
-use Rattle.bac6_faces.proofs.FaceLists.{alive, face-takes}
+use Rattle.chunks.proofs.Counts.{alive}
+use Rattle.bac6_faces.proofs.FaceLists.{face-takes}
 use Rattle.bac6_faces.proofs.Names.{name-keeps}
 
 -- a reader that takes no token back, from cursor d to e

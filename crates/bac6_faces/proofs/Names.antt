@@ -15,7 +15,7 @@ use Rattle.chunks.specs.Cursors.{reads, from}
 use Rattle.chunks.proofs.Steps.{from-on, reads-on}
 use Rattle.chunks.proofs.Many.{Keeps, not-got, stop-not, takes-keeps, pure-keeps, bind-keeps, closed-keeps, string-takes, optional-keeps}
 use Rattle.chunks.proofs.Given.{pure-gives, then-gives}
-use Rattle.bac6_faces.proofs.FaceLists.{alive}
+use Rattle.chunks.proofs.Counts.{alive}
 
 -- ---- tokens within b bytes
 

@@ -8,6 +8,7 @@ use crate::group::group_list;
 use chunks::Cursor;
 
 // The faces of `Polygons`, and those of the groups of `DynamicPolygons` after them; the rest of a table is left as it is, and rows past its end are dropped.
+// Where the cursor has refused, what both tables hold is free.
 pub fn polygons(text: &[u8], c: Cursor, faces: &mut [i64], names: &mut [i64]) -> Polygons
     ensures { λ r. ⌜ reads (now (text .entry)) (r .cursor) (r .faces, now (faces .exit), r .groups, now (names .exit)) ≡ from (now (text .entry)) c (polygonsInto (now (faces .entry)) (now (names .entry))) ⌝ }
 {

@@ -13,14 +13,13 @@ use Rattle.lexer.specs.Answers.{Next, lexemeOf}
 use Rattle.chunks.specs.declared.cursor.Cursor.{Cursor}
 use Rattle.chunks.specs.Readers.{Got, Reader, after, _>>=_, _>>_, pure, close-bracket, closed, isClosing}
 use Rattle.chunks.specs.Words.{words, wordIn}
-use Rattle.chunks.specs.Cursors.{reads, from}
+use Rattle.chunks.specs.Cursors.{reads, from, closedAt}
 use Rattle.chunks.proofs.Steps.{join, from-same}
 use Rattle.chunks.specs.Fields.{Kind, fieldsIn, fieldsOf, neededOf, coversAll}
 use Rattle.chunks.proofs.FieldSteps.{complete-flags, turn-close, turn-early}
 use Rattle.chunks.proofs.Vocabulary.{wordList, one-word}
 use Rattle.bac6_text.specs.Grammar.{word}
 use Rattle.bac6_parse.specs.Closing.{closeWith}
-use Rattle.bac6_parse.specs.Into.{closedAt}
 
 -- a reader and the closing bracket after it
 pub close-join : {A : Type 0} (text : List ℕ) (c d r : Cursor) (a b : A) (s : Reader A) → reads text d a ≡ from text c s → reads text r b ≡ from text d (closeWith a) → reads text r b ≡ from text c (closed s)

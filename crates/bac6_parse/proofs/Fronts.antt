@@ -8,7 +8,7 @@ use Prim.Native.String.{String}
 use native.Mathlib.Omega.{arith}
 use native.Mathlib.Nat.{zero-add}
 use lib.IntN.{ℤ}
-use lib.ListN.{length}
+use lib.ListN.{length, length-map}
 use Rattle.lexer.specs.Bytes.{bytes}
 use Rattle.lexer.specs.Numbers.{Form, INT, FLOAT}
 use Rattle.lexer.specs.Tokens.{Lexeme, isKeyword}
@@ -21,7 +21,7 @@ use Rattle.chunks.specs.Folds.{fold, folded, stepped, rowStep}
 use Rattle.chunks.specs.Cursors.{overlayAt}
 use Rattle.chunks.proofs.Binds.{after-after, after-same, after-when, then-same}
 use Rattle.chunks.proofs.Given.{Gives, Every, pure-gives, bind-gives, then-gives, many-gives}
-use Rattle.chunks.proofs.FieldCounts.{fields-in-length, map-length}
+use Rattle.chunks.proofs.FieldCounts.{fields-in-length}
 use Rattle.chunks.proofs.Tables.{overlayAt-append, overlayAt-none}
 use Rattle.chunks.proofs.Sequences.{bind-same, project, into-then, into-bind, into-end}
 use Rattle.bac6_text.specs.Grammar.{material, materialKinds, orZero}
@@ -56,7 +56,7 @@ fold-rows w n t (r ∷ rs) h =
 
 pub material-wide : Gives (λ r. length r ≡ 9) material
 unfolding material fields unread materialKinds
-material-wide = bind-gives (λ fs. length fs ≡ 9) (λ r. length r ≡ 9) (then-gives (λ fs. length fs ≡ 9) (opened "material") (fields-in-length 9 materialKinds (unread materialKinds))) (λ fs h. pure-gives (λ r. length r ≡ 9) (map orZero fs) (map-length orZero fs ∙ h))
+material-wide = bind-gives (λ fs. length fs ≡ 9) (λ r. length r ≡ 9) (then-gives (λ fs. length fs ≡ 9) (opened "material") (fields-in-length 9 materialKinds (unread materialKinds))) (λ fs h. pure-gives (λ r. length r ≡ 9) (map orZero fs) (length-map fs orZero ∙ h))
 
 materials-value : (t r : List ℤ) (rs : List (List ℤ)) → length r ≡ 9 → Every (λ x. length x ≡ 9) rs → laidRows t (r ∷ rs) ≡ fold (rowStep 9) (rowStep 9 (0, t) r) rs
 unfolding laidRows fold

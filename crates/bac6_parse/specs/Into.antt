@@ -16,11 +16,6 @@ use Rattle.bac6_text.specs.Grammar.{orZero, materialKinds, material}
 abbrev pub Settled : List Bool → List ℤ → Type 0
 Settled seen row = map orZero (fieldsOf seen row) ≡ row
 
--- past a closing bracket that may stand there, or refused at it
-unfoldable pub closedAt : Span → Bool → Cursor
-closedAt t true = record { refusal = 0; at = t .end }
-closedAt t false = record { refusal = 5; at = t .start }
-
 -- what stands in a material after its (
 unfoldable pub materialTail : Reader (List ℤ)
 materialTail = keyword "material" >> fields materialKinds >>= λ fs. pure (map orZero fs)

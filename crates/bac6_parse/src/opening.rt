@@ -21,6 +21,7 @@ pub struct Front {
     pub normals: usize,
 }
 
+// Reads the front, each list's rows over the first numbers of its table; where the cursor has refused, what the tables hold is free.
 pub fn read_front(
     text: &[u8],
     c: Cursor,

@@ -7,7 +7,7 @@ use chunks::Counted;
 use chunks::Cursor;
 use chunks::Form;
 
-// A chunk of rows that may be left out.
+// A chunk of rows that may be left out, its rows to the table from its start on; where the cursor has refused, what the table holds is free.
 pub fn section(
     text: &[u8],
     c: Cursor,

@@ -364,7 +364,7 @@ module _ (n : ℕ) where
 
 -- ---- a whole figure: n vertices, all unclaimed at first, and whatever stands after them
 
-owners-length : (bs : List Bone) (i n : ℕ) → length (ownersFrom bs i n) ≡ n
+pub owners-length : (bs : List Bone) (i n : ℕ) → length (ownersFrom bs i n) ≡ n
 unfolding ownersFrom
 owners-length bs i zero = refl
 owners-length bs i (suc n) = ap suc (owners-length bs (suc i) n)

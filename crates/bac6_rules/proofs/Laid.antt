@@ -207,7 +207,7 @@ pub parents-laid : (bs : List Bone) (ps qs rest : List ℤ) → WholeBones bs �
 unfolding withParents
 parents-laid bs ps qs rest w e f = parents-rows bs ps qs rest w e f
 
-flags-count : (bs : List Bone) → length (flagsOf bs) ≡ length bs
+pub flags-count : (bs : List Bone) → length (flagsOf bs) ≡ length bs
 unfolding flagsOf
 flags-count [] = refl
 flags-count (b ∷ bs) = ap suc (flags-count bs)

@@ -39,10 +39,14 @@ pub lexAt-count : (text : List ℕ) (at : ℕ) → length (lexAt text at) ≤ su
 unfolding lexAt
 lexAt-count text at = omega (arith, tokens-count 0 (min at (length text)) (drop at text) .1, length-drop at text)
 
+-- a reader that has not refused found a cursor that had not
+pub alive : {A : Type 0} (text : List ℕ) (d e : Cursor) (r : Reader A) (a : A) → reads text e a ≡ from text d r → e .refusal ≡ 0 → d .refusal ≡ 0
+alive text d e r a p o = go (eqb (d .refusal) 0) refl
+  where
+    go : (v : Bool) → eqb (d .refusal) 0 ≡ v → d .refusal ≡ 0
+    go true q = eqb-true _ _ q
+    go false q = absurd (not-got _ _ a _ (sym (sym (reads-on text e a o) ∙ p ∙ from-off text d r (eqb-false _ _ q))))
+
 -- a reader that takes a token, from cursor d to e
 pub falls : {A : Type 0} (text : List ℕ) (d e : Cursor) (r : Reader A) (a : A) → Takes r → reads text e a ≡ from text d r → e .refusal ≡ 0 → length (lexAt text (e .at)) < length (lexAt text (d .at))
-falls text d e r a t p o = go (eqb (d .refusal) 0) refl
-  where
-    go : (v : Bool) → eqb (d .refusal) 0 ≡ v → length (lexAt text (e .at)) < length (lexAt text (d .at))
-    go true q = t .less _ a _ (sym (sym (reads-on text e a o) ∙ p ∙ from-on text d r (eqb-true _ _ q)))
-    go false q = absurd (not-got _ _ a _ (sym (sym (reads-on text e a o) ∙ p ∙ from-off text d r (eqb-false _ _ q))))
+falls text d e r a t p o = t .less _ a _ (sym (sym (reads-on text e a o) ∙ p ∙ from-on text d r (alive text d e r a p o)))

@@ -1,6 +1,6 @@
 -- Chunks in a free order leave as many fields as there were.
 use mathlib.Core.Path.{_≡_, refl, ap, _∙_}
-use mathlib.Core.List.{List, [], _∷_, map}
+use mathlib.Core.List.{List, [], _∷_}
 use mathlib.Core.Bool.{Bool, true, false}
 use mathlib.Core.Option.{Option, none, some}
 use Prim.Native.Nat.{ℕ, zero, suc}
@@ -37,7 +37,3 @@ fields-in-length (suc n) ks fs ms gs l e = go (isClosing (tokenOf ms)) (complete
     go true true p q ih = pure-gives (λ hs. length hs ≡ length fs) fs refl (rest ms) gs l (unfold pure in (rw (p, q, fieldsIn) at e))
     go true false p q ih = absurd (stop-not 5 ms gs l (rw (p, q, fieldsIn) at e))
     go false c p q ih = bind-gives (λ hs. length hs ≡ length fs) (λ hs. length hs ≡ length fs) (then-gives (λ hs. length hs ≡ length fs) open-bracket (kind-length ks fs)) (λ hs h ms₁ xs l₁ e₁. ih hs ms₁ xs l₁ e₁ ∙ h) ms gs l (rw (p, fieldsIn) at e)
-
-pub map-length : {A B : Type 0} (f : A → B) (l : List A) → length (map f l) ≡ length l
-map-length f [] = refl
-map-length f (a ∷ l) = ap suc (map-length f l)

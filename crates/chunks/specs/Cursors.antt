@@ -6,6 +6,7 @@ use Prim.Native.Nat.{ℕ, zero, suc}
 use lib.Dec.{eqb}
 use lib.IntN.{ℤ}
 use Rattle.lexer.specs.Tokens.{lexAt}
+use Rattle.lexer.specs.declared.token.Span.{Span}
 use Rattle.chunks.specs.declared.cursor.Cursor.{Cursor}
 use Rattle.chunks.specs.Readers.{Got, got, refused, Reader, pure}
 
@@ -16,6 +17,11 @@ from text c r = elim (eqb (c .refusal) 0) [ true ↦ r (lexAt text (c .at)) | fa
 -- a value and the tokens from the cursor's offset on, or its refusal
 unfoldable pub reads : {A : Type 0} → List ℕ → Cursor → A → Got A
 reads text c a = from text c (pure a)
+
+-- past a closing bracket that may stand there, or refused at it
+unfoldable pub closedAt : Span → Bool → Cursor
+closedAt t true = record { refusal = 0; at = t .end }
+closedAt t false = record { refusal = 5; at = t .start }
 
 -- numbers over a table's first: those past its end are dropped
 unfoldable pub overlay : List ℤ → List ℤ → List ℤ

@@ -7,7 +7,7 @@ ghost use Rattle.chunks.specs.Readers.{isOpening, isClosing, isPlain, op
 ghost use Rattle.chunks.specs.Cursors.{reads, from};
 use lexer::Kind;
 
-// Where to read on, with `refusal` 0; or a refusal's number and offset.
+// Where to read on, with `refusal` 0; or a refusal's number and offset. Where to read on is settled up to blanks and comments before the next token.
 pub struct Cursor {
     pub refusal: u8,
     pub at: usize,

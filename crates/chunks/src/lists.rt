@@ -15,6 +15,7 @@ use crate::numerals::Form;
 use crate::numerals::number;
 
 // `width` numbers, to the table from index `at` on; those past its end are dropped.
+// Where the cursor has refused, what the table holds is free.
 pub fn numbers(
     text: &[u8],
     c: Cursor,
@@ -63,6 +64,7 @@ fn row_tail(
 }
 
 // ( a keyword, `width` numbers and ), the numbers to the table from index `at` on.
+// Where the cursor has refused, what the table holds is free.
 pub fn row(
     text: &[u8],
     c: Cursor,
@@ -142,6 +144,7 @@ pub struct Counted {
 }
 
 // Rows up to ), one after the other to the table from index `at` on; numbers past its end are dropped.
+// Where the cursor has refused, what the table holds is free.
 pub fn rows(
     text: &[u8],
     c: Cursor,

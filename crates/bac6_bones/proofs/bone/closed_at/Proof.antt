@@ -1,8 +1,8 @@
 -- `closed_at` is the definition at the flags that a bone needs.
 use mathlib.Core.Path.{sym, _∙_}
+use Rattle.chunks.specs.Cursors.{closedAt}
 use Rattle.chunks.specs.Fields.{neededOf, kind}
 use Rattle.bac6_text.specs.Grammar.{boneKinds}
-use Rattle.bac6_bones.specs.Into.{closedAt}
 use borrow.Author.Needs.{needs}
 use Rattle.bac6_bones.proofs.bone.closed_at.Statement.{statement}
 use Rattle.bac6_bones.proofs.bone.closed_at.Tie as tie

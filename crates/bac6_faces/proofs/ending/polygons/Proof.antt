@@ -2,8 +2,7 @@
 use native.Mathlib.Omega.{arith}
 use denote.Ref.{now}
 use Rattle.lexer.specs.Bytes.{bytes}
-use Rattle.chunks.proofs.Counts.{lexAt-count}
-use Rattle.bac6_faces.proofs.FaceLists.{alive}
+use Rattle.chunks.proofs.Counts.{alive, lexAt-count}
 use Rattle.bac6_faces.proofs.Groups.{short}
 use Rattle.bac6_faces.proofs.PolygonSteps.{last-keeps, polygons-groups, polygons-alone}
 use borrow.Author.Needs.{needs}

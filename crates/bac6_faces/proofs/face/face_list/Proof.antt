@@ -14,13 +14,13 @@ use Rattle.chunks.specs.Cursors.{reads, from}
 use Rattle.chunks.specs.Folds.{folded, stepped}
 use Rattle.chunks.proofs.Branches.{item-takes}
 use Rattle.chunks.proofs.Steps.{passed}
-use Rattle.chunks.proofs.Counts.{falls}
+use Rattle.chunks.proofs.Counts.{alive, falls}
 use Rattle.chunks.proofs.Folds.{folded-end, folded-more, folded-fall}
 use Rattle.bac6_text.specs.Grammar.{face}
 use Rattle.bac6_faces.specs.Bounds.{Bounded, Fewer}
 use Rattle.bac6_faces.specs.Into.{faceTail, faceStep}
 use Rattle.bac6_faces.proofs.Faces.{face-opens}
-use Rattle.bac6_faces.proofs.FaceLists.{alive, face-keeps, face-takes, face-stepped}
+use Rattle.bac6_faces.proofs.FaceLists.{face-keeps, face-takes, face-stepped}
 use Rattle.bac6_faces.proofs.face.face_list.Statement.{statement}
 use Rattle.bac6_faces.proofs.face.face_list.Tie as tie
 

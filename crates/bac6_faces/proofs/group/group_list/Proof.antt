@@ -11,12 +11,11 @@ use Rattle.chunks.specs.Cursors.{from}
 use Rattle.chunks.specs.Folds.{folded}
 use Rattle.chunks.proofs.Branches.{item-takes}
 use Rattle.chunks.proofs.Steps.{passed}
-use Rattle.chunks.proofs.Counts.{lexAt-some, lexAt-count, falls}
+use Rattle.chunks.proofs.Counts.{alive, lexAt-some, lexAt-count, falls}
 use Rattle.chunks.proofs.Folds.{folded-end, folded-more, folded-fall}
 use Rattle.bac6_text.specs.Grammar.{group}
 use Rattle.bac6_faces.specs.Bounds.{Bounded}
 use Rattle.bac6_faces.specs.Into.{groupTail, groupStep}
-use Rattle.bac6_faces.proofs.FaceLists.{alive}
 use Rattle.bac6_faces.proofs.Groups.{group-keeps, group-takes, group-opens}
 use Rattle.bac6_faces.proofs.group.group_list.Statement.{statement}
 use Rattle.bac6_faces.proofs.group.group_list.Tie as tie

@@ -4,7 +4,7 @@ use native.Mathlib.Omega.{arith}
 use Rattle.lexer.specs.Bytes.{bytes}
 use Rattle.lexer.proofs.Signed.{bits-pos}
 use Rattle.chunks.proofs.Steps.{passed}
-use Rattle.bac6_faces.proofs.FaceLists.{alive}
+use Rattle.chunks.proofs.Counts.{alive}
 use Rattle.bac6_faces.proofs.Names.{place-bounds}
 use Rattle.bac6_faces.proofs.Groups.{named-short, name-row, group-joined}
 use borrow.Author.Needs.{needs}
