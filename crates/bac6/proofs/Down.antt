@@ -20,13 +20,13 @@ use Rattle.bac6_rules.proofs.Placing.{whole-length}
 use Rattle.bac6_rules.proofs.Orders.{or-first, or-second, bones-left}
 use Rattle.bac6_layout.proofs.Layouts.{layout-lists}
 use Rattle.bac6.specs.declared.shape.Parsed.{Parsed}
-use Rattle.bac6.specs.Answers.{Fits, totalOf, partsOf}
+use Rattle.bac6.specs.Answers.{Fits, totalOf, partsOf, parsedCounts}
 use Rattle.bac6.proofs.Parses.{values}
 use Rattle.bac6.proofs.Whole.{WholeFigure, faces-whole}
 use Rattle.bac6.proofs.Bounds.{Within, bounds, groups-wide, groups-count, total}
 use Rattle.bac6.proofs.Rules.{unclaimed-parts, bones-held}
 use Rattle.bac6.proofs.Parts.{rows-part, rows-room, part-is, room-is}
-use Rattle.bac6.proofs.Taken.{parsedCounts, parsedAs, name-is, textures-are, colours-are, materials-are, points-are, normals-are, bones-are, claims-are, uvs-are, faces-are, groups-are, counts-are}
+use Rattle.bac6.proofs.Taken.{parsedAs, name-is, textures-are, colours-are, materials-are, points-are, normals-are, bones-are, claims-are, uvs-are, faces-are, groups-are, counts-are}
 
 module _ (f : Figure) (clean : figureFault f ≡ clear) where
   pub within : Within f

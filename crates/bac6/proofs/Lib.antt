@@ -9,3 +9,5 @@ pub mod Taken
 pub mod Parts
 pub mod Down
 pub mod Outcomes
+pub mod Checks
+pub mod Ends

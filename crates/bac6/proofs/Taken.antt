@@ -14,7 +14,6 @@ use Rattle.bac6_text.specs.Rules.{facesOf, figureFault}
 use Rattle.bac6_text.specs.Layout.{boneRow, faceRows, groupNames}
 use Rattle.bac6_parse.specs.Lists.{laidRows}
 use Rattle.bac6_parse.specs.Front.{FrontValue, frontValue}
-use Rattle.bac6_rules.specs.declared.order.Counts.{Counts}
 use Rattle.bac6_rules.specs.Claims.{claimedBones}
 use Rattle.bac6_rules.specs.Order.{figureCounts, tablesFault}
 use Rattle.bac6_rules.proofs.Laid.{face-rows-length}
@@ -22,14 +21,11 @@ use Rattle.bac6_bones.specs.Into.{faultOf}
 use Rattle.bac6_faces.specs.Into.{allRows, tablesOf}
 use Rattle.bac6_faces.proofs.PolygonSteps.{all-rows}
 use Rattle.bac6.specs.declared.shape.Parsed.{Parsed}
+use Rattle.bac6.specs.Answers.{parsedCounts}
 use Rattle.bac6.specs.Parse.{BackValue, backValue, figureInto, frontOf, bonesOf, backOf}
 use Rattle.bac6.proofs.Parses.{values, Found}
 use Rattle.bac6.proofs.Whole.{WholeFigure, figure-whole}
 use Rattle.bac6.proofs.Rules.{rules-same}
-
-unfoldable pub parsedCounts : Parsed → Counts
-parsedCounts p =
-    record { textures = p .textures; colours = p .colours; materials = p .materials; points = p .points; normals = p .normals; bones = p .bones; uvs = p .uvs; faces = p .faces; groups = p .groups }
 
 -- what parsing answers, with the tables that it leaves
 unfoldable pub parsedAs : Parsed → List ℤ → List ℤ → List ℤ → List ℤ → List ℤ → List ℤ → List ℤ → List ℤ → List ℤ → List ℤ → FrontValue × BackValue

@@ -1,15 +1,20 @@
 -- What a figure's answer says, and how it follows from what was parsed.
 use mathlib.Core.List.{List, [], _∷_, _++_}
+use mathlib.Core.Path.{_≡_}
 use mathlib.Core.Bool.{Bool, true, false}
 use Prim.Native.Nat.{ℕ, _+_, _*_, _≤_}
 use lib.Dec.{leb}
-use lib.IntN.{ℤ, pos}
-use lib.ListN.{length, take}
+use lib.IntN.{ℤ, pos, negsuc}
+use lib.ListN.{length, take, replicate}
 use Rattle.chunks.specs.Cursors.{overlayAt}
 use Rattle.bac6_text.specs.Figure.{Figure}
 use Rattle.bac6_text.specs.Rules.{facesOf}
 use Rattle.bac6_text.specs.Layout.{layoutOf}
 use Rattle.bac6_text.specs.Answer.{Outcome, rejected, accepted}
+use Rattle.lexer.specs.Faults.{Fault, clear, fault}
+use Rattle.bac6_rules.specs.declared.order.Counts.{Counts}
+use Rattle.bac6_rules.specs.Order.{tablesFault}
+use Rattle.bac6_bones.specs.Into.{faultOf}
 use Rattle.bac6.specs.declared.shape.Parsed.{Parsed}
 use Rattle.bac6.specs.declared.setting.FigureAnswer.{FigureAnswer}
 
@@ -39,6 +44,10 @@ answerOf (accepted f) =
     }
 
 -- ---- from the counts and tables
+
+unfoldable pub parsedCounts : Parsed → Counts
+parsedCounts p =
+    record { textures = p .textures; colours = p .colours; materials = p .materials; points = p .points; normals = p .normals; bones = p .bones; uvs = p .uvs; faces = p .faces; groups = p .groups }
 
 unfoldable pub totalOf : Parsed → ℕ
 totalOf p =
@@ -85,3 +94,30 @@ pub record Fits (p : Parsed) (t c m q v b o u f g : List ℤ) : Type 0 where
   pub uvs : p .uvs * 2 ≤ length u
   pub faces : p .faces * 11 ≤ length f
   pub groups : p .groups * 2 ≤ length g
+
+-- the first fault of the rules over what was parsed, given the tables of materials, bones and faces
+unfoldable pub rulesFault : Parsed → List ℤ → List ℤ → List ℤ → Fault
+rulesFault p m b f = tablesFault (parsedCounts p) (faultOf (p .faulty) (p .fault)) m b f
+
+-- set down where there is none
+unfoldable pub checkedAnswer : Fault → Parsed → ℕ → FigureAnswer
+checkedAnswer clear p room = downAnswer p room
+checkedAnswer (fault n i) p room = refusedWith n i
+
+unfoldable pub checkedTable : Fault → Parsed → List ℤ → List ℤ → List ℤ
+checkedTable clear p numbers table = downTable p numbers table
+checkedTable (fault n i) p numbers table = table
+
+-- tables of each list's most rows for a text that is not too long, with no vertex claimed
+pub record Blank (text : List ℕ) (t c m q v b o u f g : List ℤ) : Type 0 where
+  pub size : length text ≤ 65536
+  pub textures : length t ≡ 32
+  pub colours : length c ≡ 768
+  pub materials : length m ≡ 576
+  pub points : length q ≡ 6144
+  pub normals : length v ≡ 6144
+  pub bones : length b ≡ 1792
+  pub owners : o ≡ replicate 2048 (negsuc 0)
+  pub uvs : length u ≡ 8192
+  pub faces : length f ≡ 11264
+  pub groups : length g ≡ 64
