@@ -1,0 +1,2 @@
+-- Claims by computation.
+pub mod Examples
