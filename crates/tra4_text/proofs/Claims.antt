@@ -1,0 +1,100 @@
+-- Worked movements, by computation: the table of a whole text, what refuses each text at its place, and both sides of the rules 8 and 14.
+use mathlib.Core.Path.{_≡_, refl}
+use mathlib.Core.List.{List, [], _∷_, _++_, map}
+use Prim.Native.Nat.{ℕ}
+use Prim.Native.String.{String}
+use lib.ListN.{length, replicate}
+use lib.IntN.{ℤ, pos, negsuc}
+use Rattle.lexer.specs.Bytes.{bytes, isBlank, between, isLetter, classOf, inLine, inString, isDigit, isContent, run, same}
+use Rattle.lexer.specs.Tokens.{lexeme, tokens, lex, isKeyword}
+use Rattle.lexer.specs.Numbers.{decimalFrom, decimal, signed, notEmpty, allDigits, intMost, intOf, millionths, floatOf, numberFrom, afterDigits, unsigned, negative, magnitude, numberOf}
+use Rattle.lexer.specs.Faults.{clear, fault, faultIn, markOf, blankOrEnd, begins, marked, textFault}
+use Rattle.chunks.specs.Readers.{after, _>>=_, _>>_, pure, stop, tokenOf, rest, isOpening, isClosing, isEnd, take-if, open-bracket, close-bracket, wordOf, text-end, openedOf, opened, closed, numberIn, numberAt, number, numbers, versionAt, version, absent, nameAt, string, oneFrom, oneOf, starts, optional, trailing, manyIn, many, many⁺, headOf, head}
+use Rattle.chunks.specs.Fields.{kind, isSome, unread, complete, kindFrom, fieldsIn, fields}
+use Rattle.chunks.specs.Into.{flat}
+use Rattle.tra4_text.specs.Movement.{frameOf, groupOf}
+use Rattle.tra4_text.specs.Grammar.{repeatedIn, repeated, repeated⁺, key, channelNames, channel, channelKinds, keysIn, bone, truth, pattern, movement}
+use Rattle.tra4_text.specs.Rules.{orElse, channelsOf, allKeys, keyRows, countsOf, mosts, tooMany, totalFault, isFrame, isZero, rises, neverFalls, framesFault, keyFine, keysFault, patternFine, patternsFault, movementFault}
+use Rattle.tra4_text.specs.Layout.{nameNumbers, keyRanges, boneRow, boneRows, layoutOf}
+use Rattle.tra4_text.specs.Answer.{Outcome, rejected, accepted, ruled, shaped, checked, movementOutcome, fitted, movementAnswer, laid, movementTable}
+
+-- ---- a text of two bones, their channels out of order, and the table that it leaves of one with a number more than it takes
+
+abbrev walk : List ℕ
+walk =
+    bytes ";TRA\n(Head(traVersion 4.0))(Figure(name \"walk\")(totalFrame 5)"
+    ++ bytes "(bone(name \"hip\")(roll(kf 0 1.5)(kf 2 -0.000001))(scale.x(kf 0 100))(translate.y(kf 0 2))(translate.x(kf 0 1))(translate.z(kf 0 3))"
+    ++ bytes "(scale.z(kf 0 102))(scale.y(kf 0 101))(rotate.z(kf 0 6))(rotate.y(kf 0 5))(rotate.x(kf 0 4)))"
+    ++ bytes "(bone(roll(kf 0 0))(rotate.z(kf 0 0))(rotate.y(kf 0 0))(rotate.x(kf 0 0))(scale.z(kf 0 0))(scale.y(kf 0 0))(scale.x(kf 0 0))"
+    ++ bytes "(translate.z(kf 0 0))(translate.y(kf 0 0))(translate.x(kf 0 7)(kf 4 8)))"
+    ++ bytes "(DynamicPolygons(kgf 0 0 true)(kgf 3 1 false)(kgf 3 0 false)))"
+
+abbrev walked : List ℤ
+walked =
+    map pos (5 ∷ 41 ∷ 4 ∷ [])
+    ++ map pos (73 ∷ 3 ∷ 0 ∷ 1 ∷ 1 ∷ 1 ∷ 2 ∷ 1 ∷ 3 ∷ 1 ∷ 4 ∷ 1 ∷ 5 ∷ 1 ∷ 6 ∷ 1 ∷ 7 ∷ 1 ∷ 8 ∷ 1 ∷ 9 ∷ 2 ∷ [])
+    ++ map pos (0 ∷ 0 ∷ 11 ∷ 2 ∷ 13 ∷ 1 ∷ 14 ∷ 1 ∷ 15 ∷ 1 ∷ 16 ∷ 1 ∷ 17 ∷ 1 ∷ 18 ∷ 1 ∷ 19 ∷ 1 ∷ 20 ∷ 1 ∷ 21 ∷ 1 ∷ [])
+    ++ map pos (0 ∷ 1000000 ∷ 0 ∷ 2000000 ∷ 0 ∷ 3000000 ∷ 0 ∷ 100000000 ∷ 0 ∷ 101000000 ∷ 0 ∷ 102000000 ∷ 0 ∷ 4000000 ∷ 0 ∷ 5000000 ∷ 0 ∷ 6000000 ∷ [])
+    ++ (pos 0 ∷ pos 1500000 ∷ pos 2 ∷ negsuc 0 ∷ [])
+    ++ map pos (0 ∷ 7000000 ∷ 4 ∷ 8000000 ∷ [])
+    ++ replicate 18 (pos 0)
+    ++ map pos (0 ∷ 0 ∷ 1 ∷ 3 ∷ 1 ∷ 0 ∷ 3 ∷ 0 ∷ 0 ∷ [])
+
+-- ---- a text that goes on after nine channels, at offset 221, and what refuses it: number and place; of a text that is taken 0 and its total
+
+abbrev front : List ℕ
+front =
+    bytes ";TRA\n(Head(traVersion 4.0))(Figure(totalFrame 5)(bone(translate.x(kf 0 0))(translate.y(kf 0 0))(translate.z(kf 0 0))"
+    ++ bytes "(scale.x(kf 0 0))(scale.y(kf 0 0))(scale.z(kf 0 0))(rotate.x(kf 0 0))(rotate.y(kf 0 0))(rotate.z(kf 0 0))"
+
+abbrev reply : Outcome → ℕ × ℕ
+reply (rejected n p) = (n, p)
+reply (accepted m) = (0, length (layoutOf m))
+
+abbrev cases : List (String × (ℕ × ℕ))
+cases =
+    ("(roll(kf 0 0))))", (0, 45))
+    -- the shape
+    ∷ (")", (5, 221))
+    ∷ ("(roll)", (5, 226))
+    ∷ ("(scale.x", (5, 222))
+    ∷ ("(name \"x\")", (5, 222))
+    ∷ ("(roll(kf 0 0)(kgf", (5, 235))
+    ∷ ("(roll(kf 0 0))(", (5, 235))
+    ∷ ("(roll(kf 0 0)))(Bone", (5, 237))
+    ∷ ("(roll(kf 0 0)))(bone)", (5, 241))
+    ∷ ("(roll(kf 0 0)))(DynamicPolygons))", (0, 45))
+    ∷ ("(roll(kf 0 0)))(DynamicPolygons)(bone", (5, 253))
+    ∷ ("(roll(kf 0 0)))(DynamicPolygons(kgf 0 0 yes", (5, 261))
+    ∷ ("(roll(kf 0 0))))(", (5, 237))
+    ∷ ("(roll(kf 0 0)))", (5, 236))
+    ∷ ("(roll(kf 0 10000000", (6, 232))
+    -- 15
+    ∷ ("(roll(kf 1 0))))", (15, 9))
+    ∷ ("(roll(kf 0 0)(kf 4 0))))", (0, 47))
+    ∷ ("(roll(kf 0 0)(kf 5 0))))", (15, 10))
+    ∷ ("(roll(kf 0 0)(kf -1 0))))", (15, 10))
+    ∷ ("(roll(kf 0 0)(kf 2 0)(kf 2 0))))", (15, 11))
+    -- 16
+    ∷ ("(roll(kf 0 0)))(DynamicPolygons(kgf 0 0 true)(kgf 4 1 true)(kgf 4 0 false)))", (0, 54))
+    ∷ ("(roll(kf 0 0)))(DynamicPolygons(kgf 1 0 true)))", (16, 0))
+    ∷ ("(roll(kf 0 0)))(DynamicPolygons(kgf 0 0 true)(kgf 5 0 true)))", (16, 1))
+    ∷ ("(roll(kf 0 0)))(DynamicPolygons(kgf 0 0 true)(kgf 3 0 true)(kgf 2 0 true)))", (16, 2))
+    ∷ ("(roll(kf 0 0)))(DynamicPolygons(kgf 0 -1 true)))", (16, 0))
+    -- 15 before 16
+    ∷ ("(roll(kf 1 0)))(DynamicPolygons(kgf 1 0 true)))", (15, 9))
+    ∷ []
+
+pub worked : (movementTable walk (replicate 101 (pos 9)) ≡ walked ++ (pos 9 ∷ [])) × (movementAnswer walk 99 ≡ rejected 17 100) × (map (λ c. reply (movementAnswer (front ++ bytes (c .0)) 100)) cases ≡ map (λ c. c .1) cases)
+unfolding bytes isBlank between isLetter classOf inLine inString isDigit isContent run same lexeme tokens lex isKeyword decimalFrom decimal signed notEmpty allDigits intMost intOf millionths floatOf numberFrom afterDigits unsigned negative magnitude numberOf faultIn markOf blankOrEnd begins marked textFault after _>>=_ _>>_ pure stop tokenOf rest isOpening isClosing isEnd take-if open-bracket close-bracket wordOf text-end openedOf opened closed numberIn numberAt number numbers versionAt version absent nameAt string oneFrom oneOf starts optional trailing manyIn many many⁺ headOf head kind isSome unread complete kindFrom fieldsIn fields flat frameOf groupOf repeatedIn repeated repeated⁺ key channelNames channel channelKinds keysIn bone truth pattern movement orElse channelsOf allKeys keyRows countsOf mosts tooMany totalFault isFrame isZero rises neverFalls framesFault keyFine keysFault patternFine patternsFault movementFault nameNumbers keyRanges boneRow boneRows layoutOf ruled shaped checked movementOutcome fitted movementAnswer laid movementTable
+worked = (refl, refl, refl)
+
+-- ---- the lists' mosts, and the total's range
+
+pub most-rows : map (λ ns. tooMany 0 ns mosts) ((128 ∷ 4096 ∷ 256 ∷ []) ∷ (129 ∷ 4097 ∷ 257 ∷ []) ∷ (128 ∷ 4097 ∷ 257 ∷ []) ∷ (128 ∷ 4096 ∷ 257 ∷ []) ∷ []) ≡ clear ∷ fault 8 0 ∷ fault 8 1 ∷ fault 8 2 ∷ []
+unfolding tooMany mosts
+most-rows = refl
+
+pub total-range : map totalFault (pos 1 ∷ pos 32767 ∷ pos 0 ∷ negsuc 0 ∷ pos 32768 ∷ []) ≡ clear ∷ clear ∷ fault 14 0 ∷ fault 14 0 ∷ fault 14 0 ∷ []
+unfolding totalFault
+total-range = refl

@@ -1,0 +1,28 @@
+-- A movement's numbers in document 01's columns, lists without gaps.
+use mathlib.Core.List.{List, [], _∷_, _++_}
+use Prim.Native.Nat.{ℕ, _+_}
+use lib.ListN.{length}
+use lib.IntN.{ℤ, pos}
+use Rattle.chunks.specs.Readers.{Name}
+use Rattle.chunks.specs.Into.{flat}
+use Rattle.tra4_text.specs.Movement.{Channel, Bone, Movement}
+use Rattle.tra4_text.specs.Rules.{allKeys, keyRows}
+
+-- place and length
+unfoldable pub nameNumbers : Name → List ℤ
+nameNumbers n = pos (n .at) ∷ pos (length (n .bytes)) ∷ []
+
+-- each channel's first key row and key count, where the first of them begins at a key row
+unfoldable pub keyRanges : ℕ → List Channel → List ℤ
+keyRanges row [] = []
+keyRanges row (c ∷ cs) = pos row ∷ pos (length c) ∷ keyRanges (row + length c) cs
+
+unfoldable pub boneRow : ℕ → Bone → List ℤ
+boneRow row b = nameNumbers (b .name) ++ keyRanges row (b .channels)
+
+unfoldable pub boneRows : ℕ → List Bone → List (List ℤ)
+boneRows row [] = []
+boneRows row (b ∷ bs) = boneRow row b ∷ boneRows (row + length (allKeys (b .channels))) bs
+
+unfoldable pub layoutOf : Movement → List ℤ
+layoutOf m = (m .totalFrames ∷ nameNumbers (m .name)) ++ flat (boneRows 0 (m .bones)) ++ flat (keyRows m) ++ flat (m .patterns)

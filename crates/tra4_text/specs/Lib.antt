@@ -1,0 +1,5 @@
+pub mod Movement
+pub mod Grammar
+pub mod Rules
+pub mod Layout
+pub mod Answer

@@ -1,0 +1,1 @@
+// The specification of movements: definitions and no code.
