@@ -9,7 +9,7 @@ use Rattle.lexer.specs.Bytes.{bytes, isBlank, between, isLetter, classOf, inLin
 use Rattle.lexer.specs.Tokens.{lexeme, tokens, lex, isKeyword}
 use Rattle.lexer.specs.Numbers.{decimalFrom, decimal, signed, notEmpty, allDigits, intMost, intOf, millionths, floatOf, numberFrom, afterDigits, unsigned, negative, magnitude, numberOf}
 use Rattle.lexer.specs.Faults.{clear, fault, faultIn, markOf, blankOrEnd, begins, marked, textFault}
-use Rattle.chunks.specs.Readers.{after, _>>=_, _>>_, pure, stop, tokenOf, rest, isOpening, isClosing, isEnd, take-if, open-bracket, close-bracket, wordOf, text-end, openedOf, opened, closed, numberIn, numberAt, number, numbers, versionAt, version, absent, nameAt, string, oneFrom, oneOf, starts, optional, trailing, manyIn, many, many⁺, headOf, head}
+use Rattle.chunks.specs.Readers.{rowOf, cells, after, _>>=_, _>>_, pure, stop, tokenOf, rest, isOpening, isClosing, isEnd, take-if, open-bracket, close-bracket, wordOf, text-end, openedOf, opened, closed, numberIn, numberAt, number, numbers, versionAt, version, absent, nameAt, string, oneFrom, oneOf, starts, optional, trailing, manyIn, many, many⁺, headOf, head}
 use Rattle.chunks.specs.Fields.{kind, isSome, unread, complete, kindFrom, fieldsIn, fields}
 use Rattle.chunks.specs.Into.{flat}
 use Rattle.tra4_text.specs.Movement.{frameOf, groupOf}
@@ -86,15 +86,15 @@ cases =
     ∷ []
 
 pub worked : (movementTable walk (replicate 101 (pos 9)) ≡ walked ++ (pos 9 ∷ [])) × (movementAnswer walk 99 ≡ rejected 17 100) × (map (λ c. reply (movementAnswer (front ++ bytes (c .0)) 100)) cases ≡ map (λ c. c .1) cases)
-unfolding bytes isBlank between isLetter classOf inLine inString isDigit isContent run same lexeme tokens lex isKeyword decimalFrom decimal signed notEmpty allDigits intMost intOf millionths floatOf numberFrom afterDigits unsigned negative magnitude numberOf faultIn markOf blankOrEnd begins marked textFault after _>>=_ _>>_ pure stop tokenOf rest isOpening isClosing isEnd take-if open-bracket close-bracket wordOf text-end openedOf opened closed numberIn numberAt number numbers versionAt version absent nameAt string oneFrom oneOf starts optional trailing manyIn many many⁺ headOf head kind isSome unread complete kindFrom fieldsIn fields flat frameOf groupOf repeatedIn repeated repeated⁺ key channelNames channel channelKinds keysIn bone truth pattern movement orElse channelsOf allKeys keyRows countsOf mosts tooMany totalFault isFrame isZero rises neverFalls framesFault keyFine keysFault patternFine patternsFault movementFault nameNumbers keyRanges boneRow boneRows layoutOf ruled shaped checked movementOutcome fitted movementAnswer laid movementTable
+unfolding rowOf cells bytes isBlank between isLetter classOf inLine inString isDigit isContent run same lexeme tokens lex isKeyword decimalFrom decimal signed notEmpty allDigits intMost intOf millionths floatOf numberFrom afterDigits unsigned negative magnitude numberOf faultIn markOf blankOrEnd begins marked textFault after _>>=_ _>>_ pure stop tokenOf rest isOpening isClosing isEnd take-if open-bracket close-bracket wordOf text-end openedOf opened closed numberIn numberAt number numbers versionAt version absent nameAt string oneFrom oneOf starts optional trailing manyIn many many⁺ headOf head kind isSome unread complete kindFrom fieldsIn fields flat frameOf groupOf repeatedIn repeated repeated⁺ key channelNames channel channelKinds keysIn bone truth pattern movement orElse channelsOf allKeys keyRows countsOf mosts tooMany totalFault isFrame isZero rises neverFalls framesFault keyFine keysFault patternFine patternsFault movementFault nameNumbers keyRanges boneRow boneRows layoutOf ruled shaped checked movementOutcome fitted movementAnswer laid movementTable
 worked = (refl, refl, refl)
 
 -- ---- the lists' mosts, and the total's range
 
 pub most-rows : map (λ ns. tooMany 0 ns mosts) ((128 ∷ 4096 ∷ 256 ∷ []) ∷ (129 ∷ 4097 ∷ 257 ∷ []) ∷ (128 ∷ 4097 ∷ 257 ∷ []) ∷ (128 ∷ 4096 ∷ 257 ∷ []) ∷ []) ≡ clear ∷ fault 8 0 ∷ fault 8 1 ∷ fault 8 2 ∷ []
-unfolding tooMany mosts
+unfolding rowOf cells tooMany mosts
 most-rows = refl
 
 pub total-range : map totalFault (pos 1 ∷ pos 32767 ∷ pos 0 ∷ negsuc 0 ∷ pos 32768 ∷ []) ≡ clear ∷ clear ∷ fault 14 0 ∷ fault 14 0 ∷ fault 14 0 ∷ []
-unfolding totalFault
+unfolding rowOf cells totalFault
 total-range = refl

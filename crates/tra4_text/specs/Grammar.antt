@@ -8,7 +8,7 @@ use lib.IntN.{ℤ, pos}
 use lib.ListN.{length}
 use Rattle.lexer.specs.Bytes.{bytes}
 use Rattle.lexer.specs.Numbers.{INT, FLOAT}
-use Rattle.chunks.specs.Readers.{Reader, got, absent, _>>=_, _>>_, pure, rest, close-bracket, opened, closed, number, numbers, string, oneOf, starts, optional, trailing, many, many⁺, head, text-end}
+use Rattle.chunks.specs.Readers.{Reader, got, absent, _>>=_, _>>_, pure, rest, close-bracket, opened, closed, number, numbers, string, oneOf, starts, optional, trailing, many, many⁺, head, text-end, rowOf}
 use Rattle.chunks.specs.Fields.{Kind, kind, fields}
 use Rattle.tra4_text.specs.Movement.{Key, Channel, Pattern, Bone, Movement}
 
@@ -28,7 +28,7 @@ unfoldable pub repeated⁺ : {A : Type 0} → String → Reader A → Reader (Li
 repeated⁺ k r = opened k >> r >>= λ a. repeated k r >>= λ l. pure (a ∷ l)
 
 unfoldable pub key : Reader Key
-key = opened "kf" >> closed (numbers INT 1 >>= λ a. numbers FLOAT 1 >>= λ b. pure (a ++ b))
+key = rowOf (bytes "kf") 1 FLOAT 1
 
 -- the channels by number
 unfoldable pub channelNames : List String

@@ -1,0 +1,52 @@
+-- What the code keeps of a movement's bones: how many there are, their rows, and their keys by bone and channel number.
+use mathlib.Core.List.{List}
+use mathlib.Core.Bool.{Bool, true, false}
+use mathlib.Core.Option.{Option, none, some}
+use Prim.Native.Nat.{ℕ, _+_, _*_}
+use lib.Dec.{leb}
+use lib.IntN.{ℤ}
+use lib.ListN.{length}
+use Rattle.chunks.specs.Readers.{Reader, _>>=_, pure}
+use Rattle.chunks.specs.Cursors.{overlayAt}
+use Rattle.chunks.specs.Into.{flat}
+use Rattle.chunks.specs.Folds.{fold}
+use Rattle.tra4_text.specs.Movement.{Bone}
+use Rattle.tra4_text.specs.Grammar.{repeated, repeated⁺, bone}
+use Rattle.tra4_text.specs.Rules.{allKeys}
+use Rattle.tra4_text.specs.Layout.{boneRow}
+
+-- the rows of bones in their table, how many keys they have, and those in theirs; none where there are more keys than 4,096, and then the tables are free
+abbrev pub Kept : Type 0
+Kept = Option (List ℤ × ℕ × List ℤ)
+
+-- the same as the code holds it
+unfoldable pub kept : Bool → List ℤ → ℕ → List ℤ → Kept
+kept true rows n keys = none
+kept false rows n keys = some (rows, n, keys)
+
+unfoldable pub keyCount : Bone → ℕ
+keyCount b = length (allKeys (b .channels))
+
+-- a bone more, in row i
+unfoldable pub boneKept : ℕ → Kept → Bone → Kept
+boneKept i none b = none
+boneKept i (some s) b =
+    elim (leb (s .1 + keyCount b) 4096) [
+      | true ↦ some (overlayAt (i * 22) (boneRow (s .1) b) (s .0), s .1 + keyCount b, overlayAt (s .1 * 2) (flat (allKeys (b .channels))) (s .2))
+      | false ↦ none
+    ]
+
+unfoldable pub boneStep : ℕ × Kept → Bone → ℕ × Kept
+boneStep s b = (s .0 + 1, boneKept (s .0) (s .1) b)
+
+-- one bone after its keyword, in row i
+unfoldable pub boneInto : ℕ → Kept → Reader Kept
+boneInto i s = bone >>= λ b. pure (boneKept i s b)
+
+-- the bones after some
+unfoldable pub moreInto : ℕ × Kept → Reader (ℕ × Kept)
+moreInto s = repeated "bone" bone >>= λ bs. pure (fold boneStep s bs)
+
+-- one bone or more
+unfoldable pub bonesInto : List ℤ → List ℤ → Reader (ℕ × Kept)
+bonesInto rows keys = repeated⁺ "bone" bone >>= λ bs. pure (fold boneStep (0, some (rows, 0, keys)) bs)

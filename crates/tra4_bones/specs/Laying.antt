@@ -1,0 +1,35 @@
+-- Keys laid by channel number: what a table of ranges says of a table of keys.
+use mathlib.Core.Path.{_≡_}
+use mathlib.Core.List.{List, [], _∷_, _++_}
+use Prim.Native.Nat.{ℕ, _+_, _*_, _≤_}
+use lib.IntN.{ℤ, pos, negsuc}
+use lib.ListN.{length, take, drop}
+
+-- a range's numbers, first row and count; none is negative
+unfoldable pub magnitude : ℤ → ℕ
+magnitude (pos n) = n
+magnitude (negsuc n) = 0
+
+-- the rows of two numbers that some ranges name, range by range
+unfoldable pub gathered : List ℤ → List ℤ → List ℤ
+gathered [] keys = []
+gathered (f ∷ []) keys = []
+gathered (f ∷ c ∷ ranges) keys = take (magnitude c * 2) (drop (magnitude f * 2) keys) ++ gathered ranges keys
+
+-- how many they are
+unfoldable pub rangesTotal : List ℤ → ℕ
+rangesTotal [] = 0
+rangesTotal (f ∷ []) = 0
+rangesTotal (f ∷ c ∷ ranges) = magnitude c + rangesTotal ranges
+
+-- the ranges of those rows where they are laid one after the other from a row on
+unfoldable pub renumbered : ℕ → List ℤ → List ℤ
+renumbered row [] = []
+renumbered row (f ∷ []) = f ∷ []
+renumbered row (f ∷ c ∷ ranges) = pos row ∷ c ∷ renumbered (row + magnitude c) ranges
+
+-- every range lies within the first n rows
+unfoldable pub Within : ℕ → List ℤ → Type 0
+Within n [] = Unit {0}
+Within n (f ∷ []) = Unit {0}
+Within n (f ∷ c ∷ ranges) = (f ≡ pos (magnitude f)) × (c ≡ pos (magnitude c)) × (magnitude f + magnitude c ≤ n) × Within n ranges

@@ -1,0 +1,1 @@
+// The bones of a movement, their keys laid by channel number.
