@@ -27,19 +27,19 @@ kept false rows n keys = some (rows, n, keys)
 unfoldable pub keyCount : Bone → ℕ
 keyCount b = length (allKeys (b .channels))
 
--- a bone more, in row i
+-- a bone more, its row from index i on
 unfoldable pub boneKept : ℕ → Kept → Bone → Kept
 boneKept i none b = none
 boneKept i (some s) b =
     elim (leb (s .1 + keyCount b) 4096) [
-      | true ↦ some (overlayAt (i * 22) (boneRow (s .1) b) (s .0), s .1 + keyCount b, overlayAt (s .1 * 2) (flat (allKeys (b .channels))) (s .2))
+      | true ↦ some (overlayAt i (boneRow (s .1) b) (s .0), s .1 + keyCount b, overlayAt (s .1 * 2) (flat (allKeys (b .channels))) (s .2))
       | false ↦ none
     ]
 
 unfoldable pub boneStep : ℕ × Kept → Bone → ℕ × Kept
-boneStep s b = (s .0 + 1, boneKept (s .0) (s .1) b)
+boneStep s b = (s .0 + 1, boneKept (s .0 * 22) (s .1) b)
 
--- one bone after its keyword, in row i
+-- one bone after its keyword
 unfoldable pub boneInto : ℕ → Kept → Reader Kept
 boneInto i s = bone >>= λ b. pure (boneKept i s b)
 

@@ -1,1 +1,6 @@
 // The bones of a movement, their keys laid by channel number.
+mod bone;
+mod list;
+
+pub use list::Boned;
+pub use list::bones;

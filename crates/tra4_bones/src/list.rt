@@ -1,0 +1,99 @@
+// The bones of a movement: one or more, their rows and their keys.
+ghost use mathlib.Core.Path.{_≡_};
+ghost use Prim.Native.Nat.{_+_, _*_, _^_, _<_, _≤_, min};
+ghost use lib.ListN.{length};
+ghost use Rattle.chunks.specs.Cursors.{reads, from};
+ghost use Rattle.chunks.specs.Folds.{stepped};
+ghost use Rattle.tra4_text.specs.Grammar.{bone as boneRead};
+ghost use Rattle.tra4_bones.specs.Into.{kept, boneStep, moreInto, bonesInto};
+use crate::bone::bone_tail;
+use chunks::Cursor;
+
+// How many bones were read, how many keys they have, whether those are more than 4,096, and a cursor past the bones; where there are
+// too many keys, how many is free, and where the cursor has refused, all but the cursor is.
+pub struct Boned {
+    pub cursor: Cursor,
+    pub count: usize,
+    pub keys: usize,
+    pub over: bool,
+}
+
+// One bone after its keyword, in row `count`: to the table from index `to` on, which is as good as that row's.
+fn next_bone(
+    text: &[u8],
+    c: Cursor,
+    count: usize,
+    bone_rows: &mut [i64],
+    to: usize,
+    key_rows: &mut [i64],
+    keys: usize,
+    over: bool,
+    scratch: &mut [i64],
+) -> Boned
+    requires { ⌜ (min to (length (now «bone_rows»)) ≡ min (count * 22) (length (now «bone_rows»))) × (count < 2 ^ 63) × (keys ≤ 4096) × (length (now scratch) ≡ 8192) ⌝ }
+    ensures { λ r. ⌜ reads (now (text .entry)) (r .cursor) (r .count, kept (r .over) (now («bone_rows» .exit)) (r .keys) (now («key_rows» .exit))) ≡ from (now (text .entry)) c (stepped boneStep boneRead (count, kept over (now («bone_rows» .entry)) keys (now («key_rows» .entry)))) ⌝ }
+    ensures { λ r. ⌜ (r .count ≡ count + 1) × (r .keys ≤ 4096) ⌝ }
+{
+    let b = bone_tail(text, c, bone_rows, to, key_rows, keys, over, scratch);
+    let d = b.cursor;
+    Boned {
+        cursor: d,
+        count: count + 1,
+        keys: b.keys,
+        over: b.over,
+    }
+}
+
+// The bones after the first.
+fn more_bones(
+    text: &[u8],
+    first: Boned,
+    bone_rows: &mut [i64],
+    key_rows: &mut [i64],
+    scratch: &mut [i64],
+) -> Boned
+    requires { ⌜ (first .count ≡ 1) × (first .keys ≤ 4096) × (length (now scratch) ≡ 8192) ⌝ }
+    ensures { λ r. ⌜ reads (now (text .entry)) (r .cursor) (r .count, kept (r .over) (now («bone_rows» .exit)) (r .keys) (now («key_rows» .exit))) ≡ from (now (text .entry)) (first .cursor) (moreInto (first .count, kept (first .over) (now («bone_rows» .entry)) (first .keys) (now («key_rows» .entry)))) ⌝ }
+{
+    let mut d = first.cursor;
+    let mut count = first.count;
+    let mut keys = first.keys;
+    let mut over = first.over;
+    let mut i = 22;
+    loop {
+        let s = chunks::optional(text, d, b"bone");
+        let start = s.cursor;
+        let so_far = Boned {
+            cursor: start,
+            count,
+            keys,
+            over,
+        };
+        if !s.present {
+            return so_far;
+        }
+        if start.refusal != 0 {
+            return so_far;
+        }
+        let b = next_bone(text, start, count, bone_rows, i, key_rows, keys, over, scratch);
+        d = b.cursor;
+        if d.refusal != 0 {
+            return b;
+        }
+        count = b.count;
+        keys = b.keys;
+        over = b.over;
+        i = chunks::advance(i, 22, bone_rows.len());
+    }
+}
+
+// One bone or more: their rows to their table, and their keys to theirs, by bone and channel number; numbers past a table's end are
+// dropped. Where the cursor has refused or there are too many keys, what both hold is free.
+pub fn bones(text: &[u8], c: Cursor, bone_rows: &mut [i64], key_rows: &mut [i64]) -> Boned
+    ensures { λ r. ⌜ reads (now (text .entry)) (r .cursor) (r .count, kept (r .over) (now («bone_rows» .exit)) (r .keys) (now («key_rows» .exit))) ≡ from (now (text .entry)) c (bonesInto (now («bone_rows» .entry)) (now («key_rows» .entry))) ⌝ }
+{
+    let mut scratch = [0i64; 8192];
+    let start = chunks::opened(text, c, b"bone");
+    let first = next_bone(text, start, 0, bone_rows, 0, key_rows, 0, false, &mut scratch);
+    more_bones(text, first, bone_rows, key_rows, &mut scratch)
+}
