@@ -18,6 +18,7 @@ use Rattle.chunks.specs.Places.{placeOf, optionalName}
 use Rattle.chunks.specs.Branches.{startOf}
 use Rattle.chunks.specs.Into.{flat, rowsInto}
 use Rattle.chunks.specs.Folds.{fold, folded, stepped, rowStep}
+use Rattle.chunks.proofs.Folds.{fold-rows}
 use Rattle.chunks.specs.Cursors.{overlayAt}
 use Rattle.chunks.proofs.Binds.{after-after, after-same, after-when, then-same}
 use Rattle.chunks.proofs.Given.{Gives, Every, pure-gives, bind-gives, then-gives, many-gives}
@@ -38,19 +39,6 @@ section-same k w f n t ms = go (starts (bytes k) ms) refl
     go : (v : Bool) → starts (bytes k) ms ≡ v → (optional k [] (many (row w f n)) >>= λ rs. pure (laidRows t rs)) ms ≡ sectionInto (bytes k) (bytes w) f n t ms
     go true p = rw (p, optional, startOf)
     go false p = rw (p, optional, startOf, overlayAt-none 0 t)
-
--- ---- rows of one width, one after the other
-
-no-rows : (w n : ℕ) (t : List ℤ) → _≡_ {A = ℕ × List ℤ} (n, t) (n + 0, overlayAt (n * w) [] t)
-no-rows w n t = let z : n + 0 ≡ n = omega arith in rw (overlayAt-none (n * w) t, z)
-
-pub fold-rows : (w n : ℕ) (t : List ℤ) (rs : List (List ℤ)) → Every (λ r. length r ≡ w) rs → fold (rowStep w) (n, t) rs ≡ (n + length rs, overlayAt (n * w) (flat rs) t)
-unfolding fold rowStep flat
-fold-rows w n t [] h = no-rows w n t
-fold-rows w n t (r ∷ rs) h =
-    let e : n * w + length r ≡ (n + 1) * w = omega (arith, h .0) in
-    let c : n + 1 + length rs ≡ n + suc (length rs) = omega arith in
-    fold-rows w (n + 1) (overlayAt (n * w) r t) rs (h .1) ∙ rw (c, overlayAt-append (n * w) r (flat rs) t, e)
 
 -- ---- materials
 

@@ -1,8 +1,9 @@
 -- A list worked off item by item: each turn of a loop is one choice of a bracket and one item.
 use mathlib.Core.Path.{_≡_, refl, ap, sym, _∙_}
 use mathlib.Core.List.{List, [], _∷_}
+use native.Mathlib.Omega.{arith}
 use mathlib.Core.Bool.{Bool, true, false}
-use Prim.Native.Nat.{ℕ, _+_, _*_, _<_, min}
+use Prim.Native.Nat.{ℕ, suc, _+_, _*_, _<_, min}
 use lib.IntN.{ℤ}
 use lib.ListN.{length}
 use Rattle.lexer.specs.Tokens.{Lexeme, lexAt}
@@ -14,7 +15,9 @@ use Rattle.chunks.specs.Folds.{fold, folded, stepped, rowStep}
 use Rattle.chunks.proofs.Steps.{join, seq, from-same, from-bind, after-reads}
 use Rattle.chunks.proofs.Binds.{after-after, after-same, then-bind}
 use Rattle.chunks.proofs.Many.{Takes, Keeps, pure-keeps, bind-keeps, then-takes}
-use Rattle.chunks.proofs.Tables.{overlayAt-same}
+use Rattle.chunks.proofs.Tables.{overlayAt-none, overlayAt-append, overlayAt-same}
+use Rattle.chunks.specs.Into.{flat}
+use Rattle.chunks.proofs.Given.{Every}
 use Rattle.chunks.proofs.Counts.{falls}
 use Rattle.chunks.proofs.Branches.{items-end, items-more, item-takes}
 
@@ -60,6 +63,19 @@ row-stepped u w n i t t′ text d e h q =
   where
     same : (ms : List Lexeme) → (u >>= (λ row. pure (overlayAt i row t)) >>= λ (y : List ℤ). pure (n + 1, y)) ms ≡ stepped (rowStep w) u (n, t) ms
     same ms = row-same u w n i t ms h
+
+-- all of them
+
+no-rows : (w n : ℕ) (t : List ℤ) → _≡_ {A = ℕ × List ℤ} (n, t) (n + 0, overlayAt (n * w) [] t)
+no-rows w n t = let z : n + 0 ≡ n = omega arith in rw (overlayAt-none (n * w) t, z)
+
+pub fold-rows : (w n : ℕ) (t : List ℤ) (rs : List (List ℤ)) → Every (λ r. length r ≡ w) rs → fold (rowStep w) (n, t) rs ≡ (n + length rs, overlayAt (n * w) (flat rs) t)
+unfolding fold rowStep flat
+fold-rows w n t [] h = no-rows w n t
+fold-rows w n t (r ∷ rs) h =
+    let e : n * w + length r ≡ (n + 1) * w = omega (arith, h .0) in
+    let c : n + 1 + length rs ≡ n + suc (length rs) = omega arith in
+    fold-rows w (n + 1) (overlayAt (n * w) r t) rs (h .1) ∙ rw (c, overlayAt-append (n * w) r (flat rs) t, e)
 
 -- ---- one item or more
 

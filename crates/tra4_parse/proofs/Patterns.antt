@@ -1,0 +1,124 @@
+-- Pattern lines: a line is its numbers and its flag, one after the other in a row, and the lines are the list's.
+use mathlib.Core.Path.{_≡_, refl, ap, sym, _∙_}
+use mathlib.Core.List.{List, [], _∷_, _++_}
+use mathlib.Core.Bool.{Bool, true, false}
+use Prim.Native.Nat.{ℕ, suc, _+_, _*_, min}
+use Prim.Native.String.{String}
+use native.Mathlib.Nat.{zero-add}
+use native.Mathlib.Omega.{arith}
+use lib.IntN.{ℤ, pos}
+use lib.ListN.{length, length-append}
+use Rattle.lexer.specs.Bytes.{bytes, inWord}
+use Rattle.lexer.specs.Numbers.{INT}
+use Rattle.lexer.specs.Tokens.{Lexeme}
+use Rattle.chunks.specs.declared.cursor.Cursor.{Cursor}
+use Rattle.chunks.specs.Readers.{Got, got, Reader, after, _>>=_, _>>_, pure, open-bracket, close-bracket, wordOf, openedOf, opened, closed, numbers, oneOf, trailing, many}
+use Rattle.chunks.specs.Words.{words, onto, wordIn}
+use Rattle.chunks.specs.Branches.{lastOf}
+use Rattle.chunks.specs.Cursors.{from, reads, overlayAt}
+use Rattle.chunks.specs.Into.{flat, numbersInto}
+use Rattle.chunks.specs.Folds.{fold, folded, rowStep}
+use Rattle.chunks.proofs.Steps.{join, seq, from-same}
+use Rattle.chunks.proofs.Binds.{after-after, after-same, after-when, then-assoc}
+use Rattle.chunks.proofs.Branches.{trailing-yes, trailing-no, trailing-map}
+use Rattle.chunks.proofs.Vocabulary.{wordList, one-word}
+use Rattle.chunks.proofs.Tables.{overlayAt-none, overlayAt-append, overlayAt-same}
+use Rattle.chunks.proofs.Folds.{fold-rows}
+use Rattle.chunks.proofs.Given.{Gives, Every, pure-gives, bind-gives, then-gives, closed-gives, numbers-give, many-gives, trailing-gives}
+use Rattle.chunks.proofs.Many.{Keeps, Takes, takes-keeps, pure-keeps, bind-keeps, then-keeps, then-takes, word-takes, opened-takes, closed-keeps, numbers-keeps, one-of-takes}
+use Rattle.tra4_text.specs.Movement.{Pattern}
+use Rattle.tra4_text.specs.Grammar.{truth, pattern}
+use Rattle.tra4_parse.specs.Patterns.{patternTail, patternInto, patternsInto}
+
+-- ---- a line begins with (, takes tokens, and is three numbers
+
+pub pattern-opens : (ms : List Lexeme) → pattern ms ≡ (open-bracket >> patternTail) ms
+unfolding pattern patternTail opened openedOf
+pattern-opens ms = then-assoc open-bracket (wordOf (bytes "kgf")) _ ms
+
+truth-keeps : Keeps truth
+unfolding truth
+truth-keeps = bind-keeps (takes-keeps (one-of-takes ("false" ∷ "true" ∷ []))) (λ n. pure-keeps (pos n))
+
+inside-keeps : Keeps (closed (numbers INT 2 >>= λ zs. truth >>= λ z. pure (zs ++ (z ∷ []))))
+inside-keeps = closed-keeps (bind-keeps (numbers-keeps INT 2) (λ zs. bind-keeps truth-keeps (λ z. pure-keeps (zs ++ (z ∷ [])))))
+
+pub pattern-keeps : Keeps patternTail
+unfolding patternTail
+pattern-keeps = then-keeps (takes-keeps (word-takes (bytes "kgf"))) inside-keeps
+
+pub pattern-takes : Takes pattern
+unfolding pattern
+pattern-takes = then-takes (opened-takes "kgf") inside-keeps
+
+three : (zs : List ℤ) (z : ℤ) → length zs ≡ 2 → length (zs ++ (z ∷ [])) ≡ 3
+three zs z h = length-append zs (z ∷ []) ∙ omega (arith, h)
+
+pub pattern-wide : Gives (λ r. length r ≡ 3) pattern
+unfolding pattern
+pattern-wide =
+    let P : Pattern → Type 0 = λ r. length r ≡ 3 in
+    then-gives P (opened "kgf") (closed-gives P (bind-gives (λ zs. length zs ≡ 2) P (numbers-give INT 2) (λ zs h. bind-gives (λ _. Unit {0}) P {r = truth} (λ _ _ _ _. tt) (λ z _. pure-gives P (zs ++ (z ∷ [])) (three zs z h)))))
+
+-- ---- a line, number by number
+
+truth-word : (ms : List Lexeme) → truth ms ≡ wordIn (bytes "false true") 2 ms
+unfolding truth words onto inWord bytes wordList
+truth-word ms = one-word ("false" ∷ "true" ∷ []) (bytes "false true") ms refl
+
+module _ (at : ℕ) (out : List ℤ) where
+  -- the flag after the two numbers, and )
+  flag-last : List ℤ → ℤ → Reader (List ℤ)
+  flag-last o z = close-bracket >> pure (overlayAt (at + 2) (z ∷ []) o)
+
+  flag-then : List ℤ → Reader (List ℤ)
+  flag-then o = wordIn (bytes "false true") 2 >>= λ z. flag-last o z
+
+  row-steps : (zs : List ℤ) → length zs ≡ 2 → (z : ℤ) → overlayAt at (zs ++ (z ∷ [])) out ≡ overlayAt (at + 2) (z ∷ []) (overlayAt at zs out)
+  row-steps zs h z = overlayAt-append at zs (z ∷ []) out ∙ ap (λ (n : ℕ). overlayAt (at + n) (z ∷ []) (overlayAt at zs out)) h
+
+  pattern-steps : (ms : List Lexeme) → patternInto at out ms ≡ (wordOf (bytes "kgf") >> (numbersInto INT 2 at out >>= λ o. flag-then o)) ms
+  unfolding patternInto patternTail closed numbersInto flag-then flag-last _>>=_ _>>_ pure after
+  pattern-steps ms =
+      after-after (wordOf (bytes "kgf") ms) _ _
+      ∙ after-same (wordOf (bytes "kgf") ms) _ _ (λ _ l.
+      after-after (after (numbers INT 2 l) (λ zs. truth >>= λ z. pure (zs ++ (z ∷ [])))) _ _
+      ∙ after-after (numbers INT 2 l) _ _
+      ∙ after-when (numbers INT 2 l) _ _ (λ zs m e.
+      after-after (truth m) _ _
+      ∙ ap (λ (g : Got ℤ). after g (λ z. close-bracket >> pure (zs ++ (z ∷ [])) >>= λ row. pure (overlayAt at row out))) (truth-word m)
+      ∙ after-same (wordIn (bytes "false true") 2 m) _ _ (λ z n. after-after (close-bracket n) _ _ ∙ after-same (close-bracket n) _ _ (λ _ o. ap (λ (t : List ℤ). got t o) (row-steps zs (numbers-give INT 2 l zs m e) z))))
+      ∙ sym (after-after (numbers INT 2 l) _ _))
+
+  module _ (text : List ℕ) (c d e f r : Cursor) (t t′ : List ℤ) (z : ℤ) (i : ℕ) where
+    pub pattern-read : reads text d tt ≡ from text c (wordOf (bytes "kgf")) → reads text e t ≡ from text d (numbersInto INT 2 at out) → reads text f z ≡ from text e (wordIn (bytes "false true") 2) → min i (length t) ≡ min (at + 2) (length t) → t′ ≡ overlayAt i (z ∷ []) t → reads text r tt ≡ from text f close-bracket → reads text r t′ ≡ from text c (patternInto at out)
+    unfolding flag-then flag-last reads
+    pattern-read p q u h o v =
+        seq text c d r tt t′ (wordOf (bytes "kgf")) (numbersInto INT 2 at out >>= λ x. flag-then x) p
+        (join text d e r t t′ (numbersInto INT 2 at out) (λ x. flag-then x) q
+        (join text e f r z t′ (wordIn (bytes "false true") 2) (λ x. flag-last t x) u
+        (seq text f r r tt t′ close-bracket (pure (overlayAt (at + 2) (z ∷ []) t)) v (ap (λ (x : List ℤ). from text r (pure x)) (o ∙ overlayAt-same i (at + 2) (z ∷ []) t h)))))
+        ∙ sym (from-same text c _ _ pattern-steps)
+
+-- ---- all of them
+
+module _ (table : List ℤ) where
+  lines : List Pattern → ℕ × List ℤ
+  lines ps = (length ps, overlayAt 0 (flat ps) table)
+
+  fold-lines : (ps : List Pattern) → Every (λ r. length r ≡ 3) ps → fold (rowStep 3) (0, table) ps ≡ lines ps
+  unfolding lines
+  fold-lines ps h = fold-rows 3 0 table ps h ∙ rw (zero-add (length ps))
+
+  patterns-fold : (ms : List Lexeme) → trailing "DynamicPolygons" (0, table) (folded (rowStep 3) pattern (0, table)) ms ≡ patternsInto table ms
+  unfolding folded fold patternsInto lines _>>=_ pure
+  patterns-fold ms =
+      sym (trailing-map "DynamicPolygons" [] (many pattern) (λ ps. fold (rowStep 3) (0, table) ps) ms)
+      ∙ after-when (trailing "DynamicPolygons" [] (many pattern) ms) _ _ (λ ps l e. ap (λ (v : ℕ × List ℤ). got v l) (fold-lines ps (trailing-gives (Every (λ r. length r ≡ 3)) "DynamicPolygons" [] tt (many pattern) (many-gives (λ r. length r ≡ 3) pattern pattern-wide) ms ps l e)))
+
+  module _ (text : List ℕ) (c d : Cursor) (v : Bool) (p : reads text d v ≡ from text c (lastOf (bytes "DynamicPolygons"))) where
+    pub patterns-some : v ≡ true → (r : Cursor) (s : ℕ × List ℤ) → reads text r s ≡ from text d (folded (rowStep 3) pattern (0, table)) → reads text r s ≡ from text c (patternsInto table)
+    patterns-some h r s q = trailing-yes "DynamicPolygons" (0, table) (folded (rowStep 3) pattern (0, table)) text c d v p h r s q ∙ from-same text c _ _ patterns-fold
+
+    pub patterns-none : v ≡ false → _≡_ {A = Got (ℕ × List ℤ)} (reads text d (0, table)) (from text c (patternsInto table))
+    patterns-none h = trailing-no "DynamicPolygons" (0, table) (folded (rowStep 3) pattern (0, table)) text c d v p h ∙ from-same text c _ _ patterns-fold

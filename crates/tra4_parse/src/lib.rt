@@ -1,0 +1,2 @@
+// Reads the shape of a movement's text into tables.
+mod pattern;
