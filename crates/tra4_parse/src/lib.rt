@@ -1,2 +1,6 @@
 // Reads the shape of a movement's text into tables.
 mod pattern;
+mod shape;
+
+pub use shape::Parsed;
+pub use shape::parse;

@@ -1,0 +1,1 @@
+// Reads a movement's text.
