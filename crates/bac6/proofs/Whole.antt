@@ -12,7 +12,7 @@ use Rattle.lexer.specs.Bytes.{bytes}
 use Rattle.lexer.specs.Numbers.{Form, INT, FLOAT}
 use Rattle.chunks.specs.Readers.{Reader, Name, absent, _>>=_, _>>_, pure, open-bracket, close-bracket, opened, closed, number, numbers, string, oneOf, optional, trailing, many, many⁺, row, head, text-end}
 use Rattle.chunks.specs.Fields.{Kind, kind, unread, complete, fields, fieldsIn, neededOf}
-use Rattle.chunks.proofs.Given.{Gives, Every, pure-gives, bind-gives, then-gives, closed-gives, numbers-give, row-of-gives, many-gives, some-give, optional-gives, trailing-gives}
+use Rattle.chunks.proofs.Given.{Gives, Every, pure-gives, bind-gives, then-gives, closed-gives, numbers-give, row-gives, many-gives, some-give, optional-gives, trailing-gives}
 use Rattle.chunks.proofs.FieldCounts.{fields-in-length}
 use Rattle.chunks.proofs.FieldFits.{AllGive, Whole, Stands, fields-fit, fields-stand}
 use Rattle.bac6_text.specs.Figure.{Bone, Face, Group, Figure}
@@ -28,10 +28,10 @@ any r ms a l e = tt
 -- ---- faces
 
 corners-whole : (m : ℤ) (k : String) (n : ℕ) → (n ≡ 3) ⊎ (n ≡ 4) → Gives WholeFace (faceOf m k n)
-unfolding faceOf row
+unfolding faceOf
 corners-whole m k n h =
     bind-gives (λ vs. length vs ≡ n) WholeFace (closed-gives (λ vs. length vs ≡ n) (numbers-give INT n)) (λ vs p.
-    bind-gives (λ ts. length ts ≡ n) WholeFace (row-of-gives _ INT n) (λ ts q.
+    bind-gives (λ ts. length ts ≡ n) WholeFace (row-gives k INT n) (λ ts q.
     then-gives WholeFace close-bracket (pure-gives WholeFace _ (record { sizes = h; vertices = p; uvs = q }))))
 
 by-whole : (m : ℤ) (k : ℕ) → Gives WholeFace (faceBy m k)
@@ -104,10 +104,6 @@ pub record WholeFigure (f : Figure) : Type 0 where
   pub uvs : Wide 2 (f .uvs)
   pub polygons : WholeFaces (f .polygons)
   pub groups : Every (λ g. WholeFaces (g .faces)) (f .groups)
-
-row-gives : (k : String) (f : Form) (n : ℕ) → Gives (λ r. length r ≡ n) (row k f n)
-unfolding row
-row-gives k f n = row-of-gives (bytes k) f n
 
 section-gives : (k w : String) (f : Form) (n : ℕ) → Gives (Wide n) (optional k [] (many (row w f n)))
 section-gives k w f n = optional-gives (Wide n) k [] tt (many (row w f n)) (many-gives (λ r. length r ≡ n) (row w f n) (row-gives w f n))

@@ -66,26 +66,26 @@ blank-bits m g n a b h =
 
 module _ (m : ℤ) (k : List ℕ) (n : ℕ) (g : ℤ) (i : ℕ) (table : List ℤ) (small : n ≤ 4) where
   -- the numbers go to the row, and the row to the table
-  corners-parts : (ms : List Lexeme) → (closed (numbersInto INT n 2 (blank m n g)) >>= λ t. closed (rowInto k INT n 6 t) >>= λ u. pure (overlayAt i u table)) ms ≡ cornersInto m k n g i table ms
+  corners-parts : (ms : List Lexeme) → (closed (numbersInto INT n 2 (blank m n g)) >>= λ t. closed (rowInto k 0 INT n 6 t) >>= λ u. pure (overlayAt i u table)) ms ≡ cornersInto m k n g i table ms
   unfolding cornersInto cornersOf numbersInto rowInto _>>=_ _>>_ closed after pure
   corners-parts ms =
-      ap (λ (x : Got (List ℤ)). after x (λ t. closed (rowInto k INT n 6 t) >>= λ u. pure (overlayAt i u table))) (sym (closed-map (numbers INT n) (λ vs. overlayAt 2 vs (blank m n g)) ms))
+      ap (λ (x : Got (List ℤ)). after x (λ t. closed (rowInto k 0 INT n 6 t) >>= λ u. pure (overlayAt i u table))) (sym (closed-map (numbers INT n) (λ vs. overlayAt 2 vs (blank m n g)) ms))
       ∙ after-after (closed (numbers INT n) ms) _ _
       ∙ after-when (closed (numbers INT n) ms) _ _ (λ vs l e. inner vs l (closed-gives (λ x. length x ≡ n) (numbers-give INT n) ms vs l e))
       ∙ sym (after-after (closed (numbers INT n) ms) _ _)
     where
-      inner : (vs : List ℤ) (l : List Lexeme) → length vs ≡ n → (closed (rowInto k INT n 6 (overlayAt 2 vs (blank m n g))) >>= λ u. pure (overlayAt i u table)) l ≡ (rowOf k INT n >>= (λ ts. close-bracket >> pure (record { material = m; size = n; vertices = vs; uvs = ts })) >>= λ f. pure (overlayAt i (faceRow g f) table)) l
+      inner : (vs : List ℤ) (l : List Lexeme) → length vs ≡ n → (closed (rowInto k 0 INT n 6 (overlayAt 2 vs (blank m n g))) >>= λ u. pure (overlayAt i u table)) l ≡ (rowOf k 0 INT n >>= (λ ts. close-bracket >> pure (record { material = m; size = n; vertices = vs; uvs = ts })) >>= λ f. pure (overlayAt i (faceRow g f) table)) l
       inner vs l h =
-          after-after (rowInto k INT n 6 (overlayAt 2 vs (blank m n g)) l) _ _
-          ∙ after-after (rowOf k INT n l) _ _
-          ∙ after-when (rowOf k INT n l) _ _ (λ ts j e. after-after (close-bracket j) _ _ ∙ ap (λ (z : List ℤ). after (close-bracket j) (λ _. pure (overlayAt i z table))) (row-laid m g n vs ts (omega arith) (omega (arith, row-of-gives k INT n l ts j e))) ∙ sym (after-after (close-bracket j) _ _))
-          ∙ sym (after-after (rowOf k INT n l) _ _)
+          after-after (rowInto k 0 INT n 6 (overlayAt 2 vs (blank m n g)) l) _ _
+          ∙ after-after (rowOf k 0 INT n l) _ _
+          ∙ after-when (rowOf k 0 INT n l) _ _ (λ ts j e. after-after (close-bracket j) _ _ ∙ ap (λ (z : List ℤ). after (close-bracket j) (λ _. pure (overlayAt i z table))) (row-laid m g n vs ts (omega arith) (omega (arith, row-of-gives k 0 INT n l ts j e))) ∙ sym (after-after (close-bracket j) _ _))
+          ∙ sym (after-after (rowOf k 0 INT n l) _ _)
 
-  pub corners-joined : (text : List ℕ) (c v d u r : Cursor) (start vs us : List ℤ) → start ≡ blank m n g → reads text v vs ≡ from text c (numbersInto INT n 2 start) → reads text d tt ≡ from text v close-bracket → reads text u us ≡ from text d (rowInto k INT n 6 vs) → reads text r tt ≡ from text u close-bracket → reads text r (overlayAt i us table) ≡ from text c (cornersInto m k n g i table)
+  pub corners-joined : (text : List ℕ) (c v d u r : Cursor) (start vs us : List ℤ) → start ≡ blank m n g → reads text v vs ≡ from text c (numbersInto INT n 2 start) → reads text d tt ≡ from text v close-bracket → reads text u us ≡ from text d (rowInto k 0 INT n 6 vs) → reads text r tt ≡ from text u close-bracket → reads text r (overlayAt i us table) ≡ from text c (cornersInto m k n g i table)
   unfolding reads
   corners-joined text c v d u r start vs us b p q o e =
-      join text c d r vs _ (closed (numbersInto INT n 2 (blank m n g))) (λ t. closed (rowInto k INT n 6 t) >>= λ w. pure (overlayAt i w table)) (closed-at text c v d vs _ (rw b at p) q)
-      (join text d r r us _ (closed (rowInto k INT n 6 vs)) (λ w. pure (overlayAt i w table)) (closed-at text d u r us _ o e) refl)
+      join text c d r vs _ (closed (numbersInto INT n 2 (blank m n g))) (λ t. closed (rowInto k 0 INT n 6 t) >>= λ w. pure (overlayAt i w table)) (closed-at text c v d vs _ (rw b at p) q)
+      (join text d r r us _ (closed (rowInto k 0 INT n 6 vs)) (λ w. pure (overlayAt i w table)) (closed-at text d u r us _ o e) refl)
       ∙ from-same text c _ _ corners-parts
 
 -- ---- a number that is 0, by its bits

@@ -15,7 +15,7 @@ use Rattle.bac6_text.specs.Layout.{faceRow, groupRows, groupNames, nameNumbers}
 -- a face after its first i3 or i4, by that word's bytes
 unfoldable pub cornersOf : ℤ → List ℕ → ℕ → Reader Face
 cornersOf m k n =
-    closed (numbers INT n) >>= λ vs. rowOf k INT n >>= λ ts. close-bracket >> pure (record { material = m; size = n; vertices = vs; uvs = ts })
+    closed (numbers INT n) >>= λ vs. rowOf k 0 INT n >>= λ ts. close-bracket >> pure (record { material = m; size = n; vertices = vs; uvs = ts })
 
 -- its row, to a table from index i on
 unfoldable pub cornersInto : ℤ → List ℕ → ℕ → ℤ → ℕ → List ℤ → Reader (List ℤ)

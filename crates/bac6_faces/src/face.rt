@@ -31,7 +31,7 @@ fn corners(
     let width = size as usize;
     let vertices = chunks::numbers(text, c, Form::Int, width, &mut row, 2);
     let d = chunks::closing(text, vertices);
-    let uvs = chunks::row(text, d, word, Form::Int, width, &mut row, 6);
+    let uvs = chunks::row(text, d, word, 0, Form::Int, width, &mut row, 6);
     chunks::store(out, to, &row);
     chunks::closing(text, uvs)
 }

@@ -75,7 +75,7 @@ points-same : (t : List ℤ) (ms : List Lexeme) → (many⁺ (row "pnt" FLOAT 3)
 unfolding someInto row
 points-same t ms = refl
 
-normals-same : (t : List ℤ) (ms : List Lexeme) → (many (row "vct" FLOAT 3) >>= λ rs. pure (laidRows t rs)) ms ≡ rowsInto (bytes "vct") FLOAT 3 0 t ms
+normals-same : (t : List ℤ) (ms : List Lexeme) → (many (row "vct" FLOAT 3) >>= λ rs. pure (laidRows t rs)) ms ≡ rowsInto (bytes "vct") 0 FLOAT 3 0 t ms
 unfolding rowsInto row laidRows
 normals-same t ms = refl
 
@@ -94,5 +94,5 @@ module _ {A B : Type 0} (t c m p v : List ℤ) (back : Name → List (List ℤ) 
       into-then g h (opened "Materials") _ _ (into-bind g h (many⁺ material) (laidRows m) (materialsInto m) (materials-same m) _ _ (λ mats.
       into-then g h (opened "Vertices") _ _ (into-then g h (opened "coords") _ _
       (into-bind g h (many⁺ (row "pnt" FLOAT 3)) (laidRows p) (someInto (bytes "pnt") FLOAT 3 p) (points-same p) _ _ (λ ps.
-      into-then g h (opened "normals") _ _ (into-bind g h (many (row "vct" FLOAT 3)) (laidRows v) (rowsInto (bytes "vct") FLOAT 3 0 v) (normals-same v) _ _ (λ vs.
+      into-then g h (opened "normals") _ _ (into-bind g h (many (row "vct" FLOAT 3)) (laidRows v) (rowsInto (bytes "vct") 0 FLOAT 3 0 v) (normals-same v) _ _ (λ vs.
       into-then g h close-bracket _ _ (λ ms. e n ts cs mats ps vs ms ∙ into-end (frontValue (placeOf n) (laidRows t ts) (laidRows c cs) (laidRows m mats) (laidRows p ps) (laidRows v vs)) h ms)))))))))))))

@@ -36,7 +36,7 @@ frontInto textures colours materials points normals = do
   opened "coords"
   p ← someInto (bytes "pnt") FLOAT 3 points
   opened "normals"
-  v ← rowsInto (bytes "vct") FLOAT 3 0 normals
+  v ← rowsInto (bytes "vct") 0 FLOAT 3 0 normals
   close-bracket
   pure (frontValue n t c m p v)
 

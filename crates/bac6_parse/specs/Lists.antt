@@ -16,7 +16,7 @@ laidRows table rs = (length rs, overlayAt 0 (flat rs) table)
 
 -- a chunk of rows that may be left out, by its keyword's bytes
 unfoldable pub sectionOf : Bool → List ℕ → Form → ℕ → List ℤ → Reader (ℕ × List ℤ)
-sectionOf true k f w table = rowsInto k f w 0 table
+sectionOf true k f w table = rowsInto k 0 f w 0 table
 sectionOf false k f w table = pure (0, table)
 
 unfoldable pub sectionInto : List ℕ → List ℕ → Form → ℕ → List ℤ → Reader (ℕ × List ℤ)
@@ -24,4 +24,4 @@ sectionInto name k f w table = startOf name >>= λ present. sectionOf present k 
 
 -- one row or more
 unfoldable pub someInto : List ℕ → Form → ℕ → List ℤ → Reader (ℕ × List ℤ)
-someInto k f w table = many⁺ (rowOf k f w) >>= λ rs. pure (laidRows table rs)
+someInto k f w table = many⁺ (rowOf k 0 f w) >>= λ rs. pure (laidRows table rs)

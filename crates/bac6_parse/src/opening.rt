@@ -61,6 +61,7 @@ pub fn read_front(
         text,
         opened(text, placed, b"normals"),
         b"vct",
+        0,
         Form::Float,
         3,
         normal_rows,

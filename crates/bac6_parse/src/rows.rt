@@ -22,7 +22,7 @@ pub fn section(
     let s = chunks::optional(text, c, name);
     let d = s.cursor;
     if s.present {
-        return chunks::rows(text, d, word, form, width, out, 0);
+        return chunks::rows(text, d, word, 0, form, width, out, 0);
     }
     Counted {
         cursor: d,
@@ -41,8 +41,8 @@ pub(crate) fn some_rows(
 ) -> Counted
     ensures { λ r. ⌜ reads (now (text .entry)) (r .cursor) (r .count, now (out .exit)) ≡ from (now (text .entry)) c (someInto (now (word .entry)) (formNamed form) width (now (out .entry))) ⌝ }
 {
-    let first = chunks::row(text, c, word, form, width, out, 0);
-    let more = chunks::rows(text, first, word, form, width, out, width);
+    let first = chunks::row(text, c, word, 0, form, width, out, 0);
+    let more = chunks::rows(text, first, word, 0, form, width, out, width);
     let d = more.cursor;
     if d.refusal != 0 {
         return more;

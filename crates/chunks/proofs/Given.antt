@@ -1,14 +1,15 @@
 -- What holds of each value that a reader gives.
 use mathlib.Core.Path.{_≡_, refl, ap, sym, _∙_}
-use mathlib.Core.List.{List, [], _∷_}
+use mathlib.Core.List.{List, [], _∷_, _++_}
 use mathlib.Core.Bool.{Bool, true, false}
-use Prim.Native.Nat.{ℕ, zero, suc}
+use Prim.Native.Nat.{ℕ, zero, suc, _+_}
 use Prim.Native.String.{String}
-use lib.ListN.{length}
+use native.Mathlib.Nat.{zero-add}
+use lib.ListN.{length, length-append}
 use Rattle.lexer.specs.Bytes.{bytes}
 use Rattle.lexer.specs.Tokens.{Lexeme}
-use Rattle.lexer.specs.Numbers.{Form}
-use Rattle.chunks.specs.Readers.{Got, got, refused, Reader, after, _>>=_, _>>_, pure, stop, tokenOf, rest, isClosing, close-bracket, closed, numbers, openedOf, rowOf, manyIn, many, many⁺, starts, isOpening, opened, optional, trailing}
+use Rattle.lexer.specs.Numbers.{Form, INT}
+use Rattle.chunks.specs.Readers.{Got, got, refused, Reader, after, _>>=_, _>>_, pure, stop, tokenOf, rest, isClosing, close-bracket, closed, numbers, cells, openedOf, rowOf, row, manyIn, many, many⁺, starts, isOpening, opened, optional, trailing}
 use Rattle.chunks.proofs.Many.{not-got, stop-not, many-in-end, many-in-more}
 
 abbrev pub Gives : {A : Type 0} → (A → Type 0) → Reader A → Type 0
@@ -42,9 +43,17 @@ unfolding numbers
 numbers-give f zero = pure-gives (λ zs. length zs ≡ 0) [] refl
 numbers-give f (suc n) = bind-gives (λ _. Unit {0}) (λ zs. length zs ≡ suc n) (λ _ _ _ _. tt) (λ z _. bind-gives (λ zs. length zs ≡ n) (λ zs. length zs ≡ suc n) (numbers-give f n) (λ zs h. pure-gives (λ xs. length xs ≡ suc n) (z ∷ zs) (ap suc h)))
 
-pub row-of-gives : (k : List ℕ) (f : Form) (n : ℕ) → Gives (λ zs. length zs ≡ n) (rowOf k f n)
+pub cells-give : (lead : ℕ) (f : Form) (n : ℕ) → Gives (λ zs. length zs ≡ lead + n) (cells lead f n)
+unfolding cells
+cells-give lead f n = bind-gives (λ zs. length zs ≡ lead) (λ zs. length zs ≡ lead + n) (numbers-give INT lead) (λ a p. bind-gives (λ zs. length zs ≡ n) (λ zs. length zs ≡ lead + n) (numbers-give f n) (λ b q. pure-gives (λ zs. length zs ≡ lead + n) (a ++ b) (length-append a b ∙ rw (p, q))))
+
+pub row-of-gives : (k : List ℕ) (lead : ℕ) (f : Form) (n : ℕ) → Gives (λ zs. length zs ≡ lead + n) (rowOf k lead f n)
 unfolding rowOf
-row-of-gives k f n = then-gives (λ zs. length zs ≡ n) (openedOf k) (closed-gives (λ zs. length zs ≡ n) (numbers-give f n))
+row-of-gives k lead f n = then-gives (λ zs. length zs ≡ lead + n) (openedOf k) (closed-gives (λ zs. length zs ≡ lead + n) (cells-give lead f n))
+
+pub row-gives : (k : String) (f : Form) (n : ℕ) → Gives (λ zs. length zs ≡ n) (row k f n)
+unfolding row
+row-gives k f n = rw zero-add at (row-of-gives (bytes k) 0 f n)
 
 -- ---- lists
 

@@ -1,6 +1,6 @@
 -- Readers that take a token, and so the law of `many`: turns enough are always there.
 use mathlib.Core.Path.{_≡_, refl, ap, sym, _∙_}
-use mathlib.Core.List.{List, [], _∷_}
+use mathlib.Core.List.{List, [], _∷_, _++_}
 use mathlib.Core.Bool.{Bool, true, false, false≢true}
 use Prim.Native.Nat.{ℕ, zero, suc, _≤_, _<_}
 use Prim.Native.String.{String}
@@ -9,8 +9,8 @@ use lib.IntN.{ℤ}
 use lib.ListN.{length}
 use Rattle.lexer.specs.Bytes.{bytes, same}
 use Rattle.lexer.specs.Tokens.{Token, opening, closing, ending, quoted, plain, Lexeme, isKeyword}
-use Rattle.lexer.specs.Numbers.{Number, value, beyond, wrong, Form}
-use Rattle.chunks.specs.Readers.{Got, got, refused, Reader, after, _>>=_, _>>_, pure, stop, tokenOf, rest, isOpening, isClosing, isEnd, take-if, open-bracket, close-bracket, wordOf, keyword, text-end, openedOf, opened, closed, numberIn, numberAt, number, numbers, versionAt, version, Name, nameAt, string, oneFrom, oneOf, starts, optional, trailing, manyIn, many, many⁺, rowOf, row, headOf, head}
+use Rattle.lexer.specs.Numbers.{Number, value, beyond, wrong, Form, INT}
+use Rattle.chunks.specs.Readers.{Got, got, refused, Reader, after, _>>=_, _>>_, pure, stop, tokenOf, rest, isOpening, isClosing, isEnd, take-if, open-bracket, close-bracket, wordOf, keyword, text-end, openedOf, opened, closed, numberIn, numberAt, number, numbers, versionAt, version, Name, nameAt, string, oneFrom, oneOf, starts, optional, trailing, manyIn, many, many⁺, cells, rowOf, row, headOf, head}
 use Rattle.chunks.specs.Answers.{tokenNumber}
 use Rattle.chunks.proofs.NumberSteps.{number-of}
 
@@ -150,13 +150,17 @@ unfolding numbers
 numbers-keeps f zero = pure-keeps []
 numbers-keeps f (suc n) = bind-keeps (takes-keeps (number-takes f)) (λ z. bind-keeps (numbers-keeps f n) (λ zs. pure-keeps (z ∷ zs)))
 
-pub row-of-takes : (k : List ℕ) (f : Form) (n : ℕ) → Takes (rowOf k f n)
+pub cells-keep : (lead : ℕ) (f : Form) (n : ℕ) → Keeps (cells lead f n)
+unfolding cells
+cells-keep lead f n = bind-keeps (numbers-keeps INT lead) (λ a. bind-keeps (numbers-keeps f n) (λ b. pure-keeps (a ++ b)))
+
+pub row-of-takes : (k : List ℕ) (lead : ℕ) (f : Form) (n : ℕ) → Takes (rowOf k lead f n)
 unfolding rowOf
-row-of-takes k f n = then-takes (opened-of-takes k) (closed-keeps (numbers-keeps f n))
+row-of-takes k lead f n = then-takes (opened-of-takes k) (closed-keeps (cells-keep lead f n))
 
 pub row-takes : (k : String) (f : Form) (n : ℕ) → Takes (row k f n)
 unfolding row
-row-takes k f n = row-of-takes (bytes k) f n
+row-takes k f n = row-of-takes (bytes k) 0 f n
 
 name-less : (t : Token) (m : Lexeme) (ms : List Lexeme) (a : Name) (l : List Lexeme) → nameAt t (m ∷ ms) ≡ got a l → length l < suc (length ms)
 unfolding nameAt

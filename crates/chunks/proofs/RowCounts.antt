@@ -51,12 +51,12 @@ unfolding after pure
 valued (got l j) i n bound t t′ k h e = let z = got-value _ _ j k e in let y : length l ≡ n = ap (λ (p : ℕ × List ℤ). p .0) z in rw (← y) (h l j refl)
 valued (refused a p) i n bound t t′ k h e = absurd (not-got a p _ k e)
 
-pub rows-counted : (text : List ℕ) (c d : Cursor) (w : List ℕ) (f : Form) (width i n : ℕ) (t t′ : List ℤ) → reads text d (n, t′) ≡ from text c (rowsInto w f width i t) → d .refusal ≡ 0 → n ≤ suc (length text)
+pub rows-counted : (text : List ℕ) (c d : Cursor) (w : List ℕ) (lead : ℕ) (f : Form) (width i n : ℕ) (t t′ : List ℤ) → reads text d (n, t′) ≡ from text c (rowsInto w lead f width i t) → d .refusal ≡ 0 → n ≤ suc (length text)
 unfolding rowsInto _>>=_
-rows-counted text c d w f width i n t t′ e o = go (eqb (c .refusal) 0) refl
+rows-counted text c d w lead f width i n t t′ e o = go (eqb (c .refusal) 0) refl
   where
     go : (v : Bool) → eqb (c .refusal) 0 ≡ v → n ≤ suc (length text)
     go true q =
-        let h = sym (from-on text c (rowsInto w f width i t) (eqb-true _ _ q)) ∙ sym e ∙ reads-on text d (n, t′) o in
-        omega (arith, valued (many (rowOf w f width) (lexAt text (c .at))) i n (length (lexAt text (c .at))) t t′ _ (many-count (rowOf w f width) (lexAt text (c .at))) h, lexAt-count text (c .at))
-    go false q = absurd (not-got (c .refusal) (c .at) _ _ (sym (from-off text c (rowsInto w f width i t) (eqb-false _ _ q)) ∙ sym e ∙ reads-on text d (n, t′) o))
+        let h = sym (from-on text c (rowsInto w lead f width i t) (eqb-true _ _ q)) ∙ sym e ∙ reads-on text d (n, t′) o in
+        omega (arith, valued (many (rowOf w lead f width) (lexAt text (c .at))) i n (length (lexAt text (c .at))) t t′ _ (many-count (rowOf w lead f width) (lexAt text (c .at))) h, lexAt-count text (c .at))
+    go false q = absurd (not-got (c .refusal) (c .at) _ _ (sym (from-off text c (rowsInto w lead f width i t) (eqb-false _ _ q)) ∙ sym e ∙ reads-on text d (n, t′) o))

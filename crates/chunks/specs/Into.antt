@@ -4,7 +4,7 @@ use Prim.Native.Nat.{ℕ}
 use lib.IntN.{ℤ}
 use lib.ListN.{length}
 use Rattle.lexer.specs.Numbers.{Form}
-use Rattle.chunks.specs.Readers.{Reader, _>>=_, _>>_, pure, numbers, wordOf, closed, rowOf, many}
+use Rattle.chunks.specs.Readers.{Reader, _>>=_, _>>_, pure, numbers, cells, wordOf, closed, rowOf, many}
 use Rattle.chunks.specs.Cursors.{overlayAt}
 
 -- rows one after the other
@@ -16,14 +16,18 @@ flat (r ∷ rs) = r ++ flat rs
 unfoldable pub numbersInto : Form → ℕ → ℕ → List ℤ → Reader (List ℤ)
 numbersInto f w i table = numbers f w >>= λ zs. pure (overlayAt i zs table)
 
+-- a row's numbers, likewise
+unfoldable pub cellsInto : ℕ → Form → ℕ → ℕ → List ℤ → Reader (List ℤ)
+cellsInto lead f w i table = cells lead f w >>= λ zs. pure (overlayAt i zs table)
+
 -- a row, over a table's numbers from index i on
-unfoldable pub rowInto : List ℕ → Form → ℕ → ℕ → List ℤ → Reader (List ℤ)
-rowInto k f w i table = rowOf k f w >>= λ zs. pure (overlayAt i zs table)
+unfoldable pub rowInto : List ℕ → ℕ → Form → ℕ → ℕ → List ℤ → Reader (List ℤ)
+rowInto k lead f w i table = rowOf k lead f w >>= λ zs. pure (overlayAt i zs table)
 
 -- what stands in a row after its (
-unfoldable pub rowTail : List ℕ → Form → ℕ → ℕ → List ℤ → Reader (List ℤ)
-rowTail k f w i table = wordOf k >> closed (numbersInto f w i table)
+unfoldable pub rowTail : List ℕ → ℕ → Form → ℕ → ℕ → List ℤ → Reader (List ℤ)
+rowTail k lead f w i table = wordOf k >> closed (cellsInto lead f w i table)
 
 -- rows up to ), one after the other over a table's numbers from index i on, and how many they are
-unfoldable pub rowsInto : List ℕ → Form → ℕ → ℕ → List ℤ → Reader (ℕ × List ℤ)
-rowsInto k f w i table = many (rowOf k f w) >>= λ rs. pure (length rs, overlayAt i (flat rs) table)
+unfoldable pub rowsInto : List ℕ → ℕ → Form → ℕ → ℕ → List ℤ → Reader (ℕ × List ℤ)
+rowsInto k lead f w i table = many (rowOf k lead f w) >>= λ rs. pure (length rs, overlayAt i (flat rs) table)

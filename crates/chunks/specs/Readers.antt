@@ -1,5 +1,5 @@
 -- Readers of tokens: what each takes, and the first token that cannot continue the shape (refusal 5).
-use mathlib.Core.List.{List, [], _∷_}
+use mathlib.Core.List.{List, [], _∷_, _++_}
 use mathlib.Core.Bool.{Bool, true, false, cond, _&&_}
 use Prim.Native.Nat.{ℕ, zero, suc}
 use Prim.Native.String.{String}
@@ -7,7 +7,7 @@ use lib.ListN.{length}
 use lib.IntN.{ℤ}
 use Rattle.lexer.specs.Bytes.{bytes, same}
 use Rattle.lexer.specs.Tokens.{Token, opening, closing, ending, quoted, plain, Lexeme, isKeyword}
-use Rattle.lexer.specs.Numbers.{Number, value, beyond, wrong, Form, numberOf}
+use Rattle.lexer.specs.Numbers.{Number, value, beyond, wrong, Form, INT, numberOf}
 
 -- what was read and the tokens left, or a refusal's number and offset
 pub data Got (A : Type 0) : Type 0 where
@@ -189,12 +189,17 @@ many r ms = manyIn (length ms) r ms
 unfoldable pub many⁺ : {A : Type 0} → Reader A → Reader (List A)
 many⁺ r = r >>= λ a. many r >>= λ l. pure (a ∷ l)
 
--- ( k and so many numbers )
-unfoldable pub rowOf : List ℕ → Form → ℕ → Reader (List ℤ)
-rowOf k f n = openedOf k >> closed (numbers f n)
+-- the numbers of a row: first so many INT, then so many of a form
+unfoldable pub cells : ℕ → Form → ℕ → Reader (List ℤ)
+cells lead f n = numbers INT lead >>= λ a. numbers f n >>= λ b. pure (a ++ b)
 
+-- ( k and a row's numbers )
+unfoldable pub rowOf : List ℕ → ℕ → Form → ℕ → Reader (List ℤ)
+rowOf k lead f n = openedOf k >> closed (cells lead f n)
+
+-- all of one form
 unfoldable pub row : String → Form → ℕ → Reader (List ℤ)
-row k f n = rowOf (bytes k) f n
+row k f n = rowOf (bytes k) 0 f n
 
 -- ( Head ( k v ) )
 unfoldable pub headOf : List ℕ → List ℕ → Reader (Unit {0})

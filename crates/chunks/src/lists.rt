@@ -45,38 +45,39 @@ pub fn numbers(
     d
 }
 
-// What stands in a row after its (: a keyword, `width` numbers and ).
+// What stands in a row after its (: a keyword, `lead` INT numbers, `width` of a form, and ).
 fn row_tail(
     text: &[u8],
     c: Cursor,
     word: &[u8],
+    lead: usize,
     form: Form,
     width: usize,
     out: &mut [i64],
     at: usize,
 ) -> Cursor
-    ensures { λ r. ⌜ reads (now (text .entry)) r (now (out .exit)) ≡ from (now (text .entry)) c (rowTail (now (word .entry)) (formNamed form) width at (now (out .entry))) ⌝ }
+    ensures { λ r. ⌜ reads (now (text .entry)) r (now (out .exit)) ≡ from (now (text .entry)) c (rowTail (now (word .entry)) lead (formNamed form) width at (now (out .entry))) ⌝ }
 {
-    closing(
-        text,
-        numbers(text, keyword(text, c, word), form, width, out, at),
-    )
+    let d = numbers(text, keyword(text, c, word), Form::Int, lead, out, at);
+    let i = advance(at, lead, out.len());
+    closing(text, numbers(text, d, form, width, out, i))
 }
 
-// ( a keyword, `width` numbers and ), the numbers to the table from index `at` on.
+// ( a keyword, `lead` INT numbers, `width` of a form, and ), the numbers to the table from index `at` on.
 // Where the cursor has refused, what the table holds is free.
 pub fn row(
     text: &[u8],
     c: Cursor,
     word: &[u8],
+    lead: usize,
     form: Form,
     width: usize,
     out: &mut [i64],
     at: usize,
 ) -> Cursor
-    ensures { λ r. ⌜ reads (now (text .entry)) r (now (out .exit)) ≡ from (now (text .entry)) c (rowInto (now (word .entry)) (formNamed form) width at (now (out .entry))) ⌝ }
+    ensures { λ r. ⌜ reads (now (text .entry)) r (now (out .exit)) ≡ from (now (text .entry)) c (rowInto (now (word .entry)) lead (formNamed form) width at (now (out .entry))) ⌝ }
 {
-    row_tail(text, opening(text, c), word, form, width, out, at)
+    row_tail(text, opening(text, c), word, lead, form, width, out, at)
 }
 
 // Where an item of a list begins or the list has ended; where the cursor has refused, `ended` is free.
@@ -149,12 +150,13 @@ pub fn rows(
     text: &[u8],
     c: Cursor,
     word: &[u8],
+    lead: usize,
     form: Form,
     width: usize,
     out: &mut [i64],
     at: usize,
 ) -> Counted
-    ensures { λ r. ⌜ reads (now (text .entry)) (r .cursor) (r .count, now (out .exit)) ≡ from (now (text .entry)) c (rowsInto (now (word .entry)) (formNamed form) width at (now (out .entry))) ⌝ }
+    ensures { λ r. ⌜ reads (now (text .entry)) (r .cursor) (r .count, now (out .exit)) ≡ from (now (text .entry)) c (rowsInto (now (word .entry)) lead (formNamed form) width at (now (out .entry))) ⌝ }
 {
     let mut d = c;
     let mut i = at;
@@ -168,11 +170,12 @@ pub fn rows(
                 count,
             };
         }
-        d = row_tail(text, start, word, form, width, out, i);
+        d = row_tail(text, start, word, lead, form, width, out, i);
         if d.refusal != 0 {
             return Counted { cursor: d, count };
         }
         count += 1;
-        i = advance(i, width, out.len());
+        let n = out.len();
+        i = advance(advance(i, lead, n), width, n);
     }
 }

@@ -28,7 +28,7 @@ add-t15 : tie.Need-add-t15
 add-t15 c =
     let r = c .before .before .before .before .before in
     let text = now (c .before .before .before .before .before .before .before .before .before .before .before .before .args .text) in
-    let few : r .rows .result .count ≤ suc (length text) = rows-counted _ _ _ _ _ _ _ _ _ _ (r .rows .ensures) (c .before .if1 .left) in
+    let few : r .rows .result .count ≤ suc (length text) = rows-counted _ _ _ _ _ _ _ _ _ _ _ (r .rows .ensures) (c .before .if1 .left) in
     omega arith
 
 same-length-2 : tie.Need-same-length-2

@@ -1,7 +1,9 @@
--- `row_tail` is the keyword, the numbers and the closing bracket.
+-- `row_tail` is the keyword, the numbers in front and those after them, and the closing bracket.
+use Rattle.chunks.specs.Answers.{formNamed}
 use Rattle.chunks.specs.Into.{rowTail}
 use Rattle.chunks.proofs.Steps.{seq}
 use Rattle.chunks.proofs.Binds.{closed-at}
+use Rattle.chunks.proofs.Into.{cells-joined}
 use borrow.Author.Needs.{needs}
 use Rattle.chunks.proofs.lists.row_tail.Statement.{statement}
 use Rattle.chunks.proofs.lists.row_tail.Tie as tie
@@ -12,6 +14,12 @@ keyword-requires c κs = search needs
 numbers-requires : tie.Need-numbers-requires
 numbers-requires c κs = search needs
 
+advance-requires : tie.Need-advance-requires
+advance-requires c κs = search needs
+
+numbers-requires-2 : tie.Need-numbers-requires-2
+numbers-requires-2 c κs = search needs
+
 closing-requires : tie.Need-closing-requires
 closing-requires c κs = search needs
 
@@ -19,11 +27,22 @@ same-length : tie.Need-same-length
 same-length c = search needs
 
 returns : tie.Need-returns
-unfolding rowTail
+unfolding rowTail formNamed
 returns c =
-    let n = c .before .before in
-    seq _ _ _ _ _ _ _ _ (n .before .before .keyword .ensures) (closed-at _ _ _ _ _ _ (n .numbers .ensures) (c .closing .ensures))
+    let m = c .before .before in
+    let v = m .before .before in
+    let n = v .before .before in
+    seq _ _ _ _ _ _ _ _ (n .before .before .keyword .ensures)
+    (closed-at _ _ _ _ _ _ (cells-joined _ _ _ _ _ _ _ _ _ _ _ _ (n .numbers .ensures) (v .advance .ensures) (m .numbers2 .ensures)) (c .closing .ensures))
 
 pub row-tail-spec : {M : Type 1} → statement M
 row-tail-spec =
-    tie.close (tie.spec keyword-requires numbers-requires closing-requires same-length returns)
+    tie.close
+    (tie.spec
+    keyword-requires
+    numbers-requires
+    advance-requires
+    numbers-requires-2
+    closing-requires
+    same-length
+    returns)
