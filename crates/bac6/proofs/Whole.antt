@@ -1,22 +1,20 @@
 -- What every figure is that the grammar reads: rows as wide as their columns, bones with three numbers each, faces with a vertex and a uv at each corner.
-use mathlib.Core.Path.{_≡_, refl, ap, sym, _∙_}
-use mathlib.Core.List.{List, [], _∷_, _++_, map}
-use mathlib.Core.Bool.{Bool, true, false}
+use mathlib.Core.Path.{_≡_, refl, ap, _∙_}
+use mathlib.Core.List.{List, [], _∷_, _++_}
 use mathlib.Core.Logic.{_⊎_, inl, inr}
 use mathlib.Core.Option.{Option, none, some}
 use Prim.Native.Nat.{ℕ, zero, suc}
 use Prim.Native.String.{String}
 use lib.IntN.{ℤ}
 use lib.ListN.{length, getD}
-use Rattle.lexer.specs.Bytes.{bytes}
 use Rattle.lexer.specs.Numbers.{Form, INT, FLOAT}
-use Rattle.chunks.specs.Readers.{Reader, Name, absent, _>>=_, _>>_, pure, open-bracket, close-bracket, opened, closed, number, numbers, string, oneOf, optional, trailing, many, many⁺, row, head, text-end}
-use Rattle.chunks.specs.Fields.{Kind, kind, unread, complete, fields, fieldsIn, neededOf}
+use Rattle.chunks.specs.Readers.{Reader, _>>=_, _>>_, pure, close-bracket, opened, closed, numbers, optional, many, row, head, text-end}
+use Rattle.chunks.specs.Fields.{kind, unread, fields, neededOf}
 use Rattle.chunks.proofs.Given.{Gives, Every, pure-gives, bind-gives, then-gives, closed-gives, numbers-give, row-gives, many-gives, some-give, optional-gives, trailing-gives}
 use Rattle.chunks.proofs.FieldCounts.{fields-in-length}
 use Rattle.chunks.proofs.FieldFits.{AllGive, Whole, Stands, fields-fit, fields-stand}
-use Rattle.bac6_text.specs.Figure.{Bone, Face, Group, Figure}
-use Rattle.bac6_text.specs.Grammar.{BoneField, named, flag, several, boneKinds, boneOf, numbersIn, bone, truth, faceOf, faceBy, face, group, material, figure}
+use Rattle.bac6_text.specs.Figure.{Face, Group, Figure}
+use Rattle.bac6_text.specs.Grammar.{BoneField, several, boneKinds, boneOf, numbersIn, bone, faceOf, faceBy, face, group, material, figure}
 use Rattle.bac6_text.specs.Rules.{groupFaces, facesOf}
 use Rattle.bac6_parse.proofs.Fronts.{material-wide}
 use Rattle.bac6_rules.proofs.Laid.{Wide, WholeFace, WholeFaces, WholeBone, WholeBones}

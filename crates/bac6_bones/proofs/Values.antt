@@ -1,29 +1,27 @@
 -- What stands in each chunk of a bone, from what the code's readers say.
 use mathlib.Core.Path.{_≡_, refl, ap, sym, _∙_}
 use mathlib.Core.List.{List, [], _∷_}
-use mathlib.Core.Bool.{Bool, true, false}
+use mathlib.Core.Bool.{Bool}
 use mathlib.Core.Option.{some}
-use Prim.Native.Nat.{ℕ, zero, suc, _+_, _*_, _-_, _≤_, _<_, min}
+use Prim.Native.Nat.{ℕ, zero, suc, _+_, _*_, _-_, _≤_, _<_}
 use native.Mathlib.Omega.{arith}
 use lib.IntN.{ℤ, pos}
-use lib.ListN.{length, set, drop, length-drop}
-use Rattle.lexer.specs.Bytes.{Class, blank, opener, closer, quote, semicolon, letter, other, classOf, bytes, inWord, inLine, inString, run}
+use lib.ListN.{length, set}
+use Rattle.lexer.specs.Bytes.{other, bytes, inWord}
 use Rattle.lexer.specs.Numbers.{INT, FLOAT}
-use Rattle.lexer.specs.Tokens.{Lexeme, lexeme, tokens, lexAt}
-use Rattle.lexer.proofs.Runs.{run-yes, run-no}
+use Rattle.lexer.specs.Tokens.{lexAt}
 use Rattle.chunks.specs.declared.cursor.Cursor.{Cursor}
-use Rattle.chunks.specs.Readers.{Got, got, refused, Reader, after, _>>=_, _>>_, pure, tokenOf, closed, close-bracket, number, numbers, many, nameAt, string, Name, absent}
+use Rattle.chunks.specs.Readers.{Got, Reader, _>>=_, _>>_, pure, closed, close-bracket, number, numbers, many, string, absent}
 use Rattle.chunks.specs.Cursors.{reads, from, overlayAt}
 use Rattle.chunks.specs.Into.{numbersInto}
 use Rattle.chunks.specs.Places.{placeOf, nameOf}
 use Rattle.chunks.specs.Fields.{kind, insideAt}
 use Rattle.chunks.specs.Words.{words, onto, wordIn}
-use Rattle.chunks.proofs.Steps.{from-on, from-same, join, reads-on}
+use Rattle.chunks.proofs.Steps.{from-on, from-same, join}
 use Rattle.chunks.proofs.Binds.{closed-at}
 use Rattle.chunks.proofs.Vocabulary.{wordList, one-word}
 use Rattle.chunks.proofs.Tables.{overlayAt-cons, overlayAt-none}
-use Rattle.chunks.proofs.Many.{stop-not, not-got}
-use Rattle.chunks.proofs.Given.{then-gives, pure-gives, numbers-give}
+use Rattle.chunks.proofs.Given.{numbers-give}
 use Rattle.bac6_text.specs.Grammar.{BoneField, named, flag, several, nameIn, flagIn, numbersIn, boneKinds, truth, word}
 use Rattle.bac6_text.specs.Layout.{nameNumbers}
 use Rattle.bac6_rules.specs.Claims.{claimed}
@@ -90,67 +88,10 @@ module _ (text : List ℕ) (at : ℕ) (d r : Cursor) (row row′ : List ℤ) (q 
 
 -- ---- a name
 
-run-short : (test : ℕ → Bool) (bs : List ℕ) → length (run test bs) ≤ length bs
-unfolding run
-run-short test [] = omega arith
-run-short test (b ∷ bs) = go (test b) refl (run-short test bs)
-  where
-    go : (v : Bool) → test b ≡ v → length (run test bs) ≤ length bs → length (run test (b ∷ bs)) ≤ suc (length bs)
-    go true e h = rw (run-yes test b bs e) (omega arith)
-    go false e h = rw (run-no test b bs e) (omega arith)
-
-got-name : (n m : Name) (l k : List Lexeme) → got n l ≡ got m k → n ≡ m
-got-name n m l k e = cc
-
-tokens-name : (k p : ℕ) (bs : List ℕ) (m : Name) (l : List Lexeme) → string (tokens k p bs) ≡ got m l → (m .at ≤ p + length bs) × (length (m .bytes) ≤ length bs)
-unfolding tokens string tokenOf nameAt lexeme
-tokens-name k p [] m l e = absurd (stop-not 5 _ m l e)
-tokens-name (suc k) p (b ∷ bs) m l e = let h = tokens-name k (suc p) bs m l e in (omega arith, omega arith)
-tokens-name zero p (b ∷ bs) m l e = go (classOf b) refl (λ k. tokens-name k (suc p) bs m l)
-  where
-    go : (v : Class) → classOf b ≡ v → ((k : ℕ) → string (tokens k (suc p) bs) ≡ got m l → (m .at ≤ suc p + length bs) × (length (m .bytes) ≤ length bs)) → (m .at ≤ p + suc (length bs)) × (length (m .bytes) ≤ suc (length bs))
-    go blank q ih = let h = ih 0 (rw (q, tokens) at e) in (omega arith, omega arith)
-    go opener q ih = absurd (stop-not 5 _ m l (rw (q, tokens) at e))
-    go closer q ih = absurd (stop-not 5 _ m l (rw (q, tokens) at e))
-    go quote q ih =
-        let h : record { at = suc p; bytes = run inString bs } ≡ m = got-name _ m _ l (rw (q, tokens) at e) in
-        let u : suc p ≡ m .at = ap (λ (x : Name). x .at) h in
-        let v : length (run inString bs) ≡ length (m .bytes) = ap (λ (x : Name). length (x .bytes)) h in
-        let w = run-short inString bs in
-        (omega arith, omega arith)
-    go semicolon q ih = let h = ih (length (run inLine bs)) (rw (q, tokens) at e) in (omega arith, omega arith)
-    go letter q ih = absurd (stop-not 5 _ m l (rw (q, tokens) at e))
-    go other q ih = let h = ih 0 (rw (q, tokens) at e) in (omega arith, omega arith)
-
-string-within : (text : List ℕ) (at : ℕ) (m : Name) (l : List Lexeme) → string (lexAt text at) ≡ got m l → (m .at ≤ length text) × (length (m .bytes) ≤ length text)
-unfolding lexAt
-string-within text at m l e =
-    let h = tokens-name 0 (min at (length text)) (drop at text) m l e in
-    let d = length-drop at text in
-    (omega arith, omega arith)
-
-closed-value : {A : Type 0} (s : Reader A) (ms : List Lexeme) (a : A) (l : List Lexeme) → closed s ms ≡ got a l → (k : List Lexeme) × (s ms ≡ got a k)
-unfolding closed _>>=_ after
-closed-value {A} s ms a l e = go (s ms) refl e
-  where
-    go : (g : Got A) → s ms ≡ g → after g (λ x. close-bracket >> pure x) ≡ got a l → (k : List Lexeme) × (s ms ≡ got a k)
-    go (got b k) q h = (k, q ∙ ap (λ (x : A). got x k) (then-gives (λ x. b ≡ x) close-bracket (pure-gives (λ x. b ≡ x) b refl) k a l h))
-    go (refused i p) q h = absurd (not-got i p a l h)
-
 module _ (text : List ℕ) (at : ℕ) (d : Cursor) (place size : ℕ) (p : reads text d (place, size) ≡ from text (here at) nameOf) where
   name-found : Yields text d (closed string (lexAt text at)) placeOf (place, size)
   unfolding nameOf _>>=_
   name-found = unmap text d placeOf (place, size) absent (closed string (lexAt text at)) (p ∙ from-on text (here at) nameOf refl)
-
-  pub name-within : d .refusal ≡ 0 → (place ≤ length text) × (size ≤ length text)
-  unfolding placeOf
-  name-within o =
-      let m = name-found .value in
-      let s = closed-value string (lexAt text at) m _ (sym (name-found .read) ∙ reads-on text d m o) in
-      let h = string-within text at m (s .0) (s .1) in
-      let u : m .at ≡ place = ap (λ (v : ℕ × ℕ). v .0) (name-found .kept o) in
-      let v : length (m .bytes) ≡ size = ap (λ (v : ℕ × ℕ). v .1) (name-found .kept o) in
-      (omega arith, omega arith)
 
   pub name-read : (row row′ : List ℤ) → (d .refusal ≡ 0 → set (set row 12 (pos place)) 13 (pos size) ≡ row′) → Yields text d (insideAt boneKinds 0 (lexAt text at)) (putRow 0 row) row′
   unfolding insideAt boneKinds kind putRow nameIn nameNumbers placeOf

@@ -18,20 +18,16 @@ use Rattle.chunks.specs.Places.{placeOf, optionalName}
 use Rattle.chunks.specs.Folds.{folded, stepped, rowStep}
 use Rattle.lexer.proofs.Signed.{bits-pos}
 use Rattle.chunks.proofs.Tables.{overlayAt-same}
-use Rattle.chunks.proofs.Steps.{join, seq, from-on, from-off, reads-on, from-same}
+use Rattle.chunks.proofs.Steps.{join, seq, from-off, from-same}
 use Rattle.chunks.proofs.Binds.{after-after, after-same, then-assoc, then-bind}
 use Rattle.chunks.proofs.Many.{Keeps, Takes, takes-keeps, pure-keeps, bind-keeps, bind-takes, then-keeps, then-takes, keyword-takes, word-takes, opened-takes, closed-keeps, string-takes, optional-keeps, many-keeps}
 use Rattle.bac6_text.specs.Figure.{Group}
 use Rattle.bac6_text.specs.Grammar.{face, group}
 use Rattle.bac6_text.specs.Layout.{nameNumbers}
 use Rattle.bac6_faces.specs.Into.{faceStep, groupTail, groupStep}
-use Rattle.chunks.proofs.Counts.{alive}
+use Rattle.chunks.proofs.Counts.{alive, short}
+use Rattle.chunks.proofs.NameSteps.{name-keeps}
 use Rattle.bac6_faces.proofs.FaceLists.{face-takes}
-use Rattle.bac6_faces.proofs.Names.{name-keeps}
-
--- a reader that takes no token back, from cursor d to e
-pub short : {A : Type 0} (text : List ℕ) (d e : Cursor) (r : Reader A) (a : A) → Keeps r → reads text e a ≡ from text d r → e .refusal ≡ 0 → length (lexAt text (e .at)) ≤ length (lexAt text (d .at))
-short text d e r a k p o = k _ a _ (sym (sym (reads-on text e a o) ∙ p ∙ from-on text d r (alive text d e r a p o)))
 
 -- a keyword and a name
 pub named-short : (text : List ℕ) (c k d : Cursor) (w : List ℕ) (v : ℕ × ℕ) → reads text k tt ≡ from text c (wordOf w) → reads text d v ≡ from text k optionalName → d .refusal ≡ 0 → length (lexAt text (d .at)) ≤ length (lexAt text (c .at))

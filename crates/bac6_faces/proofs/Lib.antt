@@ -2,6 +2,5 @@
 pub mod FaceLists
 pub mod Faces
 pub mod Groups
-pub mod Names
 pub mod PolygonSteps
 pub mod Rows

@@ -2,34 +2,23 @@
 use mathlib.Core.Path.{_≡_, refl, ap, sym, _∙_}
 use mathlib.Core.List.{List, []}
 use mathlib.Core.Bool.{Bool, true, false}
-use Prim.Native.Nat.{ℕ, _≤_}
-use native.Mathlib.Omega.{arith}
+use Prim.Native.Nat.{ℕ}
 use lib.IntN.{ℤ, negsuc}
-use lib.ListN.{length}
 use Rattle.lexer.specs.Bytes.{bytes}
 use Rattle.lexer.specs.Tokens.{Lexeme}
 use Rattle.chunks.specs.declared.cursor.Cursor.{Cursor}
-use Rattle.chunks.specs.Readers.{Got, got, Reader, after, _>>=_, _>>_, pure, tokenOf, isOpening, openedOf, opened, trailing, many}
+use Rattle.chunks.specs.Readers.{Got, got, Reader, after, _>>=_, _>>_, pure, openedOf, opened, trailing, many}
 use Rattle.chunks.specs.Branches.{lastOf}
 use Rattle.chunks.specs.Cursors.{reads, from}
 use Rattle.chunks.specs.Folds.{fold, folded}
 use Rattle.chunks.proofs.Steps.{join, seq, from-same}
 use Rattle.chunks.proofs.Binds.{after-after, after-same, then-bind}
 use Rattle.chunks.proofs.Branches.{trailing-yes, trailing-no, trailing-map}
-use Rattle.chunks.proofs.Many.{Keeps, got-rest, takes-keeps, pure-keeps, then-keeps, opened-of-takes}
 use Rattle.bac6_text.specs.Figure.{Face, Figure}
 use Rattle.bac6_text.specs.Grammar.{face, group}
 use Rattle.bac6_text.specs.Layout.{faceRows}
 use Rattle.bac6_faces.specs.Into.{faceStep, groupStep, allRows, tablesOf, polygonsInto}
 use Rattle.bac6_faces.proofs.Rows.{arrange, tables-closed}
-
-pub last-keeps : (w : List ℕ) → Keeps (lastOf w)
-unfolding lastOf
-last-keeps w ms b l e = go (isOpening (tokenOf ms)) refl
-  where
-    go : (x : Bool) → isOpening (tokenOf ms) ≡ x → length l ≤ length ms
-    go true p = let h : (openedOf w >> pure true) ms ≡ got b l = rw (p, lastOf) at e in then-keeps (takes-keeps (opened-of-takes w)) (pure-keeps true) ms b l h
-    go false p = let h : got false ms ≡ got b l = rw (p, lastOf) at e in omega (arith, got-rest false b ms l h)
 
 abbrev State : Type 0
 State = (ℕ × List ℤ) × (ℕ × List ℤ)

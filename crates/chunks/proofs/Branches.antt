@@ -2,7 +2,7 @@
 use mathlib.Core.Path.{_≡_, refl, ap, sym, _∙_}
 use mathlib.Core.List.{List, [], _∷_}
 use mathlib.Core.Bool.{Bool, true, false}
-use Prim.Native.Nat.{ℕ, suc, _<_}
+use Prim.Native.Nat.{ℕ, suc, _≤_, _<_}
 use lib.ListN.{length}
 use Prim.Native.String.{String}
 use native.Mathlib.Omega.{arith}
@@ -16,7 +16,7 @@ use Rattle.chunks.specs.Cursors.{reads, from}
 use Rattle.chunks.specs.Branches.{itemOf, startOf, lastOf}
 use Rattle.chunks.proofs.Steps.{from-on, from-off, reads-on, next-token, next-rest, live, taken, not-taken, from-same, from-bind, after-reads, seq}
 use Rattle.chunks.proofs.Binds.{after-after, after-same}
-use Rattle.chunks.proofs.Many.{Takes, not-got, got-rest, pure-keeps, then-takes, open-takes, many-end, many-more}
+use Rattle.chunks.proofs.Many.{Keeps, Takes, not-got, got-rest, takes-keeps, pure-keeps, then-keeps, then-takes, open-takes, opened-of-takes, many-end, many-more}
 
 -- one reader or another
 unfoldable pub pick : {A : Type 0} → Bool → Reader A → Reader A → Reader A
@@ -204,3 +204,13 @@ trailing-map {A} {B} k a r g ms = go (isOpening (tokenOf ms)) refl
     go : (v : Bool) → isOpening (tokenOf ms) ≡ v → (trailing k a r >>= λ x. pure (g x)) ms ≡ trailing k (g a) (r >>= λ x. pure (g x)) ms
     go true e = rw (e, trailing) (after-after (opened k ms) (λ _. r) _)
     go false e = rw (e, trailing)
+
+-- ---- a chunk as the last takes no token back
+
+pub last-keeps : (w : List ℕ) → Keeps (lastOf w)
+unfolding lastOf
+last-keeps w ms b l e = go (isOpening (tokenOf ms)) refl
+  where
+    go : (x : Bool) → isOpening (tokenOf ms) ≡ x → length l ≤ length ms
+    go true p = let h : (openedOf w >> pure true) ms ≡ got b l = rw (p, lastOf) at e in then-keeps (takes-keeps (opened-of-takes w)) (pure-keeps true) ms b l h
+    go false p = let h : got false ms ≡ got b l = rw (p, lastOf) at e in omega (arith, got-rest false b ms l h)

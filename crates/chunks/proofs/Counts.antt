@@ -13,7 +13,7 @@ use Rattle.chunks.specs.declared.cursor.Cursor.{Cursor}
 use Rattle.chunks.specs.Readers.{Reader}
 use Rattle.chunks.specs.Cursors.{reads, from}
 use Rattle.chunks.proofs.Steps.{from-on, from-off, reads-on}
-use Rattle.chunks.proofs.Many.{Takes, not-got}
+use Rattle.chunks.proofs.Many.{Keeps, Takes, not-got}
 
 -- at most one token a byte, and the last
 tokens-count : (k p : ℕ) (bs : List ℕ) → (0 < length (tokens k p bs)) × (length (tokens k p bs) ≤ suc (length bs))
@@ -50,3 +50,7 @@ alive text d e r a p o = go (eqb (d .refusal) 0) refl
 -- a reader that takes a token, from cursor d to e
 pub falls : {A : Type 0} (text : List ℕ) (d e : Cursor) (r : Reader A) (a : A) → Takes r → reads text e a ≡ from text d r → e .refusal ≡ 0 → length (lexAt text (e .at)) < length (lexAt text (d .at))
 falls text d e r a t p o = t .less _ a _ (sym (sym (reads-on text e a o) ∙ p ∙ from-on text d r (alive text d e r a p o)))
+
+-- a reader that takes no token back, from cursor d to e
+pub short : {A : Type 0} (text : List ℕ) (d e : Cursor) (r : Reader A) (a : A) → Keeps r → reads text e a ≡ from text d r → e .refusal ≡ 0 → length (lexAt text (e .at)) ≤ length (lexAt text (d .at))
+short text d e r a k p o = k _ a _ (sym (sym (reads-on text e a o) ∙ p ∙ from-on text d r (alive text d e r a p o)))

@@ -9,8 +9,20 @@ use lib.ListN.{length, length-append}
 use Rattle.lexer.specs.Bytes.{bytes}
 use Rattle.lexer.specs.Tokens.{Lexeme}
 use Rattle.lexer.specs.Numbers.{Form, INT}
-use Rattle.chunks.specs.Readers.{Got, got, refused, Reader, after, _>>=_, _>>_, pure, stop, tokenOf, rest, isClosing, close-bracket, closed, numbers, cells, openedOf, rowOf, row, manyIn, many, many⁺, starts, isOpening, opened, optional, trailing}
+use Rattle.chunks.specs.Readers.{Got, got, refused, Reader, after, _>>=_, _>>_, pure, tokenOf, rest, isClosing, close-bracket, closed, numbers, cells, openedOf, rowOf, row, manyIn, many, many⁺, starts, isOpening, opened, optional, trailing}
 use Rattle.chunks.proofs.Many.{not-got, stop-not, many-in-end, many-in-more}
+
+-- what a sequence gave, its first part gave before
+pub record Before {A B : Type 0} (g : Got A) (k : A → Reader B) (b : B) (l : List Lexeme) : Type 0 where
+  pub value : A
+  pub left : List Lexeme
+  pub first : g ≡ got value left
+  pub second : k value left ≡ got b l
+
+pub before : {A B : Type 0} (g : Got A) (k : A → Reader B) (b : B) (l : List Lexeme) → after g k ≡ got b l → Before g k b l
+unfolding after
+before (got a m) k b l e = record { value = a; left = m; first = refl; second = e }
+before (refused n p) k b l e = absurd (not-got n p b l e)
 
 abbrev pub Gives : {A : Type 0} → (A → Type 0) → Reader A → Type 0
 Gives {A} P r = (ms : List Lexeme) (a : A) (l : List Lexeme) → r ms ≡ got a l → P a

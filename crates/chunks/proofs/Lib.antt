@@ -20,3 +20,4 @@ pub mod Steps
 pub mod Stored
 pub mod Tables
 pub mod Vocabulary
+pub mod Within

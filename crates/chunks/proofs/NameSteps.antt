@@ -16,6 +16,7 @@ use Rattle.chunks.specs.Cursors.{reads, from}
 use Rattle.chunks.specs.Places.{isQuoted, placeOf, stringOf, nameOf, optionalName}
 use Rattle.chunks.proofs.Steps.{from-on, from-off, reads-on, next-token, next-stop, live}
 use Rattle.chunks.proofs.Binds.{closed-map}
+use Rattle.chunks.proofs.Many.{Keeps, takes-keeps, pure-keeps, bind-keeps, closed-keeps, string-takes, optional-keeps}
 use Rattle.chunks.proofs.Branches.{optional-map}
 
 -- a span has as many bytes as it says
@@ -65,3 +66,7 @@ name-parts ms = closed-map string placeOf ms
 pub optional-name-parts : (ms : List Lexeme) → optionalName ms ≡ optional "name" (0, 0) nameOf ms
 unfolding optionalName nameOf placeOf absent
 optional-name-parts ms = optional-map "name" absent (closed string) placeOf ms
+
+pub name-keeps : Keeps optionalName
+unfolding optionalName
+name-keeps = bind-keeps (optional-keeps "name" absent (closed-keeps (takes-keeps string-takes))) (λ x. pure-keeps (placeOf x))

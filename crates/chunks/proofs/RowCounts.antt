@@ -11,15 +11,12 @@ use lib.ListN.{length}
 use Rattle.lexer.specs.Tokens.{Lexeme, lexAt}
 use Rattle.lexer.specs.Numbers.{Form}
 use Rattle.chunks.specs.declared.cursor.Cursor.{Cursor}
-use Rattle.chunks.specs.Readers.{Got, got, refused, Reader, after, _>>=_, pure, stop, tokenOf, rest, isClosing, manyIn, many, rowOf}
+use Rattle.chunks.specs.Readers.{Got, got, refused, Reader, after, _>>=_, pure, tokenOf, rest, isClosing, manyIn, many, rowOf}
 use Rattle.chunks.specs.Cursors.{reads, from, overlayAt}
 use Rattle.chunks.specs.Into.{flat, rowsInto}
 use Rattle.chunks.proofs.Steps.{from-on, from-off, reads-on}
-use Rattle.chunks.proofs.Many.{not-got, stop-not}
+use Rattle.chunks.proofs.Many.{not-got, got-value, stop-not}
 use Rattle.chunks.proofs.Counts.{lexAt-count}
-
-got-value : {A : Type 0} (a b : A) (l k : List Lexeme) → got a l ≡ got b k → a ≡ b
-got-value a b l k e = cc
 
 -- one item more than a list of at most n
 one-more : {A : Type 0} (n : ℕ) (a : A) (g : Got (List A)) (l : List A) (k : List Lexeme) → ((m : List A) (j : List Lexeme) → g ≡ got m j → length m ≤ n) → after g (λ m. pure (a ∷ m)) ≡ got l k → length l ≤ suc n

@@ -3,7 +3,8 @@ use mathlib.Core.Path.{refl}
 use Prim.Native.Nat.{_<_, _^_}
 use native.Mathlib.Omega.{arith}
 use Rattle.lexer.proofs.Signed.{bits-pos}
-use Rattle.bac6_bones.proofs.Values.{name-read, name-within}
+use Rattle.chunks.proofs.Within.{name-bounds}
+use Rattle.bac6_bones.proofs.Values.{name-read}
 use borrow.Author.Needs.{needs}
 use Rattle.bac6_bones.proofs.bone.bone_name.Statement.{statement}
 use Rattle.bac6_bones.proofs.bone.bone_name.Tie as tie
@@ -16,12 +17,12 @@ returns c = name-read _ _ _ _ _ (c .before .before .before .name .ensures) _ _ (
 
 cast-place : tie.Need-cast-place
 cast-place c =
-    let h = name-within _ _ _ _ _ (c .before .before .before .before .name .ensures) (c .before .if1 .left) in
+    let h = name-bounds _ _ _ _ (c .before .before .before .before .name .ensures) (c .before .if1 .left) in
     record { sfits = omega arith }
 
 cast-size : tie.Need-cast-size
 cast-size c =
-    let h = name-within _ _ _ _ _ (c .before .before .before .before .before .name .ensures) (c .before .before .if1 .left) in
+    let h = name-bounds _ _ _ _ (c .before .before .before .before .before .name .ensures) (c .before .before .if1 .left) in
     record { sfits = omega arith }
 
 slice-set-from-place : tie.Need-slice-set-from-place
@@ -36,7 +37,7 @@ same-length c = search needs
 returns-2 : tie.Need-returns-2
 returns-2 c =
     let n = c .before .before .before .before .before in
-    let h = name-within _ _ _ _ _ (n .name .ensures) (c .before .before .if1 .left) in
+    let h = name-bounds _ _ _ _ (n .name .ensures) (c .before .before .if1 .left) in
     let p : n .name .result .place < 2 ^ 63 = omega arith in
     let l : n .name .result .length < 2 ^ 63 = omega arith in
     rw (bits-pos (n .name .result .place) p, bits-pos (n .name .result .length) l) (name-read _ _ _ _ _ (n .name .ensures) _ _ (λ o. refl))

@@ -2,9 +2,9 @@
 use native.Mathlib.Omega.{arith}
 use denote.Ref.{now}
 use Rattle.lexer.specs.Bytes.{bytes}
-use Rattle.chunks.proofs.Counts.{alive, lexAt-count}
-use Rattle.bac6_faces.proofs.Groups.{short}
-use Rattle.bac6_faces.proofs.PolygonSteps.{last-keeps, polygons-groups, polygons-alone}
+use Rattle.chunks.proofs.Counts.{alive, short, lexAt-count}
+use Rattle.chunks.proofs.Branches.{last-keeps}
+use Rattle.bac6_faces.proofs.PolygonSteps.{polygons-groups, polygons-alone}
 use borrow.Author.Needs.{needs}
 use Rattle.bac6_faces.proofs.ending.polygons.Statement.{statement}
 use Rattle.bac6_faces.proofs.ending.polygons.Tie as tie

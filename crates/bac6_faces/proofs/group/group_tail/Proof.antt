@@ -5,7 +5,7 @@ use Rattle.lexer.specs.Bytes.{bytes}
 use Rattle.lexer.proofs.Signed.{bits-pos}
 use Rattle.chunks.proofs.Steps.{passed}
 use Rattle.chunks.proofs.Counts.{alive}
-use Rattle.bac6_faces.proofs.Names.{place-bounds}
+use Rattle.chunks.proofs.Within.{place-bounds}
 use Rattle.bac6_faces.proofs.Groups.{named-short, name-row, group-joined}
 use borrow.Author.Needs.{needs}
 use Rattle.bac6_faces.proofs.group.group_tail.Statement.{statement}
