@@ -12,7 +12,8 @@ use Rattle.chunks.specs.Readers.{after, _>>=_, _>>_, pure, stop, tokenOf, rest,
 use Rattle.chunks.specs.Fields.{kind, isSome, unread, complete, kindFrom, fieldsIn, fields}
 use Rattle.chunks.specs.Into.{flat}
 use Rattle.bac6_text.specs.Grammar.{word, truth, blend, materialKinds, orZero, material, boneKinds, nameIn, flagIn, numbersIn, boneOf, bone, faceOf, faceBy, face, group, figure}
-use Rattle.bac6_text.specs.Rules.{Flags, orElse, groupFaces, facesOf, countsOf, mosts, tooMany, normalsFault, flagsOf, isSet, joined, thenIf, boneList, wholeList, placedFault, parentsIn, bonesFault, isRow, isNone, sameNumber, member, all, firstBad, entriesFine, verticesFault, ownerFrom, ownerOf, isLevel, materialFine, faceFine, figureFault}
+use Rattle.chunks.specs.Rules.{orElse, tooMany}
+use Rattle.bac6_text.specs.Rules.{Flags, groupFaces, facesOf, countsOf, mosts, normalsFault, flagsOf, isSet, joined, thenIf, boneList, wholeList, placedFault, parentsIn, bonesFault, isRow, isNone, sameNumber, member, all, firstBad, entriesFine, verticesFault, ownerFrom, ownerOf, isLevel, materialFine, faceFine, figureFault}
 use Rattle.bac6_text.specs.Layout.{nameNumbers, boneRow, boneRows, ownersFrom, corners, faceRow, groupRows, faceRows, groupNames, layoutOf}
 use Rattle.bac6_text.specs.Answer.{ruled, shaped, checked, figureOutcome, fitted, figureAnswer, laid, tableAfter}
 
