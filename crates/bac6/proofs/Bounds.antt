@@ -14,9 +14,10 @@ use Rattle.chunks.specs.Cursors.{overlayAt}
 use Rattle.chunks.specs.Into.{flat}
 use Rattle.chunks.specs.Readers.{Name}
 use Rattle.bac6_text.specs.Figure.{Bone, Group, Figure}
-use Rattle.bac6_text.specs.Rules.{facesOf, countsOf, mosts, tooMany, flagsOf, wholeList, parentsIn}
+use Rattle.chunks.specs.Rules.{tooMany}
+use Rattle.bac6_text.specs.Rules.{facesOf, countsOf, mosts, flagsOf, wholeList, parentsIn}
 use Rattle.bac6_text.specs.Layout.{layoutOf, nameNumbers, boneRow, boneRows, ownersFrom, faceRows, groupNames}
-use Rattle.bac6_layout.proofs.Chains.{overlay-whole}
+use Rattle.chunks.proofs.Chains.{overlay-whole}
 use Rattle.bac6_layout.proofs.Layouts.{layout-lists}
 use Rattle.bac6_rules.proofs.Claims.{owners-length}
 use Rattle.bac6_rules.proofs.Laid.{Wide, face-rows-wide, face-rows-length, bones-wide, bones-count}

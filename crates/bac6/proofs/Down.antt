@@ -10,14 +10,16 @@ use Rattle.lexer.specs.Faults.{Fault, clear}
 use Rattle.chunks.specs.Into.{flat}
 use Rattle.chunks.specs.Cursors.{overlayAt}
 use Rattle.bac6_text.specs.Figure.{Bone, Figure}
-use Rattle.bac6_text.specs.Rules.{facesOf, flagsOf, wholeList, parentsIn, verticesFault, bonesFault, figureFault, tooMany, countsOf, mosts}
+use Rattle.chunks.specs.Rules.{tooMany}
+use Rattle.bac6_text.specs.Rules.{facesOf, flagsOf, wholeList, parentsIn, verticesFault, bonesFault, figureFault, countsOf, mosts}
 use Rattle.bac6_text.specs.Layout.{nameNumbers, boneRow, boneRows, ownersFrom, faceRows, groupNames, layoutOf}
 use Rattle.bac6_rules.specs.Claims.{claimedBones}
 use Rattle.bac6_rules.specs.Order.{figureCounts, BonesLeft}
 use Rattle.bac6_rules.proofs.Claims.{owners-length, claims-owners}
 use Rattle.bac6_rules.proofs.Laid.{face-rows-wide, face-rows-length, bones-wide, bones-count, flags-count}
 use Rattle.bac6_rules.proofs.Placing.{whole-length}
-use Rattle.bac6_rules.proofs.Orders.{or-first, or-second, bones-left}
+use Rattle.chunks.proofs.Rules.{or-first, or-second}
+use Rattle.bac6_rules.proofs.Orders.{bones-left}
 use Rattle.bac6_layout.proofs.Layouts.{layout-lists}
 use Rattle.bac6.specs.declared.shape.Parsed.{Parsed}
 use Rattle.bac6.specs.Answers.{Fits, totalOf, partsOf, parsedCounts}

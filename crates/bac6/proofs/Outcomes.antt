@@ -11,7 +11,7 @@ use Rattle.chunks.specs.Cursors.{overlayAt}
 use Rattle.bac6_text.specs.Figure.{Figure}
 use Rattle.bac6_text.specs.Layout.{layoutOf}
 use Rattle.bac6_text.specs.Answer.{Outcome, rejected, accepted, fitted, laid}
-use Rattle.bac6_layout.proofs.Chains.{overlay-whole}
+use Rattle.chunks.proofs.Chains.{overlay-whole}
 use Rattle.bac6.specs.declared.shape.Parsed.{Parsed}
 use Rattle.bac6.specs.Answers.{totalOf, countsAnswer, answerOf, refusedWith, downAnswer, downTable}
 

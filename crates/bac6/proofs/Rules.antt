@@ -9,7 +9,8 @@ use Rattle.lexer.specs.Faults.{Fault, clear}
 use Rattle.chunks.specs.Into.{flat}
 use Rattle.chunks.specs.Cursors.{overlayAt}
 use Rattle.bac6_text.specs.Figure.{Bone, Figure}
-use Rattle.bac6_text.specs.Rules.{facesOf, tooMany, countsOf, mosts, verticesFault, figureFault, flagsOf, parentsIn, wholeList}
+use Rattle.chunks.specs.Rules.{tooMany}
+use Rattle.bac6_text.specs.Rules.{facesOf, countsOf, mosts, verticesFault, figureFault, flagsOf, parentsIn, wholeList}
 use Rattle.bac6_text.specs.Layout.{boneRow, boneRows, faceRows, ownersFrom}
 use Rattle.bac6_rules.specs.Claims.{claimedBones}
 use Rattle.bac6_rules.specs.Order.{figureCounts, tablesFault, BonesLeft}

@@ -2,7 +2,7 @@
 ghost use mathlib.Core.Path.{_≡_};
 ghost use mathlib.Core.List.{_++_};
 ghost use Rattle.chunks.specs.Cursors.{overlayAt};
-use crate::table::put;
+use chunks::put;
 
 // Lays the lists of a figure over a table's first numbers, without gaps; numbers past the table's end are dropped.
 pub fn lay(

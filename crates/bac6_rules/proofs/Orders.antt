@@ -5,50 +5,16 @@ use Prim.Native.Nat.{ℕ}
 use lib.ListN.{length}
 use lib.IntN.{ℤ}
 use Rattle.lexer.specs.Faults.{Fault, clear, fault}
-use Rattle.lexer.specs.Answers.{refusal}
-use Rattle.lexer.specs.declared.check.Checked.{Checked}
-use Rattle.lexer.specs.declared.check.Checked.the-variants.{Clear, Refused}
 use Rattle.chunks.specs.Into.{flat}
 use Rattle.bac6_text.specs.Figure.{Figure}
 use Rattle.bac6_text.specs.Layout.{boneRows, faceRows}
-use Rattle.bac6_text.specs.Rules.{orElse, facesOf, countsOf, mosts, tooMany, normalsFault, flagsOf, bonesFault, wholeList, parentsIn, verticesFault, firstBad, materialFine, faceFine, figureFault}
+use Rattle.chunks.specs.Rules.{orElse, tooMany}
+use Rattle.bac6_text.specs.Rules.{facesOf, countsOf, mosts, normalsFault, flagsOf, bonesFault, wholeList, parentsIn, verticesFault, firstBad, materialFine, faceFine, figureFault}
+use Rattle.chunks.proofs.Rules.{or-fault, or-assoc, or-first, or-second}
 use Rattle.bac6_rules.specs.declared.order.Counts.{Counts}
 use Rattle.bac6_rules.specs.Bones.{flagsIn, Settled}
 use Rattle.bac6_rules.specs.Order.{countsIn, figureCounts, countsFault, laterFault, tablesFault, LeftBy, BonesLeft}
 use Rattle.bac6_rules.proofs.Laid.{Wide, WholeBones, WholeFaces, rows-laid, flags-laid, faces-laid, bones-laid}
-
--- ---- what an answer says of a rule
-
-pub refused-by : {r : Checked} {a : Fault} {k p : ℕ} → refusal r ≡ a → r ≡ Refused k p → a ≡ fault k p
-unfolding refusal
-refused-by e d = sym e ∙ rw d
-
-pub clear-by : {r : Checked} {a : Fault} → refusal r ≡ a → r ≡ Clear → a ≡ clear
-unfolding refusal
-clear-by e d = sym e ∙ rw d
-
--- ---- the first of two
-
-pub or-clear : {a : Fault} (b : Fault) → a ≡ clear → orElse a b ≡ b
-unfolding orElse
-or-clear b e = rw e
-
-pub or-fault : {a : Fault} (b : Fault) {k p : ℕ} → a ≡ fault k p → orElse a b ≡ fault k p
-unfolding orElse
-or-fault b e = rw e
-
-pub or-assoc : (a b d : Fault) → orElse (orElse a b) d ≡ orElse a (orElse b d)
-unfolding orElse
-or-assoc clear b d = refl
-or-assoc (fault k p) b d = refl
-
-pub or-first : (a b : Fault) → orElse a b ≡ clear → a ≡ clear
-unfolding orElse
-or-first clear b e = refl
-or-first (fault k p) b e = e
-
-pub or-second : (a b : Fault) → orElse a b ≡ clear → b ≡ clear
-or-second a b e = sym (or-clear b (or-first a b e)) ∙ e
 
 -- the rules before the bones', and those after
 pub tables-parts : (n : Counts) (claims : Fault) (ms bs fs : List ℤ) → tablesFault n claims ms bs fs ≡ orElse (countsFault n) (orElse (bonesFault (flagsIn (n .bones) bs)) (laterFault n claims ms fs))

@@ -6,7 +6,8 @@ use lib.ListN.{length}
 use lib.IntN.{ℤ}
 use Rattle.lexer.specs.Faults.{Fault, clear, fault}
 use Rattle.bac6_text.specs.Figure.{Figure}
-use Rattle.bac6_text.specs.Rules.{facesOf, orElse, tooMany, mosts, normalsFault, bonesFault, firstBad, materialFine, wholeList}
+use Rattle.chunks.specs.Rules.{orElse, tooMany}
+use Rattle.bac6_text.specs.Rules.{facesOf, mosts, normalsFault, bonesFault, firstBad, materialFine, wholeList}
 use Rattle.bac6_rules.specs.declared.order.Counts.{Counts}
 use Rattle.bac6_rules.specs.Rows.{rowsOf, faceRowFine}
 use Rattle.bac6_rules.specs.Bones.{flagsIn, Settled}

@@ -9,7 +9,6 @@ mod owner;
 
 pub use bone::place_bones;
 pub use count::normals_fault;
-pub use count::too_many;
 pub use face::UvRow;
 pub use face::VertexRow;
 pub use face::face_fault;

@@ -4,7 +4,6 @@ ghost use Rattle.lexer.specs.Answers.{refusal};
 ghost use Rattle.bac6_rules.specs.Order.{countsFault, laterFault, tablesFault, BonesLeft};
 use crate::bone::place_bones;
 use crate::count::normals_fault;
-use crate::count::too_many;
 use crate::face::face_fault;
 use crate::material::material_fault;
 use lexer::Checked;
@@ -58,7 +57,8 @@ fn counts_fault(n: Counts) -> Checked
         n.faces,
         n.groups,
     ];
-    match too_many(&counts) {
+    let mosts = [16, 256, 64, 2048, 2048, 128, 4096, 1024, 32];
+    match chunks::too_many(&counts, &mosts) {
         Checked::Refused { number, offset } => Checked::Refused { number, offset },
         Checked::Clear => normals_fault(n.points, n.normals),
     }

@@ -1,17 +1,13 @@
 -- The rules 8 to 13 of a figure, each with its place (document 01, "Refusal numbers").
-use mathlib.Core.List.{List, [], _∷_, _++_, map}
+use mathlib.Core.List.{List, [], _∷_, _++_}
 use mathlib.Core.Bool.{Bool, true, false, not, cond, _&&_, _||_}
 use Prim.Native.Nat.{ℕ, zero, suc}
 use lib.Dec.{leb, ltb, eqb}
 use lib.ListN.{length, getD}
 use lib.IntN.{ℤ, pos, negsuc}
 use Rattle.lexer.specs.Faults.{Fault, clear, fault}
+use Rattle.chunks.specs.Rules.{orElse, tooMany}
 use Rattle.bac6_text.specs.Figure.{Bone, Face, Group, Figure}
-
--- the first fault of two
-unfoldable pub orElse : Fault → Fault → Fault
-orElse clear b = b
-orElse (fault n p) b = fault n p
 
 -- the faces of `Polygons`, then group by group
 unfoldable pub groupFaces : List Group → List Face
@@ -30,12 +26,6 @@ countsOf f =
 -- the most rows of each
 unfoldable pub mosts : List ℕ
 mosts = 16 ∷ 256 ∷ 64 ∷ 2048 ∷ 2048 ∷ 128 ∷ 4096 ∷ 1024 ∷ 32 ∷ []
-
--- 8: too many rows, at the first such list
-unfoldable pub tooMany : ℕ → List ℕ → List ℕ → Fault
-tooMany i [] ms = clear
-tooMany i (n ∷ ns) [] = clear
-tooMany i (n ∷ ns) (m ∷ ms) = elim (leb n m) [ true ↦ tooMany (suc i) ns ms | false ↦ fault 8 i ]
 
 -- 9: normals not as many as points
 unfoldable pub normalsFault : ℕ → ℕ → Fault

@@ -1,6 +1,7 @@
 -- Laws that belong to no one function.
 pub mod Binds
 pub mod Branches
+pub mod Chains
 pub mod Choices
 pub mod Counts
 pub mod FieldCounts
@@ -15,6 +16,7 @@ pub mod Many
 pub mod NameSteps
 pub mod NumberSteps
 pub mod RowCounts
+pub mod Rules
 pub mod Sequences
 pub mod Steps
 pub mod Stored

@@ -7,3 +7,4 @@ pub mod Answers
 pub mod Into
 pub mod Branches
 pub mod Places
+pub mod Rules

@@ -1,6 +1,7 @@
 // Readers that figures and movements share: chunks, keywords, numbers, names and rows.
 mod cursor;
 mod heading;
+mod limits;
 mod lists;
 mod naming;
 mod numerals;
@@ -18,6 +19,7 @@ pub use cursor::opened;
 pub use cursor::opening;
 pub use heading::head;
 pub use heading::text_end;
+pub use limits::too_many;
 pub use lists::Counted;
 pub use lists::Item;
 pub use lists::advance;
@@ -34,7 +36,9 @@ pub use numerals::number;
 pub use optionals::Start;
 pub use optionals::optional;
 pub use optionals::trailing;
+pub use places::closed_at;
 pub use places::covers;
+pub use places::put;
 pub use places::store;
 pub use words::one_of;
 pub use words::word_index;

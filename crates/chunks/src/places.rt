@@ -1,7 +1,11 @@
-// Flags that must be set, and rows set down in a table.
+// Flags that must be set, where a closing bracket asks for them, and rows and lists set down in a table.
 ghost use mathlib.Core.Path.{_≡_};
+ghost use Prim.Native.Nat.{_+_, min};
+ghost use lib.ListN.{length};
 ghost use Rattle.chunks.specs.Fields.{coversAll};
-ghost use Rattle.chunks.specs.Cursors.{overlayAt};
+ghost use Rattle.chunks.specs.Cursors.{overlayAt, closedAt};
+use crate::cursor::Cursor;
+use lexer::Span;
 
 // Whether every flag that is needed is set.
 pub fn covers(needed: &[bool], seen: &[bool]) -> bool
@@ -22,6 +26,22 @@ pub fn covers(needed: &[bool], seen: &[bool]) -> bool
     true
 }
 
+// Past a closing bracket, where every flag that is needed is set; else refused at it.
+pub fn closed_at(t: Span, needed: &[bool], seen: &[bool]) -> Cursor
+    ensures { λ r. ⌜ r ≡ closedAt t (coversAll (now (needed .entry)) (now (seen .entry))) ⌝ }
+{
+    if covers(needed, seen) {
+        return Cursor {
+            refusal: 0,
+            at: t.end,
+        };
+    }
+    Cursor {
+        refusal: 5,
+        at: t.start,
+    }
+}
+
 // Sets a row's numbers down from index `at` on; those past the table's end are dropped.
 pub fn store(out: &mut [i64], at: usize, row: &[i64])
     ensures { λ _. ⌜ now (out .exit) ≡ overlayAt at (now (row .entry)) (now (out .entry)) ⌝ }
@@ -37,4 +57,20 @@ pub fn store(out: &mut [i64], at: usize, row: &[i64])
         i += 1;
         k += 1;
     }
+}
+
+// Lays a list over a table's numbers from index `at` on, and gives the index after it; numbers past the table's end are dropped.
+pub fn put(table: &mut [i64], at: usize, rows: &[i64]) -> usize
+    ensures content { λ r. ⌜ now (table .exit) ≡ overlayAt at (now (rows .entry)) (now (table .entry)) ⌝ }
+    ensures next { λ r. ⌜ r ≡ min (at + length (now (rows .entry))) (length (now (table .entry))) ⌝ }
+{
+    if table.len() <= at {
+        return table.len();
+    }
+    let mut end = table.len();
+    if rows.len() < end - at {
+        end = at + rows.len();
+    }
+    store(&mut table[at..end], 0, rows);
+    end
 }

@@ -4,7 +4,7 @@ use lib.ListN.{length}
 use denote.Ref.{now}
 use Rattle.lexer.specs.Answers.{formatNamed}
 use Rattle.bac6_text.specs.Answer.{fitted, laid, figureAnswer, tableAfter}
-use Rattle.bac6_rules.proofs.Orders.{refused-by, clear-by}
+use Rattle.chunks.proofs.Rules.{refused-by, clear-by}
 use Rattle.bac6.specs.Answers.{answerOf}
 use Rattle.bac6.proofs.Ends.{refused-answer, refused-table, text-short, text-refused, text-clear}
 use borrow.Author.Needs.{needs}

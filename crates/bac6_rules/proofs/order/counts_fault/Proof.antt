@@ -1,14 +1,18 @@
 -- `counts_fault` is the first of two faults, by the law of each branch.
 use mathlib.Core.Path.{sym, _∙_}
 use Rattle.lexer.specs.Answers.{refusal}
+use Rattle.bac6_text.specs.Rules.{mosts}
 use Rattle.bac6_rules.specs.Order.{countsIn, countsFault}
-use Rattle.bac6_rules.proofs.Orders.{refused-by, clear-by, or-clear, or-fault}
+use Rattle.chunks.proofs.Rules.{refused-by, clear-by, or-clear, or-fault}
 use borrow.Author.Needs.{needs}
 use Rattle.bac6_rules.proofs.order.counts_fault.Statement.{statement}
 use Rattle.bac6_rules.proofs.order.counts_fault.Tie as tie
 
 slice-aggregate-too-many : tie.Need-slice-aggregate-too-many
 slice-aggregate-too-many c = search needs
+
+slice-aggregate-too-many-2 : tie.Need-slice-aggregate-too-many-2
+slice-aggregate-too-many-2 c = search needs
 
 too-many-requires : tie.Need-too-many-requires
 too-many-requires c κs = search needs
@@ -23,11 +27,11 @@ normals-fault-requires : tie.Need-normals-fault-requires
 normals-fault-requires c κs = search needs
 
 returns : tie.Need-returns
-unfolding refusal countsIn countsFault
+unfolding refusal countsIn countsFault mosts
 returns c = sym (or-fault _ (refused-by (c .before .before .before .too-many .ensures) (c .before .number .given .1)))
 
 returns-2 : tie.Need-returns-2
-unfolding countsIn countsFault
+unfolding countsIn countsFault mosts
 returns-2 c = c .normals-fault .ensures ∙ sym (or-clear _ (clear-by (c .before .before .before .too-many .ensures) (c .before .enum-told .given .1)))
 
 pub counts-fault-spec : {M : Type 1} → statement M
@@ -35,6 +39,7 @@ counts-fault-spec =
     tie.close
     (tie.spec
     slice-aggregate-too-many
+    slice-aggregate-too-many-2
     too-many-requires
     enum-known-number
     enum-told

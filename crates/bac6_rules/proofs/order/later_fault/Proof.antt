@@ -2,7 +2,7 @@
 use mathlib.Core.Path.{refl, sym, _∙_}
 use Rattle.lexer.specs.Answers.{refusal}
 use Rattle.bac6_rules.specs.Order.{laterFault}
-use Rattle.bac6_rules.proofs.Orders.{refused-by, clear-by, or-clear, or-fault}
+use Rattle.chunks.proofs.Rules.{refused-by, clear-by, or-clear, or-fault}
 use borrow.Author.Needs.{needs}
 use Rattle.bac6_rules.proofs.order.later_fault.Statement.{statement}
 use Rattle.bac6_rules.proofs.order.later_fault.Tie as tie

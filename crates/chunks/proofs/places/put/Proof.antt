@@ -1,4 +1,4 @@
--- `put` is the definition: what `copy` leaves in the part that is lent stands between what lay before it and after it.
+-- `put` is the definition: what `store` leaves in the part that is lent stands between what lay before it and after it.
 use mathlib.Core.Path.{_≡_, ap, sym, _∙_}
 use mathlib.Core.List.{List}
 use mathlib.Core.Logic.{⊎-elim}
@@ -9,10 +9,10 @@ use borrow.Rule.Slice.PartMut.{putMid}
 use denote.Ref.{now}
 use lib.IntN.{ℤ}
 use lib.ListN.{length}
 use Rattle.chunks.proofs.Tables.{overlayAt-past}
-use Rattle.bac6_layout.proofs.Chains.{middle}
-use Rattle.bac6_layout.proofs.table.put.Statement.{statement}
-use Rattle.bac6_layout.proofs.table.put.Tie as tie
+use Rattle.chunks.proofs.Chains.{middle}
+use Rattle.chunks.proofs.places.put.Statement.{statement}
+use Rattle.chunks.proofs.places.put.Tie as tie
 
 -- where the part begins and ends
 begins : (c : tie.Joined2) → c .before .before .args .at ≤ c .if2 .end
@@ -30,20 +30,20 @@ sub-if2 c = search needs
 add-end : tie.Need-add-end
 add-end c = search needs
 
-mul-copy : tie.Need-mul-copy
-mul-copy c = search needs
+mul-store : tie.Need-mul-store
+mul-store c = search needs
 
-sub-copy : tie.Need-sub-copy
-sub-copy c = begins (c .before)
+sub-store : tie.Need-sub-store
+sub-store c = begins (c .before)
 
-part-copy-start : tie.Need-part-copy-start
-part-copy-start c = begins (c .before)
+part-store-start : tie.Need-part-store-start
+part-store-start c = begins (c .before)
 
-part-copy-end : tie.Need-part-copy-end
-part-copy-end c = let e = ends (c .before) in omega arith
+part-store-end : tie.Need-part-store-end
+part-store-end c = let e = ends (c .before) in omega arith
 
-copy-requires : tie.Need-copy-requires
-copy-requires c κs = search needs
+store-requires : tie.Need-store-requires
+store-requires c κs = search needs
 
 same-length : tie.Need-same-length
 same-length c = search needs
@@ -52,7 +52,7 @@ returns-2 : tie.Need-returns-2
 returns-2 c =
     let j = c .before .before .before .before in
     let s = j .before .before in (
-      ap (λ (ys : List ℤ). putMid (s .args .at) (j .if2 .end - s .args .at) (now (s .args .table)) ys) (c .before .copy .ensures)
+      ap (λ (ys : List ℤ). putMid (s .args .at) (j .if2 .end - s .args .at) (now (s .args .table)) ys) (c .before .store .ensures)
           ∙ middle (s .args .at) (j .if2 .end) (now (s .args .rows)) (now (s .args .table)) (begins j) (ends j),
       ends j,
     )
@@ -64,10 +64,10 @@ put-spec =
     returns
     sub-if2
     add-end
-    mul-copy
-    sub-copy
-    part-copy-start
-    part-copy-end
-    copy-requires
+    mul-store
+    sub-store
+    part-store-start
+    part-store-end
+    store-requires
     same-length
     returns-2)
