@@ -10,7 +10,7 @@ use Rattle.chunks.specs.Cursors.{overlayAt}
 use Rattle.bac6_text.specs.Figure.{Figure}
 use Rattle.bac6_text.specs.Rules.{facesOf}
 use Rattle.bac6_text.specs.Layout.{layoutOf}
-use Rattle.bac6_text.specs.Answer.{Outcome, rejected, accepted}
+use Rattle.chunks.specs.Outcomes.{Outcome, rejected, accepted}
 use Rattle.lexer.specs.Faults.{Fault, clear, fault}
 use Rattle.bac6_rules.specs.declared.order.Counts.{Counts}
 use Rattle.bac6_rules.specs.Order.{tablesFault}
@@ -24,7 +24,7 @@ refusedWith n p =
     record { refusal = n; place = p; file = 0; total = 0; textures = 0; colours = 0; materials = 0; points = 0; normals = 0; bones = 0; uvs = 0; faces = 0; groups = 0 }
 
 -- that, or the total and the nine counts
-unfoldable pub answerOf : Outcome → FigureAnswer
+unfoldable pub answerOf : Outcome Figure → FigureAnswer
 answerOf (rejected n p) = refusedWith n p
 answerOf (accepted f) =
     record {

@@ -5,7 +5,10 @@ ghost use lib.ListN.{length};
 ghost use Rattle.lexer.specs.Answers.{refusal};
 ghost use Rattle.lexer.specs.Tokens.{lex};
 ghost use Rattle.bac6_text.specs.Grammar.{figure};
-ghost use Rattle.bac6_text.specs.Answer.{shaped, fitted, laid, figureAnswer, tableAfter};
+ghost use Rattle.chunks.specs.Outcomes.{shaped, fitted, laid};
+ghost use Rattle.bac6_text.specs.Rules.{figureFault};
+ghost use Rattle.bac6_text.specs.Layout.{layoutOf};
+ghost use Rattle.bac6_text.specs.Answer.{figureAnswer, tableAfter};
 ghost use Rattle.bac6_bones.specs.Into.{faultOf};
 ghost use mathlib.Core.List.{List};
 ghost use lib.IntN.{ℤ};
@@ -35,8 +38,8 @@ pub fn read(text: &[u8], table: &mut [i64]) -> FigureAnswer
 // Each list has a table of its most rows.
 fn read_shape(text: &[u8], table: &mut [i64]) -> FigureAnswer
     requires { ⌜ length (now text) ≤ 65536 ⌝ }
-    ensures answer { λ r. ⌜ r ≡ answerOf (fitted (length (now (table .entry))) (shaped (figure (lex (now (text .entry)))))) ⌝ }
-    ensures content { λ r. ⌜ now (table .exit) ≡ laid (now (table .entry)) (fitted (length (now (table .entry))) (shaped (figure (lex (now (text .entry)))))) ⌝ }
+    ensures answer { λ r. ⌜ r ≡ answerOf (fitted layoutOf (length (now (table .entry))) (shaped figureFault (figure (lex (now (text .entry)))))) ⌝ }
+    ensures content { λ r. ⌜ now (table .exit) ≡ laid layoutOf (now (table .entry)) (fitted layoutOf (length (now (table .entry))) (shaped figureFault (figure (lex (now (text .entry)))))) ⌝ }
 {
     let mut texture_rows = [0i64; 32];
     let mut colour_rows = [0i64; 768];
@@ -154,8 +157,8 @@ fn read_into(
     group_rows: &mut [i64],
 ) -> FigureAnswer
     requires { ⌜ Blank (now text) (now «texture_rows») (now «colour_rows») (now «material_rows») (now «point_rows») (now «normal_rows») (now «bone_rows») (now «owner_rows») (now «uv_rows») (now «face_rows») (now «group_rows») ⌝ }
-    ensures answer { λ r. ⌜ r ≡ answerOf (fitted (length (now (table .entry))) (shaped (figure (lex (now (text .entry)))))) ⌝ }
-    ensures content { λ r. ⌜ now (table .exit) ≡ laid (now (table .entry)) (fitted (length (now (table .entry))) (shaped (figure (lex (now (text .entry)))))) ⌝ }
+    ensures answer { λ r. ⌜ r ≡ answerOf (fitted layoutOf (length (now (table .entry))) (shaped figureFault (figure (lex (now (text .entry)))))) ⌝ }
+    ensures content { λ r. ⌜ now (table .exit) ≡ laid layoutOf (now (table .entry)) (fitted layoutOf (length (now (table .entry))) (shaped figureFault (figure (lex (now (text .entry)))))) ⌝ }
 {
     let p = parse(
         text,

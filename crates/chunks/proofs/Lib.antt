@@ -23,3 +23,4 @@ pub mod Stored
 pub mod Tables
 pub mod Vocabulary
 pub mod Within
+pub mod Outcomes

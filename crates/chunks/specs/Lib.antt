@@ -8,3 +8,4 @@ pub mod Into
 pub mod Branches
 pub mod Places
 pub mod Rules
+pub mod Outcomes

@@ -135,6 +135,7 @@ fold-over i n rows keys (b ∷ bs) h m = go (leb (n + keyCount b) 4096) refl (λ
   where
     counted : i + 1 + length bs ≡ i + suc (length bs)
     counted = omega arith
+
     go : (v : Bool) → leb (n + keyCount b) 4096 ≡ v → (n + keyCount b ≤ 4096 → fold boneStep (i + 1, some (overlayAt (i * 22) (boneRow n b) rows, n + keyCount b, overlayAt (n * 2) (flat (allKeys (b .channels))) keys)) bs ≡ (i + 1 + length bs, none)) → fold boneStep (i + 1, boneKept (i * 22) (some (rows, n, keys)) b) bs ≡ (i + suc (length bs), none)
     go true o ih = rw (kept-within (i * 22) n rows keys b (leb-true _ _ o), ← counted) (ih (leb-true _ _ o))
     go false o ih = rw (kept-over (i * 22) n rows keys b (leb-false _ _ o), ← counted) (fold-none (i + 1) bs)

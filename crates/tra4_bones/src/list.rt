@@ -75,7 +75,17 @@ fn more_bones(
         if start.refusal != 0 {
             return so_far;
         }
-        let b = next_bone(text, start, count, bone_rows, i, key_rows, keys, over, scratch);
+        let b = next_bone(
+            text,
+            start,
+            count,
+            bone_rows,
+            i,
+            key_rows,
+            keys,
+            over,
+            scratch,
+        );
         d = b.cursor;
         if d.refusal != 0 {
             return b;
@@ -94,6 +104,16 @@ pub fn bones(text: &[u8], c: Cursor, bone_rows: &mut [i64], key_rows: &mut [i64]
 {
     let mut scratch = [0i64; 8192];
     let start = chunks::opened(text, c, b"bone");
-    let first = next_bone(text, start, 0, bone_rows, 0, key_rows, 0, false, &mut scratch);
+    let first = next_bone(
+        text,
+        start,
+        0,
+        bone_rows,
+        0,
+        key_rows,
+        0,
+        false,
+        &mut scratch,
+    );
     more_bones(text, first, bone_rows, key_rows, &mut scratch)
 }

@@ -12,7 +12,14 @@ use chunks::Form;
 fn pattern_tail(text: &[u8], c: Cursor, out: &mut [i64], at: usize) -> Cursor
     ensures { λ r. ⌜ reads (now (text .entry)) r (now (out .exit)) ≡ from (now (text .entry)) c (patternInto at (now (out .entry))) ⌝ }
 {
-    let d = chunks::numbers(text, chunks::keyword(text, c, b"kgf"), Form::Int, 2, out, at);
+    let d = chunks::numbers(
+        text,
+        chunks::keyword(text, c, b"kgf"),
+        Form::Int,
+        2,
+        out,
+        at,
+    );
     let n = chunks::one_of(text, d, b"false true", 2);
     let e = n.cursor;
     let flag = n.value;

@@ -12,11 +12,13 @@ use Rattle.lexer.specs.Faults.{clear, fault, faultIn, markOf, blankOrEnd, begin
 use Rattle.chunks.specs.Readers.{rowOf, cells, after, _>>=_, _>>_, pure, stop, tokenOf, rest, isOpening, isClosing, isEnd, take-if, open-bracket, close-bracket, wordOf, text-end, openedOf, opened, closed, numberIn, numberAt, number, numbers, versionAt, version, absent, nameAt, string, oneFrom, oneOf, starts, optional, trailing, manyIn, many, many⁺, headOf, head}
 use Rattle.chunks.specs.Fields.{kind, isSome, unread, complete, kindFrom, fieldsIn, fields}
 use Rattle.chunks.specs.Into.{flat}
-use Rattle.tra4_text.specs.Movement.{frameOf, groupOf}
+use Rattle.tra4_text.specs.Movement.{Movement, frameOf, groupOf}
 use Rattle.tra4_text.specs.Grammar.{repeatedIn, repeated, repeated⁺, key, channelNames, channel, channelKinds, keysIn, bone, truth, pattern, movement}
-use Rattle.tra4_text.specs.Rules.{orElse, channelsOf, allKeys, keyRows, countsOf, mosts, tooMany, totalFault, isFrame, isZero, rises, neverFalls, framesFault, keyFine, keysFault, patternFine, patternsFault, movementFault}
+use Rattle.tra4_text.specs.Rules.{channelsOf, allKeys, keyRows, countsOf, mosts, totalFault, isFrame, isZero, rises, neverFalls, framesFault, keyFine, keysFault, patternFine, patternsFault, movementFault}
 use Rattle.tra4_text.specs.Layout.{nameNumbers, keyRanges, boneRow, boneRows, layoutOf}
-use Rattle.tra4_text.specs.Answer.{Outcome, rejected, accepted, ruled, shaped, checked, movementOutcome, fitted, movementAnswer, laid, movementTable}
+use Rattle.tra4_text.specs.Answer.{movementOutcome, movementAnswer, movementTable}
+use Rattle.chunks.specs.Rules.{orElse, tooMany}
+use Rattle.chunks.specs.Outcomes.{Outcome, rejected, accepted, ruled, shaped, checked, outcome, fitted, laid}
 
 -- ---- a text of two bones, their channels out of order, and the table that it leaves of one with a number more than it takes
 
@@ -47,7 +49,7 @@ front =
     bytes ";TRA\n(Head(traVersion 4.0))(Figure(totalFrame 5)(bone(translate.x(kf 0 0))(translate.y(kf 0 0))(translate.z(kf 0 0))"
     ++ bytes "(scale.x(kf 0 0))(scale.y(kf 0 0))(scale.z(kf 0 0))(rotate.x(kf 0 0))(rotate.y(kf 0 0))(rotate.z(kf 0 0))"
 
-abbrev reply : Outcome → ℕ × ℕ
+abbrev reply : Outcome Movement → ℕ × ℕ
 reply (rejected n p) = (n, p)
 reply (accepted m) = (0, length (layoutOf m))
 
@@ -86,7 +88,7 @@ cases =
     ∷ []
 
 pub worked : (movementTable walk (replicate 101 (pos 9)) ≡ walked ++ (pos 9 ∷ [])) × (movementAnswer walk 99 ≡ rejected 17 100) × (map (λ c. reply (movementAnswer (front ++ bytes (c .0)) 100)) cases ≡ map (λ c. c .1) cases)
-unfolding rowOf cells bytes isBlank between isLetter classOf inLine inString isDigit isContent run same lexeme tokens lex isKeyword decimalFrom decimal signed notEmpty allDigits intMost intOf millionths floatOf numberFrom afterDigits unsigned negative magnitude numberOf faultIn markOf blankOrEnd begins marked textFault after _>>=_ _>>_ pure stop tokenOf rest isOpening isClosing isEnd take-if open-bracket close-bracket wordOf text-end openedOf opened closed numberIn numberAt number numbers versionAt version absent nameAt string oneFrom oneOf starts optional trailing manyIn many many⁺ headOf head kind isSome unread complete kindFrom fieldsIn fields flat frameOf groupOf repeatedIn repeated repeated⁺ key channelNames channel channelKinds keysIn bone truth pattern movement orElse channelsOf allKeys keyRows countsOf mosts tooMany totalFault isFrame isZero rises neverFalls framesFault keyFine keysFault patternFine patternsFault movementFault nameNumbers keyRanges boneRow boneRows layoutOf ruled shaped checked movementOutcome fitted movementAnswer laid movementTable
+unfolding rowOf cells bytes isBlank between isLetter classOf inLine inString isDigit isContent run same lexeme tokens lex isKeyword decimalFrom decimal signed notEmpty allDigits intMost intOf millionths floatOf numberFrom afterDigits unsigned negative magnitude numberOf faultIn markOf blankOrEnd begins marked textFault after _>>=_ _>>_ pure stop tokenOf rest isOpening isClosing isEnd take-if open-bracket close-bracket wordOf text-end openedOf opened closed numberIn numberAt number numbers versionAt version absent nameAt string oneFrom oneOf starts optional trailing manyIn many many⁺ headOf head kind isSome unread complete kindFrom fieldsIn fields flat frameOf groupOf repeatedIn repeated repeated⁺ key channelNames channel channelKinds keysIn bone truth pattern movement orElse channelsOf allKeys keyRows countsOf mosts tooMany totalFault isFrame isZero rises neverFalls framesFault keyFine keysFault patternFine patternsFault movementFault nameNumbers keyRanges boneRow boneRows layoutOf ruled shaped checked outcome movementOutcome fitted movementAnswer laid movementTable
 worked = (refl, refl, refl)
 
 -- ---- the lists' mosts, and the total's range

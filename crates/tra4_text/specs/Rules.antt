@@ -3,17 +3,13 @@ use mathlib.Core.List.{List, [], _∷_, _++_}
 use mathlib.Core.Bool.{Bool, true, false, cond, _&&_}
 use mathlib.Core.Option.{Option, none, some}
 use Prim.Native.Nat.{ℕ, suc, _+_}
-use lib.Dec.{leb, eqb}
+use lib.Dec.{eqb}
 use lib.ListN.{length}
 use lib.IntN.{ℤ, pos, negsuc}
 use lib.Signed.{ltZ, leZ}
 use Rattle.lexer.specs.Faults.{Fault, clear, fault}
+use Rattle.chunks.specs.Rules.{orElse, tooMany}
 use Rattle.tra4_text.specs.Movement.{Key, Channel, Pattern, frameOf, groupOf, Bone, Movement}
-
--- the first fault of two
-unfoldable pub orElse : Fault → Fault → Fault
-orElse clear b = b
-orElse (fault n p) b = fault n p
 
 -- every channel, by bone and then channel number
 unfoldable pub channelsOf : List Bone → List Channel
@@ -36,11 +32,6 @@ countsOf m = length (m .bones) ∷ length (keyRows m) ∷ length (m .patterns) �
 -- the most rows of each
 unfoldable pub mosts : List ℕ
 mosts = 128 ∷ 4096 ∷ 256 ∷ []
-
-unfoldable pub tooMany : ℕ → List ℕ → List ℕ → Fault
-tooMany i [] ms = clear
-tooMany i (n ∷ ns) [] = clear
-tooMany i (n ∷ ns) (m ∷ ms) = elim (leb n m) [ true ↦ tooMany (suc i) ns ms | false ↦ fault 8 i ]
 
 -- ---- 14: the total is 1 to 32,767
 

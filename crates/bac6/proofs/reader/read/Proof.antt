@@ -3,10 +3,13 @@ use mathlib.Core.Path.{refl, ap, sym, _∙_}
 use lib.ListN.{length}
 use denote.Ref.{now}
 use Rattle.lexer.specs.Answers.{formatNamed}
-use Rattle.bac6_text.specs.Answer.{fitted, laid, figureAnswer, tableAfter}
+use Rattle.chunks.specs.Outcomes.{fitted, laid}
+use Rattle.chunks.proofs.Outcomes.{text-short, text-refused, text-clear}
+use Rattle.bac6_text.specs.Layout.{layoutOf}
+use Rattle.bac6_text.specs.Answer.{figureOutcome, figureAnswer, tableAfter}
 use Rattle.chunks.proofs.Rules.{refused-by, clear-by}
 use Rattle.bac6.specs.Answers.{answerOf}
-use Rattle.bac6.proofs.Ends.{refused-answer, refused-table, text-short, text-refused, text-clear}
+use Rattle.bac6.proofs.Ends.{refused-answer, refused-table}
 use borrow.Author.Needs.{needs}
 use Rattle.bac6.proofs.reader.read.Statement.{statement}
 use Rattle.bac6.proofs.reader.read.Tie as tie
@@ -33,23 +36,23 @@ read-shape-requires c κs =
     text-short _ _ (clear-by (k .check-text .ensures) (c .before .enum-told .given .1))
 
 returns : tie.Need-returns
-unfolding formatNamed figureAnswer tableAfter
+unfolding formatNamed figureOutcome figureAnswer tableAfter
 returns c =
     let k = c .before .before .before .before in
     let a = k .before .before .args in
-    let e = text-refused (now (a .text)) (refused-by (k .check-text .ensures) (c .before .before .number .given .1)) in
+    let e = text-refused _ _ _ (now (a .text)) (refused-by (k .check-text .ensures) (c .before .before .number .given .1)) in
     (c .refused .ensures ∙ refused-answer e (length (now (a .table))), refused-table e (now (a .table)))
 
 same-length : tie.Need-same-length
 same-length c = search needs
 
 returns-2 : tie.Need-returns-2
-unfolding formatNamed figureAnswer tableAfter
+unfolding formatNamed figureOutcome figureAnswer tableAfter
 returns-2 c =
     let k = c .before .before .before .before .before in
     let a = k .before .before .args in
-    let e = text-clear (now (a .text)) (clear-by (k .check-text .ensures) (c .before .before .before .enum-told .given .1)) in
-    (c .before .read-shape .ensures .0 ∙ ap (λ o. answerOf (fitted (length (now (a .table))) o)) (sym e), c .before .read-shape .ensures .1 ∙ ap (λ o. laid (now (a .table)) (fitted (length (now (a .table))) o)) (sym e))
+    let e = text-clear _ _ _ (now (a .text)) (clear-by (k .check-text .ensures) (c .before .before .before .enum-told .given .1)) in
+    (c .before .read-shape .ensures .0 ∙ ap (λ o. answerOf (fitted layoutOf (length (now (a .table))) o)) (sym e), c .before .read-shape .ensures .1 ∙ ap (λ o. laid layoutOf (now (a .table)) (fitted layoutOf (length (now (a .table))) o)) (sym e))
 
 pub read-spec : {M : Type 1} → statement M
 read-spec =

@@ -1,0 +1,42 @@
+-- What reading a text answers, in document 01's order: 1; 2; 3 and 4; 5, 6, 7; the format's rules; 17.
+use mathlib.Core.List.{List, _++_}
+use mathlib.Core.Bool.{true, false}
+use Prim.Native.Nat.{ℕ}
+use lib.Dec.{leb}
+use lib.ListN.{length, drop}
+use lib.IntN.{ℤ}
+use Rattle.lexer.specs.Faults.{Fault, clear, fault, Format, textFault}
+use Rattle.lexer.specs.Tokens.{lex}
+use Rattle.chunks.specs.Readers.{Got, got, refused, Reader}
+
+-- a refusal's number and place, or what the text says
+pub data Outcome (A : Type 0) : Type 0 where
+  rejected : ℕ → ℕ → Outcome A
+  accepted : A → Outcome A
+
+unfoldable pub ruled : {A : Type 0} → A → Fault → Outcome A
+ruled a clear = accepted a
+ruled a (fault n p) = rejected n p
+
+-- by the rules of what was read
+unfoldable pub shaped : {A : Type 0} → (A → Fault) → Got A → Outcome A
+shaped rules (got a ms) = ruled a (rules a)
+shaped rules (refused n p) = rejected n p
+
+-- by a format's grammar
+unfoldable pub checked : {A : Type 0} → Reader A → (A → Fault) → List ℕ → Fault → Outcome A
+checked grammar rules text clear = shaped rules (grammar (lex text))
+checked grammar rules text (fault n p) = rejected n p
+
+unfoldable pub outcome : {A : Type 0} → Format → Reader A → (A → Fault) → List ℕ → Outcome A
+outcome f grammar rules text = checked grammar rules text (textFault f text)
+
+-- 17, for a table of `room` numbers
+unfoldable pub fitted : {A : Type 0} → (A → List ℤ) → ℕ → Outcome A → Outcome A
+fitted layout room (rejected n p) = rejected n p
+fitted layout room (accepted a) = elim (leb (length (layout a)) room) [ true ↦ accepted a | false ↦ rejected 17 (length (layout a)) ]
+
+-- the table at exit: the layout and what stood beyond it, or the table at entry
+unfoldable pub laid : {A : Type 0} → (A → List ℤ) → List ℤ → Outcome A → List ℤ
+laid layout table (rejected n p) = table
+laid layout table (accepted a) = layout a ++ drop (length (layout a)) table
