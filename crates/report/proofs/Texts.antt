@@ -11,7 +11,8 @@ use lib.IntN.{ℤ, pos, negsuc}
 use lib.ListN.{length, take, drop, length-append, length-drop, length-map, take-append-drop}
 use lib.Seq.{length-take-le, drop-drop}
 use mir.Syntax.{w64}
-use mir.Val.{SFits}
+use mir.Val.{SFits, toZ, ofZ}
+use mir.Facts.{toZ-ofZ}
 use Rattle.report.specs.Text.{numeral, fields, line}
 use Rattle.report.specs.Output.{Output, output, appended}
 use Rattle.report.specs.Lists.{appendedEach, textOf, RowList, rowList, rowLines, listLines, shown, Listing, listing, listed}
@@ -31,6 +32,9 @@ each-both o (k ∷ ks) ls = each-both (appended o k) ks ls
 unfoldable pub allListed : Listing → List RowList → Listing
 allListed s [] = s
 allListed s (l ∷ ls) = allListed (listed s l) ls
+
+pub next-list : {s t u : Listing} (l : RowList) → u ≡ listed t l → t ≡ s → u ≡ listed s l
+next-list l e f = e ∙ ap (λ (s : Listing). listed s l) f
 
 -- what is put
 unfoldable pub putOf : Listing → Output
@@ -131,6 +135,10 @@ shown-fits n = go (leb n 9223372036854775807) refl
     go : (v : Bool) → leb n 9223372036854775807 ≡ v → SFits w64 (shown n)
     go true e = rw (shown-small n (leb-true _ _ e)) (record { sfits = omega (arith, leb-true n 9223372036854775807 e) })
     go false e = rw (shown-large n (leb-false _ _ e)) (record { sfits = omega arith })
+
+-- a count comes back from its bits
+pub held : (n : ℕ) (z : ℤ) → z ≡ shown n → toZ w64 (ofZ w64 z) ≡ shown n
+held n z e = rw e (toZ-ofZ (shown-fits n))
 
 -- a line of counts, which all fit
 counts-fit : (ns : List ℕ) → AllFit (map shown ns)

@@ -11,11 +11,6 @@ use Rattle.report.specs.Lists.{rowList, Listing, listing, listed, reache
 use Rattle.report.proofs.Lists.{begins, row-put, rows-out, rows-end}
 use Rattle.report.proofs.list.append_list.Statement.{statement}
 use Rattle.report.proofs.list.append_list.Tie as tie
-use Rattle.report.proofs.list.append_list.Reads as reads
-use Rattle.report.proofs.list.append_list.Lts as lts
-use Rattle.report.proofs.buffer.has_room.Reads as has-room-reads
-use Rattle.report.proofs.line.append_row.Reads as append-row-reads
-use Rattle.report.proofs.list.least.Reads as least-reads
 
 abbrev Inv-loop : tie.InvT-loop
 Inv-loop buf₀ word width count table n₀ at₀ left₀ buf n at left =
@@ -26,15 +21,12 @@ Inv-loop buf₀ word width count table n₀ at₀ left₀ buf n at left =
 abbrev μ-loop : tie.MeasureT-loop
 μ-loop buf₀ word width count table n₀ at₀ left₀ buf n at left = left
 
--- src/list.rt:36:9
 least-requires : tie.Need-least-requires Inv-loop μ-loop
 least-requires c κs = search needs
 
--- src/list.rt:38:5
 loop-holds : tie.Need-loop-holds Inv-loop μ-loop
 loop-holds c = (omega (arith, c .least .ensures), refl, refl)
 
--- src/list.rt:39:13
 has-room-requires : tie.Need-has-room-requires Inv-loop μ-loop
 has-room-requires c κs = search needs
 
@@ -47,11 +39,9 @@ same c =
     let a = c .before .before .before .before .args in
     sym (c .loop .inv .2) ∙ ap (λ (s : Listing). listed s (rowList (now (a .word)) (a .width) (a .count))) (begins (a .p) (now (a .buf)) (now (a .table)) _ (c .before .least .ensures))
 
--- src/list.rt:40:13
 same-length : tie.Need-same-length Inv-loop μ-loop
 same-length c = c .before .before .before .loop .inv .1
 
--- src/list.rt:40:13
 returns : tie.Need-returns Inv-loop μ-loop
 unfolding reached
 returns c =
@@ -65,39 +55,30 @@ returns c =
 row-fits : (c : tie.Else1 Inv-loop μ-loop) → let a = c .before .before .before .before .before .before .before .args in c .before .before .before .loop .at + a .width ≤ length (now (a .table))
 row-fits c = leb-true _ _ (sym (c .before .has-room .ensures) ∙ not-false _ (c .if1 .left))
 
--- src/list.rt:42:19
 add-end : tie.Need-add-end Inv-loop μ-loop
 add-end c = omega (arith, row-fits c)
 
--- src/list.rt:43:38
 mul-append-row : tie.Need-mul-append-row Inv-loop μ-loop
 mul-append-row c = search needs
 
--- src/list.rt:43:38
 sub-append-row : tie.Need-sub-append-row Inv-loop μ-loop
 sub-append-row c = search needs
 
--- src/list.rt:43:38
 part-append-row-start : tie.Need-part-append-row-start Inv-loop μ-loop
 part-append-row-start c = search needs
 
--- src/list.rt:43:38
 part-append-row-end : tie.Need-part-append-row-end Inv-loop μ-loop
 part-append-row-end c = row-fits (c .before)
 
--- src/list.rt:43:9
 append-row-requires : tie.Need-append-row-requires Inv-loop μ-loop
 append-row-requires c κs = search needs
 
--- src/list.rt:45:9
 sub-left : tie.Need-sub-left Inv-loop μ-loop
 sub-left c = search needs
 
--- src/list.rt:38:5
 loop-less : tie.Need-loop-less Inv-loop μ-loop
 loop-less c = search needs
 
--- src/list.rt:38:5
 loop-again : tie.Need-loop-again Inv-loop μ-loop
 loop-again c =
     let e = c .before .before .before .before .before in
@@ -106,11 +87,9 @@ loop-again c =
     let q = c .before .before .append-row in
     (row-fits e, q .kept .0 ∙ l .inv .1, l .inv .2 ∙ row-put (l .n) (l .at) (a .width) (l .left) (l .buf) (now (a .word)) (now (a .table)) (q .result) (q .last .0) (row-fits e) (e .before .before .loop-test .taken) (q .ensures))
 
--- src/list.rt:32:1
 same-length-2 : tie.Need-same-length-2 Inv-loop μ-loop
 same-length-2 c = c .before .loop .inv .1
 
--- src/list.rt:32:1
 returns-2 : tie.Need-returns-2 Inv-loop μ-loop
 unfolding reached
 returns-2 c =

@@ -6,8 +6,6 @@ use mathlib.Core.Path.{sym, _∙_}
 use Rattle.report.proofs.Lists.{shown-small, shown-large}
 use Rattle.report.proofs.list.shown.Statement.{statement}
 use Rattle.report.proofs.list.shown.Tie as tie
-use Rattle.report.proofs.list.shown.Reads as reads
-use Rattle.report.proofs.list.shown.Lts as lts
 
 cast-result : tie.Need-cast-result
 cast-result c = search needs
