@@ -1,7 +1,7 @@
 // A figure's listing (document 01, "Listing").
 ghost use mathlib.Core.Path.{_≡_};
 ghost use Prim.Native.Nat.{_≤_};
-ghost use lib.ListN.{length, take, drop};
+ghost use lib.ListN.{length, take};
 ghost use Rattle.report.specs.Output.{output};
 ghost use Rattle.report.specs.Lists.{appendedEach, listLines};
 ghost use Rattle.bac6_listing.specs.Figures.{figureLists, figureLines, figureText};

@@ -1,9 +1,9 @@
 -- The listing of what `read` answers and leaves, from a table of 8,192 zeros, is the text's.
-use mathlib.Core.Path.{_≡_, refl, ap, sym, _∙_}
+use mathlib.Core.Path.{_≡_, ap}
 use mathlib.Core.List.{List}
 use Prim.Native.Nat.{ℕ}
 use lib.IntN.{ℤ, pos}
-use lib.ListN.{length, replicate, length-replicate}
+use lib.ListN.{length, length-replicate}
 use Rattle.report.specs.Lists.{textOf}
 use Rattle.bac6_text.specs.Answer.{figureAnswer, tableAfter}
 use Rattle.bac6.specs.Answers.{answerOf}

@@ -1,20 +1,17 @@
 -- Laws of lists put down row by row, by the definition's cases; a text that fits is put whole.
-use mathlib.Core.Path.{_≡_, refl, ap, sym, _∙_}
-use mathlib.Core.List.{List, [], _∷_, _++_, append-assoc}
-use mathlib.Core.Bool.{Bool, true, false}
+use mathlib.Core.Path.{_≡_, ap, sym, _∙_}
+use mathlib.Core.List.{List, [], _∷_}
 use Prim.Native.Nat.{ℕ, zero, suc, _+_, _-_, _*_, _≤_, _<_, min}
 use native.Mathlib.Nat.{suc-mul, zero-mul}
 use native.Mathlib.Omega.{arith}
 use borrow.Author.Tests.{le-leb, lt-leb}
-use lib.Dec.{leb}
 use lib.IntN.{ℤ, pos, negsuc}
-use lib.ListN.{length, take, drop, length-append, length-drop, drop-of-length-le}
+use lib.ListN.{length, take, drop, length-drop, drop-of-length-le}
 use lib.Seq.{drop-drop, drop-nil}
 use Rattle.report.specs.Text.{line}
 use Rattle.report.specs.Output.{Output, output, appended}
-use Rattle.report.specs.Lists.{appendedEach, textOf, RowList, rowList, rowLines, listLines, shown, Listing, listing, listed, reached}
+use Rattle.report.specs.Lists.{appendedEach, rowList, rowLines, shown, Listing, listing, listed, reached}
 use Rattle.report.specs.declared.list.Progress.{Progress}
-use Rattle.report.proofs.Appending.{split, put, filled-length, filled, filled-then, within}
 
 pub shown-small : (n : ℕ) → n ≤ 9223372036854775807 → shown n ≡ pos n
 unfolding shown

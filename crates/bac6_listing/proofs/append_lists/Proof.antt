@@ -1,5 +1,5 @@
 -- `append_lists` puts the lists one after the other, each by `append_list`.
-use mathlib.Core.Path.{_≡_, ap, _∙_}
+use mathlib.Core.Path.{ap, _∙_}
 use denote.Ref.{now}
 use Rattle.lexer.specs.Bytes.{bytes}
 use Rattle.report.specs.Output.{output}

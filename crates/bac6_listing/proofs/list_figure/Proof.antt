@@ -1,5 +1,5 @@
 -- `list_figure` puts a refusal's line, or the total and the lists.
-use mathlib.Core.Path.{_≡_, ap, sym, _∙_}
+use mathlib.Core.Path.{_≡_}
 use mathlib.Core.List.{[], _∷_, map}
 use denote.Ref.{now}
 use mir.Syntax.{w64}

@@ -1,5 +1,5 @@
 -- `list_text` lists what `read` answers and leaves.
-use mathlib.Core.Path.{_≡_, ap, _∙_}
+use mathlib.Core.Path.{ap, _∙_}
 use denote.Ref.{now}
 use Rattle.report.specs.Output.{output}
 use Rattle.report.specs.Lists.{appendedEach}
