@@ -8,23 +8,11 @@ use lib.Dec.{eqb}
 use Rattle.lexer.specs.Tokens.{Lexeme, lexAt}
 use Rattle.chunks.specs.declared.cursor.Cursor.{Cursor}
 use Rattle.chunks.specs.Readers.{Got, got, refused, Reader, after, pure}
-use Rattle.chunks.specs.Cursors.{reads, from}
+use Rattle.chunks.specs.Cursors.{reads}
 use Rattle.chunks.proofs.Steps.{from-off, reads-on}
-use Rattle.chunks.proofs.Many.{not-got}
+use Rattle.chunks.proofs.Many.{not-got, got-value}
 use Rattle.chunks.proofs.Given.{Gives}
 use Rattle.bac6_bones.specs.Into.{Yields}
-
--- after a refusal any value is as good as another
-pub reads-same : {A : Type 0} (text : List ℕ) (r : Cursor) (a b : A) → (r .refusal ≡ 0 → a ≡ b) → reads text r a ≡ reads text r b
-unfolding reads
-reads-same text r a b h = go (eqb (r .refusal) 0) refl
-  where
-    go : (v : Bool) → eqb (r .refusal) 0 ≡ v → reads text r a ≡ reads text r b
-    go true e = ap (reads text r) (h (eqb-true _ _ e))
-    go false e = from-off text r (pure a) (eqb-false _ _ e) ∙ sym (from-off text r (pure b) (eqb-false _ _ e))
-
-got-value : {A : Type 0} (a b : A) (l k : List Lexeme) → got a l ≡ got b k → a ≡ b
-got-value a b l k e = cc
 
 got-left : {A : Type 0} (a b : A) (l k : List Lexeme) → got a l ≡ got b k → l ≡ k
 got-left a b l k e = cc

@@ -1,10 +1,7 @@
 -- A group, by its name and its faces.
 use mathlib.Core.Path.{_≡_, refl, ap, sym, _∙_}
 use mathlib.Core.List.{List, [], _∷_}
-use mathlib.Core.Bool.{Bool, true, false}
 use Prim.Native.Nat.{ℕ, _+_, _*_, _^_, _≤_, _<_, min}
-use borrow.Author.Tests.{eqb-true, eqb-false}
-use lib.Dec.{eqb}
 use mir.Syntax.{w64}
 use mir.Val.{toZ}
 use lib.IntN.{ℤ, pos}
@@ -18,7 +15,7 @@ use Rattle.chunks.specs.Places.{placeOf, optionalName}
 use Rattle.chunks.specs.Folds.{folded, stepped, rowStep}
 use Rattle.lexer.proofs.Signed.{bits-pos}
 use Rattle.chunks.proofs.Tables.{overlayAt-same}
-use Rattle.chunks.proofs.Steps.{join, seq, from-off, from-same}
+use Rattle.chunks.proofs.Steps.{join, seq, reads-same, from-same}
 use Rattle.chunks.proofs.Binds.{after-after, after-same, then-assoc, then-bind}
 use Rattle.chunks.proofs.Many.{Keeps, Takes, takes-keeps, pure-keeps, bind-keeps, bind-takes, then-keeps, then-takes, keyword-takes, word-takes, opened-takes, closed-keeps, string-takes, optional-keeps, many-keeps}
 use Rattle.bac6_text.specs.Figure.{Group}
@@ -81,9 +78,4 @@ module _ (i : ℕ) (ns : List ℤ) (s : ℕ × List ℤ) where
 
     -- where a name was not read, its row is free
     pub group-joined : (ns′ : List ℤ) → (d .refusal ≡ 0 → ns′ ≡ overlayAt (i * 2) (pos (v .0) ∷ pos (v .1) ∷ []) ns) → reads text r ((i + 1, ns′), x) ≡ from text c (stepped groupStep groupTail ((i, ns), s))
-    unfolding reads
-    group-joined ns′ h = go (eqb (r .refusal) 0) refl
-      where
-        go : (b : Bool) → eqb (r .refusal) 0 ≡ b → reads text r ((i + 1, ns′), x) ≡ from text c (stepped groupStep groupTail ((i, ns), s))
-        go true o = rw (h (alive text d r _ x e (eqb-true _ _ o))) group-exact
-        go false o = from-off text r (pure ((i + 1, ns′), x)) (eqb-false _ _ o) ∙ sym (from-off text r (pure ((i + 1, overlayAt (i * 2) (pos (v .0) ∷ pos (v .1) ∷ []) ns), x)) (eqb-false _ _ o)) ∙ group-exact
+    group-joined ns′ h = reads-same text r _ _ (λ o. rw (h (alive text d r _ x e o))) ∙ group-exact

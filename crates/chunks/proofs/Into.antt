@@ -1,5 +1,5 @@
 -- Laws of readers that write over a table.
-use mathlib.Core.Path.{_≡_, ap, sym, _∙_}
+use mathlib.Core.Path.{_≡_, refl, ap, sym, _∙_}
 use mathlib.Core.List.{List, _∷_}
 use mathlib.Core.Bool.{Bool, true, false}
 use Prim.Native.Nat.{ℕ, suc, _+_, _-_, _≤_, _<_, min}
@@ -11,15 +11,15 @@ use lib.ListN.{length, set}
 use Rattle.lexer.specs.Tokens.{Lexeme, lexAt}
 use Rattle.lexer.specs.Numbers.{Form, INT}
 use Rattle.chunks.specs.declared.cursor.Cursor.{Cursor}
-use Rattle.chunks.specs.Readers.{Got, got, Reader, after, _>>=_, _>>_, pure, number, numbers, cells, open-bracket, wordOf, rowOf, openedOf, closed, many}
+use Rattle.chunks.specs.Readers.{Got, got, Reader, after, _>>=_, _>>_, pure, number, numbers, cells, open-bracket, wordOf, rowOf, openedOf, closed, many, many⁺}
 use Rattle.chunks.specs.Cursors.{from, reads, overlayAt}
-use Rattle.chunks.specs.Into.{flat, numbersInto, cellsInto, rowInto, rowTail, rowsInto}
+use Rattle.chunks.specs.Into.{flat, numbersInto, cellsInto, rowInto, rowTail, rowsInto, someInto}
 use Rattle.chunks.proofs.Steps.{join, seq, from-same, from-bind, after-reads}
 use Rattle.chunks.proofs.Binds.{after-after, after-same, after-when, then-bind, then-same, then-assoc, closed-map}
 use Rattle.chunks.specs.Branches.{itemOf}
 use Rattle.chunks.proofs.Many.{Keeps, takes-keeps, pure-keeps, bind-keeps, then-keeps, then-takes, closed-keeps, word-takes, cells-keep, row-of-takes}
 use Rattle.chunks.proofs.Counts.{falls}
-use Rattle.chunks.proofs.Given.{then-gives, closed-gives, numbers-give, cells-give}
+use Rattle.chunks.proofs.Given.{then-gives, closed-gives, numbers-give, cells-give, row-of-gives}
 use Rattle.chunks.proofs.Branches.{items-end, items-more, item-takes}
 use Rattle.chunks.proofs.Tables.{overlayAt-none, overlayAt-cons, overlayAt-past, overlayAt-append, overlayAt-same}
 
@@ -147,3 +147,31 @@ module _ (k : List ℕ) (lead : ℕ) (f : Form) (w : ℕ) where
       -- fewer tokens are left
       pub rows-fall : e .refusal ≡ 0 → length (lexAt text (e .at)) < length (lexAt text (c .at))
       rows-fall o = falls text c e (itemOf >> rowTail k lead f w i t) u (then-takes item-takes (tail-keeps k lead f w i t)) (seq text c d e v u itemOf (rowTail k lead f w i t) p q) o
+
+-- ---- one row or more
+
+module _ (k : List ℕ) (lead : ℕ) (f : Form) (w i : ℕ) (t : List ℤ) where
+  -- the rows after the first, counted with it
+  others : List ℤ → Reader (ℕ × List ℤ)
+  others t₁ = rowsInto k lead f w (i + (lead + w)) t₁ >>= λ v. pure (v .0 + 1, v .1)
+
+  some-value : (zs : List ℤ) (rs : List (List ℤ)) → length zs ≡ lead + w → _≡_ {A = ℕ × List ℤ} (length (zs ∷ rs), overlayAt i (flat (zs ∷ rs)) t) (length rs + 1, overlayAt (i + (lead + w)) (flat rs) (overlayAt i zs t))
+  unfolding flat
+  some-value zs rs e = rw (← add-one (length rs), overlayAt-append i zs (flat rs) t, e)
+
+  some-parts : (ms : List Lexeme) → someInto k lead f w i t ms ≡ (rowInto k lead f w i t >>= others) ms
+  unfolding someInto many⁺ rowInto rowsInto others _>>=_ pure after
+  some-parts ms =
+      after-after (rowOf k lead f w ms) _ _
+      ∙ after-when (rowOf k lead f w ms) _ _ (λ zs l e. after-after (many (rowOf k lead f w) l) _ _ ∙ after-same (many (rowOf k lead f w) l) _ _ (λ rs m. ap (λ (v : ℕ × List ℤ). got v m) (some-value zs rs (row-of-gives k lead f w ms zs l e))) ∙ sym (after-after (many (rowOf k lead f w) l) _ _))
+      ∙ sym (after-after (rowOf k lead f w ms) _ _)
+
+  pub some-join : (text : List ℕ) (c d e : Cursor) (t₁ t₂ : List ℤ) (n j : ℕ) → reads text d t₁ ≡ from text c (rowInto k lead f w i t) → min j (length t₁) ≡ min (i + (lead + w)) (length t₁) → reads text e (n, t₂) ≡ from text d (rowsInto k lead f w j t₁) → reads text e (n + 1, t₂) ≡ from text c (someInto k lead f w i t)
+  unfolding reads others
+  some-join text c d e t₁ t₂ n j p h q =
+      join text c d e t₁ (n + 1, t₂) (rowInto k lead f w i t) others p
+      (join text d e e (n, t₂) (n + 1, t₂) (rowsInto k lead f w (i + (lead + w)) t₁) (λ (v : ℕ × List ℤ). pure (v .0 + 1, v .1)) (q ∙ from-same text d _ _ same) refl)
+      ∙ sym (from-same text c _ _ some-parts)
+    where
+      same : (ms : List Lexeme) → rowsInto k lead f w j t₁ ms ≡ rowsInto k lead f w (i + (lead + w)) t₁ ms
+      same ms = rows-all k lead f w j t₁ ms ∙ rows-index k lead f w 0 j (i + (lead + w)) t₁ ms h ∙ sym (rows-all k lead f w (i + (lead + w)) t₁ ms)

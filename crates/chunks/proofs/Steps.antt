@@ -1,20 +1,19 @@
 -- How cursors join: one token, and one reader after another.
 use mathlib.Core.Path.{_≡_, refl, ap, sym, _∙_}
-use mathlib.Core.List.{List, [], _∷_}
+use mathlib.Core.List.{List, []}
 use mathlib.Core.Bool.{Bool, true, false, false≢true}
-use Prim.Native.Nat.{ℕ, zero, suc, _+_, _≤_, _<_}
+use Prim.Native.Nat.{ℕ}
 use native.Mathlib.Omega.{arith}
 use borrow.Author.Tests.{eq-eqb, ne-eqb, eqb-true, eqb-false}
 use lib.Dec.{eqb}
-use lib.ListN.{length}
-use Rattle.lexer.specs.Tokens.{Token, opening, closing, ending, quoted, plain, Lexeme, lexeme, lexAt}
+use Rattle.lexer.specs.Tokens.{Token, ending, Lexeme, lexeme, lexAt}
 use Rattle.lexer.specs.declared.token.Kind.{Kind}
 use Rattle.lexer.specs.declared.token.Kind.the-variants.{Opening, Closing, Quoted, Plain, Ending}
 use Rattle.lexer.specs.declared.token.Span.{Span}
-use Rattle.lexer.specs.Answers.{Next, lexemeOf, after as tokensAfter, isEnding, tokenOf as spanToken}
+use Rattle.lexer.specs.Answers.{Next, lexemeOf, isEnding, tokenOf as spanToken}
 use Rattle.lexer.proofs.Spans.{after-more}
 use Rattle.chunks.specs.declared.cursor.Cursor.{Cursor}
-use Rattle.chunks.specs.Readers.{Got, got, refused, Reader, after, _>>=_, _>>_, pure, stop, tokenOf, rest, isEnd, take-if}
+use Rattle.chunks.specs.Readers.{Got, got, refused, Reader, after, _>>=_, _>>_, pure, stop, tokenOf, rest, take-if}
 use Rattle.chunks.specs.Cursors.{reads, from}
 
 -- ---- cursors
@@ -32,6 +31,15 @@ from-off text c r e = rw (ne-eqb _ _ e, from)
 pub reads-on : {A : Type 0} (text : List ℕ) (c : Cursor) (a : A) → c .refusal ≡ 0 → reads text c a ≡ got a (lexAt text (c .at))
 unfolding reads pure
 reads-on text c a e = from-on text c (pure a) e
+
+-- after a refusal any value is as good as another
+pub reads-same : {A : Type 0} (text : List ℕ) (r : Cursor) (a b : A) → (r .refusal ≡ 0 → a ≡ b) → reads text r a ≡ reads text r b
+unfolding reads
+reads-same text r a b h = go (eqb (r .refusal) 0) refl
+  where
+    go : (v : Bool) → eqb (r .refusal) 0 ≡ v → reads text r a ≡ reads text r b
+    go true e = ap (reads text r) (h (eqb-true _ _ e))
+    go false e = from-off text r (pure a) (eqb-false _ _ e) ∙ sym (from-off text r (pure b) (eqb-false _ _ e))
 
 pub passed : {A : Type 0} (text : List ℕ) (c : Cursor) (a : A) (r : Reader A) → (c .refusal ≡ 0 → ⊥) → reads text c a ≡ from text c r
 unfolding reads

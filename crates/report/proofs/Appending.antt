@@ -86,10 +86,10 @@ split n buf a b h =
     ∙ rw (put n buf a fits, put (n + length a) (filled n buf a) b fits', filled-twice n buf a b h) (ap (λ (k : ℕ). output k (filled n buf (a ++ b))) e)
 
 -- how many bytes are filled, how many there are, and those that are filled
-abbrev count : Output → ℕ
+abbrev pub count : Output → ℕ
 count (output n buf) = n
 
-abbrev size : Output → ℕ
+abbrev pub size : Output → ℕ
 size (output n buf) = length buf
 
 abbrev content : Output → List ℕ

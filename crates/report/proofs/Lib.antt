@@ -2,4 +2,6 @@
 pub mod Appending
 pub mod Numerals
 pub mod Lines
+pub mod Lists
+pub mod Texts
 pub mod Examples

@@ -1,0 +1,33 @@
+-- A figure's listing (document 01, "Listing"): its lists' words, how many numbers a row has, how many rows there are.
+use mathlib.Core.List.{List, [], _∷_, map}
+use mathlib.Core.Bool.{true, false}
+use Prim.Native.Nat.{ℕ}
+use lib.Dec.{eqb}
+use lib.IntN.{ℤ}
+use Rattle.lexer.specs.Bytes.{bytes}
+use Rattle.report.specs.Text.{line}
+use Rattle.report.specs.Lists.{RowList, rowList, listLines, shown, textOf}
+use Rattle.bac6.specs.declared.setting.FigureAnswer.{FigureAnswer}
+
+-- in the table's order; an owner for each point
+unfoldable pub figureLists : FigureAnswer → List RowList
+figureLists a =
+    rowList (bytes "name") 2 1
+    ∷ rowList (bytes "texture") 2 (a .textures)
+    ∷ rowList (bytes "colour") 3 (a .colours)
+    ∷ rowList (bytes "material") 9 (a .materials)
+    ∷ rowList (bytes "point") 3 (a .points)
+    ∷ rowList (bytes "normal") 3 (a .normals)
+    ∷ rowList (bytes "bone") 14 (a .bones)
+    ∷ rowList (bytes "owner") 1 (a .points)
+    ∷ rowList (bytes "uv") 2 (a .uvs)
+    ∷ rowList (bytes "face") 11 (a .faces)
+    ∷ rowList (bytes "group") 2 (a .groups)
+    ∷ []
+
+-- the total and the lists; or a refusal's number and place
+unfoldable pub figureLines : FigureAnswer → List ℤ → List (List ℕ)
+figureLines a zs = elim (eqb (a .refusal) 0) [ true ↦ line (bytes "figure") (map shown (a .total ∷ [])) ∷ listLines (figureLists a) zs | false ↦ line (bytes "refused") (map shown (a .refusal ∷ a .place ∷ [])) ∷ [] ]
+
+unfoldable pub figureText : FigureAnswer → List ℤ → List ℕ
+figureText a zs = textOf (figureLines a zs)
