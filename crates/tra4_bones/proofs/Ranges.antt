@@ -1,6 +1,6 @@
 -- Laws of ranges, range by range: each definition at an index is its part for the two numbers there, and the same two on.
 use mathlib.Core.Path.{_≡_, refl, ap, ap₂, sym, _∙_}
-use mathlib.Core.List.{List, [], _∷_, _++_, append-assoc}
+use mathlib.Core.List.{List, [], _∷_, _++_, append-assoc, append-nil}
 use Prim.Native.Nat.{ℕ, suc, _+_, _*_, _-_, _≤_, _<_}
 use native.Mathlib.Omega.{arith}
 use lib.Dec.{T}
@@ -71,7 +71,7 @@ split-two ranges i h =
     drop-cons ranges i (pos 0) (omega arith)
     ∙ ap (λ (l : List ℤ). firstAt ranges i ∷ l) (ap (λ (n : ℕ). drop n ranges) one ∙ drop-cons ranges (i + 1) (pos 0) h ∙ ap (λ (n : ℕ). countAt ranges i ∷ drop n ranges) two)
 
--- what is left of a table's ranges from index i on, where the ranges before have been laid and the next row is known
+-- the ranges before index i have been laid, and the next row is free: to lay those from i on gives what all gave at first
 pub record Left (ranges₀ keys table₀ : List ℤ) (row : ℕ) (i : ℕ) (ranges table : List ℤ) (next : ℕ) : Type 0 where
   pub width : length ranges ≡ length ranges₀
   pub span : length table ≡ length table₀
@@ -89,10 +89,6 @@ module _ (ranges₀ keys table₀ : List ℤ) (row i : ℕ) (ranges table : List
     pub left-numbers : ranges ≡ renumbered row ranges₀
     unfolding renumbered
     left-numbers = sym (sym (h .numbers) ∙ rw (drop-of-length-le ranges e, take-all i ranges e) (append-nil ranges))
-      where
-        append-nil : (l : List ℤ) → l ++ [] ≡ l
-        append-nil [] = refl
-        append-nil (x ∷ l) = ap (λ (m : List ℤ). x ∷ m) (append-nil l)
 
     pub left-content : table ≡ overlayAt (row * 2) (gathered ranges₀ keys) table₀
     unfolding gathered
