@@ -1,3 +1,5 @@
 -- Laws that belong to no one function.
+pub mod Ranges
+pub mod Gathered
 pub mod Repeats
 pub mod Lists

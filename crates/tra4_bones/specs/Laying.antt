@@ -10,11 +10,15 @@ unfoldable pub magnitude : ℤ → ℕ
 magnitude (pos n) = n
 magnitude (negsuc n) = 0
 
--- the rows of two numbers that some ranges name, range by range
+-- the rows of two numbers that a range names
+unfoldable pub rangeRows : ℤ → ℤ → List ℤ → List ℤ
+rangeRows f c keys = take (magnitude c * 2) (drop (magnitude f * 2) keys)
+
+-- those that some ranges name, range by range
 unfoldable pub gathered : List ℤ → List ℤ → List ℤ
 gathered [] keys = []
 gathered (f ∷ []) keys = []
-gathered (f ∷ c ∷ ranges) keys = take (magnitude c * 2) (drop (magnitude f * 2) keys) ++ gathered ranges keys
+gathered (f ∷ c ∷ ranges) keys = rangeRows f c keys ++ gathered ranges keys
 
 -- how many they are
 unfoldable pub rangesTotal : List ℤ → ℕ
@@ -28,8 +32,14 @@ renumbered row [] = []
 renumbered row (f ∷ []) = f ∷ []
 renumbered row (f ∷ c ∷ ranges) = pos row ∷ c ∷ renumbered (row + magnitude c) ranges
 
--- every range lies within the first n rows
+-- a range lies within the first n rows
+pub record RangeIn (n : ℕ) (f c : ℤ) : Type 0 where
+  pub first-is : f ≡ pos (magnitude f)
+  pub count-is : c ≡ pos (magnitude c)
+  pub below : magnitude f + magnitude c ≤ n
+
+-- every range does
 unfoldable pub Within : ℕ → List ℤ → Type 0
 Within n [] = Unit {0}
 Within n (f ∷ []) = Unit {0}
-Within n (f ∷ c ∷ ranges) = (f ≡ pos (magnitude f)) × (c ≡ pos (magnitude c)) × (magnitude f + magnitude c ≤ n) × Within n ranges
+Within n (f ∷ c ∷ ranges) = RangeIn n f c × Within n ranges
