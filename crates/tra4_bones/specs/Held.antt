@@ -5,12 +5,12 @@ use mathlib.Core.Bool.{Bool, true, false}
 use mathlib.Core.Option.{Option, none, some}
 use Prim.Native.Nat.{ℕ, _+_, _*_, _≤_, _<_}
 use lib.IntN.{ℤ, pos}
-use lib.ListN.{length, getD, take, drop}
+use lib.ListN.{length, getD, set, take, drop}
 use Rattle.lexer.specs.Tokens.{lexAt}
 use Rattle.chunks.specs.declared.cursor.Cursor.{Cursor}
 use Rattle.chunks.specs.Readers.{Got}
 use Rattle.chunks.specs.Cursors.{reads}
-use Rattle.chunks.specs.Fields.{isSome, kindFrom}
+use Rattle.chunks.specs.Fields.{isSome, kindFrom, insideAt}
 use Rattle.chunks.specs.Into.{flat}
 use Rattle.tra4_text.specs.Movement.{Channel}
 use Rattle.tra4_text.specs.Grammar.{channelKinds, keysIn}
@@ -44,7 +44,19 @@ pub record Reached {A : Type 0} (text : List ℕ) (r : Cursor) (g : Got A) (P : 
   pub read : reads text r value ≡ g
   pub kept : r .refusal ≡ 0 → P value
 
+-- the keys of channel k, which has not been read, whatever other channels the code's state stands for
+abbrev pub KeysRead : List ℕ → ℕ → ℕ → List ℤ × List ℤ × ℕ × Bool → Cursor → List ℤ × List ℤ × ℕ × Bool → Type 0
+KeysRead text at k s r t =
+    (fs : List (Option Channel)) (seen : List Bool) → length fs ≡ 10 → getD fs k none ≡ none → Held fs seen (s .0) (s .1) (s .2) (s .3) → Reached text r (insideAt channelKinds k (lexAt text at)) (λ c. Held (set fs k (some c)) (set seen k true) (t .0) (t .1) (t .2) (t .3))
+
 -- one chunk after its (, whatever channels the code's state stands for
 abbrev pub ChunkRead : List ℕ → ℕ → List Bool × List ℤ × List ℤ × ℕ × Bool → Cursor → List Bool × List ℤ × List ℤ × ℕ × Bool → Type 0
 ChunkRead text at s r t =
     (fs : List (Option Channel)) → length fs ≡ 10 → Held fs (s .0) (s .1) (s .2) (s .3) (s .4) → Reached text r (kindFrom channelKinds fs (lexAt text at)) (λ gs. Held gs (t .0) (t .1) (t .2) (t .3) (t .4))
+
+-- every channel has been read
+pub record AllHeld (ranges keys : List ℤ) (n : ℕ) (over : Bool) : Type 0 where
+  pub channels : List Channel
+  pub ten : length channels ≡ 10
+  pub seen : List Bool
+  pub held : Held (map some channels) seen ranges keys n over

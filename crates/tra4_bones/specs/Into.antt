@@ -1,19 +1,19 @@
 -- What the code keeps of a movement's bones: how many there are, their rows, and their keys by bone and channel number.
-use mathlib.Core.List.{List}
+use mathlib.Core.List.{List, _∷_}
 use mathlib.Core.Bool.{Bool, true, false}
 use mathlib.Core.Option.{Option, none, some}
 use Prim.Native.Nat.{ℕ, _+_, _*_}
 use lib.Dec.{leb}
-use lib.IntN.{ℤ}
+use lib.IntN.{ℤ, pos}
 use lib.ListN.{length}
 use Rattle.chunks.specs.Readers.{Reader, _>>=_, pure}
 use Rattle.chunks.specs.Cursors.{overlayAt}
 use Rattle.chunks.specs.Into.{flat}
 use Rattle.chunks.specs.Folds.{fold}
-use Rattle.tra4_text.specs.Movement.{Bone}
+use Rattle.tra4_text.specs.Movement.{Channel, Bone}
 use Rattle.tra4_text.specs.Grammar.{repeated, repeated⁺, bone}
 use Rattle.tra4_text.specs.Rules.{allKeys}
-use Rattle.tra4_text.specs.Layout.{boneRow}
+use Rattle.tra4_text.specs.Layout.{keyRanges, boneRow}
 
 -- the rows of bones in their table, how many keys they have, and those in theirs; none where there are more keys than 4,096, and then the tables are free
 abbrev pub Kept : Type 0
@@ -33,6 +33,15 @@ boneKept i none b = none
 boneKept i (some s) b =
     elim (leb (s .1 + keyCount b) 4096) [
       | true ↦ some (overlayAt i (boneRow (s .1) b) (s .0), s .1 + keyCount b, overlayAt (s .1 * 2) (flat (allKeys (b .channels))) (s .2))
+      | false ↦ none
+    ]
+
+-- the same of a bone by its name's place and length and its channels
+unfoldable pub keptBy : ℕ → Kept → ℕ × ℕ → List Channel → Kept
+keptBy i none name cs = none
+keptBy i (some s) name cs =
+    elim (leb (s .1 + length (allKeys cs)) 4096) [
+      | true ↦ some (overlayAt i (pos (name .0) ∷ pos (name .1) ∷ keyRanges (s .1) cs) (s .0), s .1 + length (allKeys cs), overlayAt (s .1 * 2) (flat (allKeys cs)) (s .2))
       | false ↦ none
     ]
 

@@ -1,5 +1,6 @@
 // The bones of a movement, their keys laid by channel number.
 mod bone;
+mod channel;
 mod laying;
 mod list;
 

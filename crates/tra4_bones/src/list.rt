@@ -39,7 +39,7 @@ fn next_bone(
     Boned {
         cursor: d,
         count: count + 1,
-        keys: b.keys,
+        keys: b.count,
         over: b.over,
     }
 }

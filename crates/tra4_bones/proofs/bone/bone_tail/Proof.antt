@@ -1,11 +1,85 @@
+-- `bone_tail` reads a name and channels, and sets the bone down where all is well.
+use mathlib.Core.Path.{refl, _∙_}
+use native.Mathlib.Omega.{arith}
+use Rattle.chunks.proofs.Within.{place-bounds}
+use Rattle.tra4_bones.proofs.Keeping.{name-refused, channels-refused, bone-read, over-kept, all-some, all-ten, all-held}
+use borrow.Author.Needs.{needs}
 use Rattle.tra4_bones.proofs.bone.bone_tail.Statement.{statement}
 use Rattle.tra4_bones.proofs.bone.bone_tail.Tie as tie
-use Rattle.tra4_bones.proofs.bone.bone_tail.Reads as reads
-use Rattle.tra4_bones.proofs.bone.bone_tail.Lts as lts
 
--- src/bone.rt:18:1
+optional-name-requires : tie.Need-optional-name-requires
+optional-name-requires c κs = search needs
+
 returns : tie.Need-returns
-returns c = ?
+returns c = (name-refused _ _ _ _ _ _ (c .before .before .before .optional-name .ensures) _ (c .if1 .taken), c .before .before .before .before .before .pre .0)
+
+slice-aggregate-channels : tie.Need-slice-aggregate-channels
+slice-aggregate-channels c = search needs
+
+slice-aggregate-channels-2 : tie.Need-slice-aggregate-channels-2
+slice-aggregate-channels-2 c = search needs
+
+channels-requires : tie.Need-channels-requires
+channels-requires c κs = search needs
+
+same-length : tie.Need-same-length
+same-length c = search needs
+
+returns-2 : tie.Need-returns-2
+returns-2 c =
+    let k = c .before .before .before .before .before .before .channels .ensures in
+    (channels-refused _ _ _ _ _ _ (c .before .before .before .before .before .before .before .before .before .before .before .before .before .optional-name .ensures) _ (k .value) (k .read) (c .before .before .before .before .before .before .before .before .before .before .if1 .left) _ (c .if2 .taken), c .before .before .before .before .before .before .before .before .before .before .before .before .before .before .before .pre .0)
+
+same-length-2 : tie.Need-same-length-2
+same-length-2 c = search needs
+
+returns-3 : tie.Need-returns-3
+returns-3 c =
+    let k = c .before .before .before .before .before .before .before .channels .ensures in
+    (bone-read _ _ _ _ _ _ (c .before .before .before .before .before .before .before .before .before .before .before .before .before .before .optional-name .ensures) _ (k .value) (k .read) (c .before .before .before .before .before .before .before .before .before .before .before .if1 .left) _ (over-kept _ _ _ _ _ _ _ _ _ _ (c .if3 .taken)), c .before .before .before .before .before .before .before .before .before .before .before .before .before .before .before .before .pre .0)
+
+slice-aggregate-set-bone : tie.Need-slice-aggregate-set-bone
+slice-aggregate-set-bone c = search needs
+
+set-bone-requires : tie.Need-set-bone-requires
+set-bone-requires c κs =
+    let k = c .before .before .before .before .before .before .before .before .before .before .before .channels .ensures in
+    let o = c .before .before .before .before .before .if2 .left in
+    let h = place-bounds _ _ _ _ (c .before .before .before .before .before .before .before .before .before .before .before .before .before .before .before .before .before .before .optional-name .ensures) (c .before .before .before .before .before .before .before .before .before .before .before .before .before .before .before .if1 .left) in
+    (all-held _ _ _ (k .value) (k .read) o (k .kept o), c .before .before .before .before .before .before .before .before .before .before .before .before .before .before .before .before .before .before .before .before .pre .0, omega arith, omega arith)
+
+same-length-3 : tie.Need-same-length-3
+same-length-3 c = search needs
+
+same-length-4 : tie.Need-same-length-4
+same-length-4 c = search needs
+
+same-length-5 : tie.Need-same-length-5
+same-length-5 c = search needs
+
+returns-4 : tie.Need-returns-4
+returns-4 c =
+    let k = c .before .before .before .before .before .before .before .before .before .before .before .before .before .before .before .channels .ensures in
+    let o = c .before .before .before .before .before .before .before .before .before .if2 .left in
+    let s = c .before .before .before .set-bone .ensures in
+    (rw (s .1 .0, c .before .before .before .before .before .before .before .before .if3 .left) (bone-read _ _ _ _ _ _ (c .before .before .before .before .before .before .before .before .before .before .before .before .before .before .before .before .before .before .before .before .before .before .optional-name .ensures) _ (k .value) (k .read) (c .before .before .before .before .before .before .before .before .before .before .before .before .before .before .before .before .before .before .before .if1 .left) _ (s .0 _ _ (all-ten _ _ _ (k .value) (k .read) o) (rw (all-some _ _ _ (k .value) (k .read) o) at (k .kept o)))), s .1 .1)
 
 pub bone-tail-spec : {M : Type 1} → statement M
-bone-tail-spec = tie.close (tie.spec returns)
+bone-tail-spec =
+    tie.close
+    (tie.spec
+    optional-name-requires
+    returns
+    slice-aggregate-channels
+    slice-aggregate-channels-2
+    channels-requires
+    same-length
+    returns-2
+    same-length-2
+    returns-3
+    slice-aggregate-set-bone
+    set-bone-requires
+    same-length-3
+    same-length-4
+    same-length-5
+    returns-4)
