@@ -1,0 +1,7 @@
+// Rules 8 and 14 to 16 of a movement, over tables of rows (document 01, "Refusal numbers").
+mod count;
+mod frame;
+
+pub use count::counts_fault;
+pub use count::total_fault;
+pub use frame::patterns_fault;
