@@ -3,3 +3,5 @@ pub mod Numbers
 pub mod Counts
 pub mod Tables
 pub mod Frames
+pub mod Keys
+pub mod Orders
