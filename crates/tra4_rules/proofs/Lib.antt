@@ -5,3 +5,4 @@ pub mod Tables
 pub mod Frames
 pub mod Keys
 pub mod Orders
+pub mod Laid
