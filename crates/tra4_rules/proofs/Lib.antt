@@ -1,0 +1,8 @@
+-- Laws that belong to no one function.
+pub mod Numbers
+pub mod Counts
+pub mod Tables
+pub mod Frames
+pub mod Keys
+pub mod Orders
+pub mod Laid

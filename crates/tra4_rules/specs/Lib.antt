@@ -1,0 +1,4 @@
+pub mod Rows
+pub mod Frames
+pub mod Keys
+pub mod Order

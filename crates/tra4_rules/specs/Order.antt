@@ -1,0 +1,16 @@
+-- The rules 8 and 14 to 16 in order, over tables of rows.
+use mathlib.Core.List.{List, [], _∷_}
+use Prim.Native.Nat.{ℕ}
+use lib.IntN.{ℤ}
+use Rattle.lexer.specs.Faults.{Fault}
+use Rattle.tra4_text.specs.Rules.{orElse, tooMany, mosts, totalFault, keysFault, patternsFault}
+use Rattle.tra4_rules.specs.Rows.{rowsOf}
+use Rattle.tra4_rules.specs.Keys.{channelsIn}
+
+-- of 8 to 16 the lowest number, with its lowest row, where there are b bones, k keys and p patterns
+unfoldable pub tablesFault : ℤ → ℕ → ℕ → ℕ → List ℤ → List ℤ → List ℤ → Fault
+tablesFault total b k p bones keys patterns =
+    orElse (tooMany 0 (b ∷ k ∷ p ∷ []) mosts)
+    (orElse (totalFault total)
+    (orElse (keysFault total 0 (channelsIn b bones keys))
+    (patternsFault total (rowsOf 3 p patterns))))

@@ -1,0 +1,50 @@
+// Rules 8 and 14: how many rows each list has, and how many frames a movement has.
+ghost use mathlib.Core.Path.{_≡_};
+ghost use mathlib.Core.List.{[], _∷_};
+ghost use Rattle.lexer.specs.Answers.{refusal};
+ghost use Rattle.tra4_text.specs.Rules.{tooMany, mosts, totalFault};
+use lexer::Checked;
+
+// The first list with more rows than it may have.
+pub fn counts_fault(bones: usize, keys: usize, patterns: usize) -> Checked
+    ensures { λ r. ⌜ refusal r ≡ tooMany 0 (bones ∷ keys ∷ patterns ∷ []) mosts ⌝ }
+{
+    if 128 < bones {
+        return Checked::Refused {
+            number: 8,
+            offset: 0,
+        };
+    }
+    if 4096 < keys {
+        return Checked::Refused {
+            number: 8,
+            offset: 1,
+        };
+    }
+    if 256 < patterns {
+        return Checked::Refused {
+            number: 8,
+            offset: 2,
+        };
+    }
+    Checked::Clear
+}
+
+// Whether the total is 1 to 32,767.
+pub fn total_fault(total: i64) -> Checked
+    ensures { λ r. ⌜ refusal r ≡ totalFault total ⌝ }
+{
+    if total < 1 {
+        return Checked::Refused {
+            number: 14,
+            offset: 0,
+        };
+    }
+    if 32767 < total {
+        return Checked::Refused {
+            number: 14,
+            offset: 0,
+        };
+    }
+    Checked::Clear
+}

@@ -1,0 +1,11 @@
+// Rules 8 and 14 to 16 of a movement, over tables of rows (document 01, "Refusal numbers").
+mod count;
+mod frame;
+mod key;
+mod order;
+
+pub use count::counts_fault;
+pub use count::total_fault;
+pub use frame::patterns_fault;
+pub use key::keys_fault;
+pub use order::first_fault;
