@@ -9,7 +9,7 @@ use Rattle.lexer.specs.Numbers.{INT, FLOAT}
 use Rattle.lexer.specs.Tokens.{Lexeme, lex, tokens}
 use Rattle.chunks.specs.Readers.{Name, absent, got, Reader, after, _>>=_, _>>_, pure, close-bracket, opened, head, closed, string, optional, trailing, many, many⁺, row, text-end}
 use Rattle.chunks.proofs.Within.{Placed, tokens-within, optional-within, opened-leaves, head-leaves}
-use Rattle.chunks.proofs.Given.{before, Gives, pure-gives, bind-gives, then-gives}
+use Rattle.chunks.proofs.Given.{before, Gives, any-gives, pure-gives, bind-gives, then-gives}
 use Rattle.bac6_text.specs.Figure.{Figure}
 use Rattle.bac6_text.specs.Grammar.{figure, material, bone, face, group}
 
@@ -37,19 +37,16 @@ nameThen n = do
   pure (record { name = n; textures = textures; colours = colours; materials = materials; points = points; normals = normals; bones = bones; uvs = uvs; polygons = polygons; groups = groups })
 
 -- it keeps the name
-any : {A : Type 0} (r : Reader A) → Gives (λ _. Unit {0}) r
-any r ms a l e = tt
-
 keeps-name : (n : Name) → Gives (λ f. f .name ≡ n) (nameThen n)
 unfolding nameThen
 keeps-name n =
     let P : Figure → Type 0 = λ f. f .name ≡ n in
-    bind-gives (λ _. Unit {0}) P (any _) (λ ts _. bind-gives (λ _. Unit {0}) P (any _) (λ cs _. then-gives P (opened "Materials")
-    (bind-gives (λ _. Unit {0}) P (any _) (λ mats _. then-gives P (opened "Vertices") (then-gives P (opened "coords")
-    (bind-gives (λ _. Unit {0}) P (any _) (λ ps _. then-gives P (opened "normals")
-    (bind-gives (λ _. Unit {0}) P (any _) (λ vs _. then-gives P close-bracket (then-gives P (opened "Bones")
-    (bind-gives (λ _. Unit {0}) P (any _) (λ bs _. bind-gives (λ _. Unit {0}) P (any _) (λ us _. then-gives P (opened "Polygons")
-    (bind-gives (λ _. Unit {0}) P (any _) (λ fs _. bind-gives (λ _. Unit {0}) P (any _) (λ gs _. then-gives P close-bracket (then-gives P text-end
+    bind-gives (λ _. Unit {0}) P (any-gives _) (λ ts _. bind-gives (λ _. Unit {0}) P (any-gives _) (λ cs _. then-gives P (opened "Materials")
+    (bind-gives (λ _. Unit {0}) P (any-gives _) (λ mats _. then-gives P (opened "Vertices") (then-gives P (opened "coords")
+    (bind-gives (λ _. Unit {0}) P (any-gives _) (λ ps _. then-gives P (opened "normals")
+    (bind-gives (λ _. Unit {0}) P (any-gives _) (λ vs _. then-gives P close-bracket (then-gives P (opened "Bones")
+    (bind-gives (λ _. Unit {0}) P (any-gives _) (λ bs _. bind-gives (λ _. Unit {0}) P (any-gives _) (λ us _. then-gives P (opened "Polygons")
+    (bind-gives (λ _. Unit {0}) P (any-gives _) (λ fs _. bind-gives (λ _. Unit {0}) P (any-gives _) (λ gs _. then-gives P close-bracket (then-gives P text-end
     (pure-gives P _ refl))))))))))))))))))
 
 pub name-within : (text : List ℕ) (f : Figure) (l : List Lexeme) → figure (lex text) ≡ got f l → Placed (length text) (f .name)

@@ -1,27 +1,20 @@
 -- What every figure is that the grammar reads: rows as wide as their columns, bones with three numbers each, faces with a vertex and a uv at each corner.
-use mathlib.Core.Path.{_≡_, refl, ap, _∙_}
+use mathlib.Core.Path.{_≡_, refl}
 use mathlib.Core.List.{List, [], _∷_, _++_}
 use mathlib.Core.Logic.{_⊎_, inl, inr}
-use mathlib.Core.Option.{Option, none, some}
 use Prim.Native.Nat.{ℕ, zero, suc}
 use Prim.Native.String.{String}
 use lib.IntN.{ℤ}
-use lib.ListN.{length, getD}
+use lib.ListN.{length}
 use Rattle.lexer.specs.Numbers.{Form, INT, FLOAT}
-use Rattle.chunks.specs.Readers.{Reader, _>>=_, _>>_, pure, close-bracket, opened, closed, numbers, optional, many, row, head, text-end}
-use Rattle.chunks.specs.Fields.{kind, unread, fields, neededOf}
-use Rattle.chunks.proofs.Given.{Gives, Every, pure-gives, bind-gives, then-gives, closed-gives, numbers-give, row-gives, many-gives, some-give, optional-gives, trailing-gives}
-use Rattle.chunks.proofs.FieldCounts.{fields-in-length}
-use Rattle.chunks.proofs.FieldFits.{AllGive, Whole, Stands, fields-fit, fields-stand}
+use Rattle.chunks.specs.Readers.{close-bracket, opened, numbers, optional, many, row, head, text-end}
+use Rattle.chunks.proofs.Given.{Gives, any-gives, Every, pure-gives, bind-gives, then-gives, closed-gives, numbers-give, row-gives, many-gives, some-give, optional-gives, trailing-gives}
 use Rattle.bac6_text.specs.Figure.{Face, Group, Figure}
-use Rattle.bac6_text.specs.Grammar.{BoneField, several, boneKinds, boneOf, numbersIn, bone, faceOf, faceBy, face, group, material, figure}
+use Rattle.bac6_text.specs.Grammar.{bone, faceOf, faceBy, face, group, material, figure}
 use Rattle.bac6_text.specs.Rules.{groupFaces, facesOf}
 use Rattle.bac6_parse.proofs.Fronts.{material-wide}
+use Rattle.bac6_bones.proofs.Whole.{bone-whole}
 use Rattle.bac6_rules.proofs.Laid.{Wide, WholeFace, WholeFaces, WholeBone, WholeBones}
-
--- any value
-any : {A : Type 0} (r : Reader A) → Gives (λ _. Unit {0}) r
-any r ms a l e = tt
 
 -- ---- faces
 
@@ -39,56 +32,14 @@ by-whole m (suc k) = corners-whole m "i4" 4 (inr refl)
 
 face-whole : Gives WholeFace face
 unfolding face
-face-whole = bind-gives (λ _. Unit {0}) WholeFace (any _) (λ m _. bind-gives (λ _. Unit {0}) WholeFace (any _) (λ k _. by-whole m k))
+face-whole = bind-gives (λ _. Unit {0}) WholeFace (any-gives _) (λ m _. bind-gives (λ _. Unit {0}) WholeFace (any-gives _) (λ k _. by-whole m k))
 
 group-whole : Gives (λ g. WholeFaces (g .faces)) group
 unfolding group
 group-whole =
-    bind-gives (λ _. Unit {0}) (λ g. WholeFaces (g .faces)) (any _) (λ n _.
+    bind-gives (λ _. Unit {0}) (λ g. WholeFaces (g .faces)) (any-gives _) (λ n _.
     bind-gives WholeFaces (λ g. WholeFaces (g .faces)) (many-gives WholeFace face face-whole) (λ fs h.
     pure-gives (λ g. WholeFaces (g .faces)) (record { name = n; faces = fs }) h))
-
--- ---- bones
-
--- the fields 3 to 5 are three numbers
-abbrev Field : ℕ → BoneField → Type 0
-Field zero f = Unit {0}
-Field (suc zero) f = Unit {0}
-Field (suc (suc zero)) f = Unit {0}
-Field (suc (suc (suc zero))) f = length (numbersIn (some f)) ≡ 3
-Field (suc (suc (suc (suc zero)))) f = length (numbersIn (some f)) ≡ 3
-Field (suc (suc (suc (suc (suc zero))))) f = length (numbersIn (some f)) ≡ 3
-Field (suc (suc (suc (suc (suc (suc k)))))) f = Unit {0}
-
-three-give : Gives (λ f. length (numbersIn (some f)) ≡ 3) (closed (numbers FLOAT 3) >>= λ zs. pure (several zs))
-unfolding numbersIn
-three-give = bind-gives (λ zs. length zs ≡ 3) _ (closed-gives (λ zs. length zs ≡ 3) (numbers-give FLOAT 3)) (λ zs h. pure-gives (λ f. length (numbersIn (some f)) ≡ 3) (several zs) h)
-
-kinds-give : AllGive Field 0 boneKinds
-unfolding boneKinds kind
-kinds-give = (any _, (any _, (any _, (three-give, (three-give, (three-give, (any _, tt)))))))
-
-module _ (fs : List (Option BoneField)) (w : Whole Field boneKinds fs) (e : length fs ≡ 7) where
-  three-of : (k : ℕ) → (s : Stands Field 0 k fs) → length (numbersIn (some (s .value))) ≡ 3 → length (numbersIn (getD fs k none)) ≡ 3
-  three-of k s h = ap (λ (o : Option BoneField). length (numbersIn o)) (s .here) ∙ h
-
-  bone-of-whole : WholeBone (boneOf fs)
-  unfolding boneOf neededOf boneKinds kind
-  bone-of-whole =
-      let a = fields-stand Field boneKinds fs 3 w refl e in
-      let b = fields-stand Field boneKinds fs 4 w refl e in
-      let c = fields-stand Field boneKinds fs 5 w refl e in
-      record { translate = three-of 3 a (a .fits); rotate = three-of 4 b (b .fits); handle = three-of 5 c (c .fits) }
-
-bone-fields : Gives (λ fs. Whole Field boneKinds fs × (length fs ≡ 7)) (fields boneKinds)
-unfolding fields unread boneKinds
-bone-fields ms fs l e = (fields-fit Field boneKinds kinds-give ms fs l e, fields-in-length 7 boneKinds (unread boneKinds) ms fs l e)
-
-bone-whole : Gives WholeBone bone
-unfolding bone
-bone-whole =
-    bind-gives (λ fs. Whole Field boneKinds fs × (length fs ≡ 7)) WholeBone (then-gives (λ fs. Whole Field boneKinds fs × (length fs ≡ 7)) (opened "bone") bone-fields) (λ fs h.
-    pure-gives WholeBone (boneOf fs) (bone-of-whole fs (h .0) (h .1)))
 
 -- ---- the figure
 
@@ -110,7 +61,7 @@ pub figure-whole : Gives WholeFigure figure
 unfolding figure
 figure-whole =
     then-gives WholeFigure (head "bacVersion" "6.0") (then-gives WholeFigure (opened "Figure")
-    (bind-gives (λ _. Unit {0}) WholeFigure (any _) (λ n _.
+    (bind-gives (λ _. Unit {0}) WholeFigure (any-gives _) (λ n _.
     bind-gives (Wide 2) WholeFigure (section-gives "Textures" "i2" INT 2) (λ ts hts.
     bind-gives (Wide 3) WholeFigure (section-gives "Colors" "f3" FLOAT 3) (λ cs hcs.
     then-gives WholeFigure (opened "Materials")

@@ -3,7 +3,7 @@ use mathlib.Core.Path.{_≡_, refl, ap, sym, _∙_}
 use mathlib.Core.List.{List, [], _∷_, map}
 use mathlib.Core.Bool.{Bool, true, false, not}
 use mathlib.Core.Option.{Option}
-use Prim.Native.Nat.{ℕ, zero, suc, _+_, _*_, _^_, _<_, min}
+use Prim.Native.Nat.{ℕ, _+_, _*_, _^_, _<_, min}
 use mir.Syntax.{w64}
 use mir.Val.{toZ}
 use Rattle.lexer.proofs.Signed.{bits-pos}
@@ -18,7 +18,7 @@ use Rattle.lexer.specs.Numbers.{INT, FLOAT}
 use Rattle.lexer.specs.Faults.{Fault, clear, fault}
 use Rattle.lexer.specs.Tokens.{Lexeme, lexAt}
 use Rattle.chunks.specs.declared.cursor.Cursor.{Cursor}
-use Rattle.chunks.specs.Readers.{Got, got, Reader, after, _>>=_, _>>_, pure, tokenOf, rest, isClosing, open-bracket, keyword, wordOf, opened, openedOf, many, manyIn, many⁺}
+use Rattle.chunks.specs.Readers.{Got, got, Reader, after, _>>=_, _>>_, pure, open-bracket, keyword, wordOf, opened, openedOf, many, many⁺}
 use Rattle.chunks.specs.Cursors.{reads, from, overlayAt}
 use Rattle.chunks.specs.Into.{flat}
 use Rattle.chunks.specs.Folds.{fold, folded, stepped}
@@ -29,17 +29,17 @@ use Rattle.chunks.proofs.Binds.{after-after, after-same, after-when, then-assoc
 use Rattle.chunks.proofs.Counts.{falls, lexAt-some}
 use Rattle.chunks.proofs.Folds.{folded-more}
 use Rattle.chunks.proofs.Branches.{item-takes}
-use Rattle.chunks.proofs.Many.{Keeps, Takes, takes-keeps, pure-keeps, bind-keeps, bind-takes, then-keeps, then-takes, keyword-takes, opened-takes, closed-keeps, number-takes, numbers-keeps, string-takes, one-of-takes, many-keeps, stop-not}
+use Rattle.chunks.proofs.Many.{Keeps, Takes, takes-keeps, pure-keeps, bind-keeps, bind-takes, then-keeps, then-takes, keyword-takes, opened-takes, closed-keeps, number-takes, numbers-keeps, string-takes, one-of-takes, many-keeps}
 use Rattle.chunks.proofs.FieldKeeps.{AllKeep, fields-keeps}
-use Rattle.chunks.proofs.Given.{Gives, pure-gives, bind-gives, then-gives}
+use Rattle.chunks.proofs.Given.{many-gives}
 use Rattle.chunks.proofs.Tables.{overlayAt-none, overlayAt-append, overlayAt-same}
 use Rattle.bac6_text.specs.Figure.{Bone}
 use Rattle.bac6_text.specs.Grammar.{BoneField, named, flag, several, boneOf, boneKinds, bone, word, truth}
-use Rattle.bac6_text.specs.Layout.{nameNumbers, boneRow}
+use Rattle.bac6_text.specs.Layout.{boneRow}
 use Rattle.bac6_rules.specs.Claims.{claimedOne, claimed, faultAt, afterBone, claimedBone, claimedBones}
-use Rattle.bac6_bones.specs.Into.{three, boneNumbers, boneTail, boneInto, faultOf, boneStep, bonesInto}
-use Rattle.bac6_bones.proofs.FieldGives.{Whole}
-use Rattle.bac6_bones.proofs.Turns.{tests, fields-whole, row-whole}
+use Rattle.bac6_bones.specs.Into.{boneTail, boneInto, faultOf, boneStep, bonesInto}
+use Rattle.bac6_rules.proofs.Laid.{WholeBone, WholeBones, bone-wide}
+use Rattle.bac6_bones.proofs.Whole.{bone-whole}
 
 -- ---- a bone takes a token, and begins with (
 
@@ -114,50 +114,29 @@ item-falls text d e v p o = let s = lexAt-some text (e .at) in let h = falls tex
 
 -- ---- all of them
 
-Rows : List Bone → Type 0
-Rows [] = Unit {0}
-Rows (b ∷ bs) = (length (boneRow b (pos 0)) ≡ 14) × Rows bs
-
-row-gives : Gives (λ b. length (boneRow b (pos 0)) ≡ 14) bone
-unfolding bone
-row-gives = bind-gives (λ gs. Whole tests boneKinds gs) (λ b. length (boneRow b (pos 0)) ≡ 14) (then-gives (λ gs. Whole tests boneKinds gs) (opened "bone") fields-whole) (λ gs w. pure-gives (λ b. length (boneRow b (pos 0)) ≡ 14) (boneOf gs) (rw (← row-whole gs w) (unfold boneNumbers three nameNumbers in refl)))
-
-rows-in : (n : ℕ) → Gives Rows (manyIn n bone)
-unfolding manyIn Rows
-rows-in zero ms a l e = absurd (stop-not 5 ms a l e)
-rows-in (suc n) ms a l e = go (isClosing (tokenOf ms)) refl (rows-in n)
-  where
-    go : (v : Bool) → isClosing (tokenOf ms) ≡ v → Gives Rows (manyIn n bone) → Rows a
-    go true q ih = pure-gives Rows [] tt (rest ms) a l (unfold pure in (rw (q, manyIn) at e))
-    go false q ih = bind-gives (λ b. length (boneRow b (pos 0)) ≡ 14) Rows row-gives (λ b h. bind-gives Rows Rows ih (λ bs k. pure-gives Rows (b ∷ bs) (h, k))) ms a l (rw (q, manyIn) at e)
-
-rows-give : Gives Rows (many bone)
-unfolding many
-rows-give ms = rows-in (length ms) ms
-
 triple : {A B C : Type 0} (a a′ : A) (b b′ : B) (c c′ : C) → a ≡ a′ → b ≡ b′ → c ≡ c′ → _≡_ {A = A × B × C} (a, b, c) (a′, b′, c′)
 triple a a′ b b′ c c′ p q r = rw (p, q, r)
 
 module _ (points : ℕ) where
-  fold-bones : (n : ℕ) (t : List ℤ) (s : Fault × List ℤ) (bs : List Bone) → Rows bs → fold (boneStep points) (n, t, s) bs ≡ (n + length bs, overlayAt (n * 14) (flat (map (λ b. boneRow b (pos 0)) bs)) t, claimedBones points n s bs)
-  unfolding fold boneStep flat claimedBones Rows
+  fold-bones : (n : ℕ) (t : List ℤ) (s : Fault × List ℤ) (bs : List Bone) → WholeBones bs → fold (boneStep points) (n, t, s) bs ≡ (n + length bs, overlayAt (n * 14) (flat (map (λ b. boneRow b (pos 0)) bs)) t, claimedBones points n s bs)
+  unfolding fold boneStep flat claimedBones
   fold-bones n t s [] h = rw (add-zero n, overlayAt-none (n * 14) t)
   fold-bones n t s (b ∷ bs) h =
       let r = boneRow b (pos 0) in
-      let i : n * 14 + length r ≡ (n + 1) * 14 = omega (arith, h .0) in
+      let i : n * 14 + length r ≡ (n + 1) * 14 = omega (arith, bone-wide b (h .0) (pos 0)) in
       fold-bones (n + 1) (overlayAt (n * 14) r t) (claimedBone points n s (b .vertices)) bs (h .1)
       ∙ triple _ _ _ _ _ _ (omega arith)
       (sym (overlayAt-append (n * 14) r (flat (map (λ b. boneRow b (pos 0)) bs)) t ∙ ap (λ (k : ℕ). overlayAt k (flat (map (λ b. boneRow b (pos 0)) bs)) (overlayAt (n * 14) r t)) i))
       (ap (λ (k : ℕ). claimedBones points k (claimedBone points n s (b .vertices)) bs) (add-one n))
 
-  fold-all : (table owners : List ℤ) (bs : List Bone) → Rows bs → fold (boneStep points) (0, table, (clear, owners)) bs ≡ (length bs, overlayAt 0 (flat (map (λ b. boneRow b (pos 0)) bs)) table, claimedBones points 0 (clear, owners) bs)
+  fold-all : (table owners : List ℤ) (bs : List Bone) → WholeBones bs → fold (boneStep points) (0, table, (clear, owners)) bs ≡ (length bs, overlayAt 0 (flat (map (λ b. boneRow b (pos 0)) bs)) table, claimedBones points 0 (clear, owners) bs)
   fold-all table owners bs h = fold-bones 0 table (clear, owners) bs h ∙ triple _ _ _ _ _ _ (zero-add (length bs)) refl refl
 
   pub bones-all : (table owners : List ℤ) (ms : List Lexeme) → (stepped (boneStep points) bone (0, table, (clear, owners)) >>= λ s. folded (boneStep points) bone s) ms ≡ bonesInto points table owners ms
-  unfolding stepped folded fold bonesInto many⁺ _>>=_ pure after Rows
+  unfolding stepped folded fold bonesInto many⁺ _>>=_ pure after
   bones-all table owners ms =
       after-after (bone ms) _ _
-      ∙ after-when (bone ms) _ _ (λ a l e. after-when (many bone l) _ _ (λ bs k q. ap (λ (v : ℕ × List ℤ × (Fault × List ℤ)). got v k) (fold-all table owners (a ∷ bs) (row-gives ms a l e, rows-give l bs k q))) ∙ sym (after-after (many bone l) _ _))
+      ∙ after-when (bone ms) _ _ (λ a l e. after-when (many bone l) _ _ (λ bs k q. ap (λ (v : ℕ × List ℤ × (Fault × List ℤ)). got v k) (fold-all table owners (a ∷ bs) (bone-whole ms a l e, many-gives WholeBone bone bone-whole l bs k q))) ∙ sym (after-after (many bone l) _ _))
       ∙ sym (after-after (bone ms) _ _)
 
 -- a list refused where a bone should begin

@@ -1,38 +1,40 @@
 -- The chunks of a bone, turn by turn, and the whole of a bone.
 use mathlib.Core.Path.{_≡_, refl, ap, sym, _∙_}
 use mathlib.Core.List.{List, [], _∷_, map}
-use mathlib.Core.Bool.{Bool, true, false, false≢true}
-use mathlib.Core.Option.{Option, none, some}
+use mathlib.Core.Bool.{Bool, true, false}
+use mathlib.Core.Option.{Option, none}
 use Prim.Native.Nat.{ℕ, suc, _-_}
 use native.Mathlib.Omega.{arith}
-use borrow.Author.Tests.{eq-eqb, eqb-true}
-use lib.Dec.{eqb}
 use lib.IntN.{ℤ, pos}
-use lib.ListN.{length, getD, replicate}
+use lib.ListN.{getD, replicate}
 use mir.Syntax.{w64}
 use mir.Val.{SFits, toZ, ofZ}
 use mir.Facts.{toZ-ofZ}
 use Rattle.lexer.specs.Bytes.{bytes}
-use Rattle.lexer.specs.Numbers.{FLOAT}
 use Rattle.lexer.specs.Tokens.{lexAt}
 use Rattle.lexer.specs.declared.token.Span.{Span}
 use Rattle.lexer.specs.Answers.{Next, lexemeOf}
 use Rattle.chunks.specs.declared.cursor.Cursor.{Cursor}
-use Rattle.chunks.specs.Readers.{Got, _>>=_, _>>_, pure, isClosing, isOpening, keyword, wordOf, closed, numbers}
+use Rattle.chunks.specs.Readers.{Got, _>>_, pure, isClosing, isOpening, keyword, wordOf}
 use Rattle.chunks.specs.Cursors.{reads, from, overlayAt, closedAt}
-use Rattle.chunks.specs.Fields.{kind, isSome, complete, kindFrom, fieldsIn, fields, unread, neededOf, coversAll}
+use Rattle.chunks.specs.Fields.{kind, isSome, kindFrom, fieldsIn, fields, unread, neededOf, coversAll}
 use Rattle.chunks.proofs.Steps.{join, seq, passed, from-on}
-use Rattle.chunks.proofs.FieldSteps.{turn-close, turn-early, turn-full, turn-other, turn-chunk}
-use Rattle.chunks.proofs.Given.{Gives, pure-gives, bind-gives, closed-gives, numbers-give}
+use Rattle.chunks.proofs.FieldSteps.{complete-seen, turn-ended, turn-full, turn-other, turn-chunk}
 use Rattle.bac6_text.specs.Figure.{Bone}
-use Rattle.bac6_text.specs.Grammar.{BoneField, named, flag, several, numbersIn, boneOf, boneKinds}
+use Rattle.bac6_text.specs.Grammar.{BoneField, numbersIn, boneOf, boneKinds}
 use Rattle.bac6_text.specs.Layout.{boneRow}
 use Rattle.bac6_rules.specs.Claims.{claimed}
-use Rattle.bac6_bones.specs.Into.{Yields, three, boneNumbers, boneState, boneTail, boneInto}
+use Rattle.bac6_bones.specs.Into.{Yields, boneNumbers, boneState, boneTail, boneInto}
 use Rattle.bac6_bones.proofs.Yielding.{reads-same, given}
-use Rattle.bac6_bones.proofs.FieldGives.{fits, AllGive, Whole, fields-in-gives, complete-seen, fits-length, fits-at, complete-at}
+use Rattle.bac6_rules.proofs.Laid.{WholeBone}
+use Rattle.bac6_bones.proofs.Whole.{fields-whole}
 use Rattle.bac6_bones.proofs.Values.{three-all}
 use Rattle.bac6_bones.proofs.Fields.{unread-state}
+
+-- the flags that a bone needs
+bone-needs : neededOf boneKinds ≡ false ∷ true ∷ true ∷ true ∷ true ∷ true ∷ false ∷ []
+unfolding neededOf boneKinds kind
+bone-needs = refl
 
 -- ---- between two chunks: fields that the code's state stands for, and from which the rest is read
 
@@ -50,16 +52,8 @@ module _ (text : List ℕ) (at left from′ : ℕ) (n : ℕ) (b : ℤ) (s : Bool
   unfolding boneState
   flags = ap (λ (p : List Bool × List ℤ × (Bool × List ℤ)). p .0) (w .stands)
 
-  pub turn-ends : isClosing (lexemeOf text t .token) ≡ true → Yields text (closedAt t (coversAll (neededOf boneKinds) seen)) (fields boneKinds (lexAt text at)) (boneState n b s) (seen, row, c)
-  unfolding closedAt
-  turn-ends e = record { value = w .fs; read = go (coversAll (neededOf boneKinds) seen) refl ∙ sym (w .on); kept = λ o. w .stands }
-    where
-      covered : complete boneKinds (w .fs) ≡ coversAll (neededOf boneKinds) seen
-      covered = complete-seen boneKinds (w .fs) ∙ rw flags
-
-      go : (v : Bool) → coversAll (neededOf boneKinds) seen ≡ v → reads text (closedAt t v) (w .fs) ≡ fieldsIn left boneKinds (w .fs) (lexAt text from′)
-      go true q = turn-close text from′ t x boneKinds (w .fs) left e (covered ∙ q)
-      go false q = turn-early text from′ t x boneKinds (w .fs) left (w .fs) e (covered ∙ q)
+  pub turn-ends : isClosing (lexemeOf text t .token) ≡ true → Yields text (closedAt t (coversAll (false ∷ true ∷ true ∷ true ∷ true ∷ true ∷ false ∷ []) seen)) (fields boneKinds (lexAt text at)) (boneState n b s) (seen, row, c)
+  turn-ends e = record { value = w .fs; read = turn-ended text from′ t x boneKinds (w .fs) left e _ (complete-seen boneKinds (w .fs) ∙ rw (flags, bone-needs)) ∙ sym (w .on); kept = λ o. w .stands }
 
   -- a token that cannot stand there
   pub turn-none : left ≡ 0 → isClosing (lexemeOf text t .token) ≡ false → (state : List Bool × List ℤ × (Bool × List ℤ)) → Yields text (record { refusal = 5; at = t .start }) (fields boneKinds (lexAt text at)) (boneState n b s) state
@@ -87,46 +81,9 @@ state-bits text r g n b s state f y = record { value = y .value; read = y .read;
 
 -- ---- the row of a bone that has been read whole
 
-unfoldable pub vector? : BoneField → Bool
-vector? (named m) = false
-vector? (flag z) = false
-vector? (several zs) = eqb (length zs) 3
-
-unfoldable pub any? : BoneField → Bool
-any? f = true
-
-unfoldable pub tests : List (BoneField → Bool)
-tests = any? ∷ any? ∷ any? ∷ vector? ∷ vector? ∷ vector? ∷ any? ∷ []
-
-vector-gives : Gives (λ f. vector? f ≡ true) (closed (numbers FLOAT 3) >>= λ zs. pure (several zs))
-vector-gives = bind-gives (λ zs. length zs ≡ 3) (λ f. vector? f ≡ true) (closed-gives (λ zs. length zs ≡ 3) (numbers-give FLOAT 3)) (λ zs h. pure-gives (λ f. vector? f ≡ true) (several zs) (unfold vector? in eq-eqb (length zs) 3 h))
-
-kinds-give : AllGive tests boneKinds
-unfolding tests boneKinds kind any?
-kinds-give = ((λ ms a l e. refl), ((λ ms a l e. refl), ((λ ms a l e. refl), (vector-gives, (vector-gives, (vector-gives, ((λ ms a l e. refl), tt)))))))
-
-pub fields-whole : Gives (λ gs. Whole tests boneKinds gs) (fields boneKinds)
-unfolding fields
-fields-whole = fields-in-gives tests boneKinds kinds-give (length boneKinds) (unread boneKinds) (unfold fits tests unread boneKinds in refl)
-
-vector-whole : (f : Option BoneField) → isSome f ≡ true → ((a : BoneField) → f ≡ some a → vector? a ≡ true) → three (numbersIn f) ≡ numbersIn f
-unfolding vector? isSome numbersIn
-vector-whole none e h = absurd (false≢true e)
-vector-whole (some (named m)) e h = absurd (false≢true (h (named m) refl))
-vector-whole (some (flag z)) e h = absurd (false≢true (h (flag z) refl))
-vector-whole (some (several zs)) e h = three-all zs (eqb-true (length zs) 3 (h (several zs) refl))
-
-pub row-whole : (gs : List (Option BoneField)) → Whole tests boneKinds gs → boneNumbers gs ≡ boneRow (boneOf gs) (pos 0)
+pub row-whole : (gs : List (Option BoneField)) → WholeBone (boneOf gs) → boneNumbers gs ≡ boneRow (boneOf gs) (pos 0)
 unfolding boneNumbers boneRow boneOf
-row-whole gs w =
-    rw (
-      vector-whole (getD gs 3 none) (needed 3 (unfold neededOf boneKinds kind in refl)) (λ a e. unfold tests in fits-at tests gs 3 any? a (w .0) e (omega arith)),
-      vector-whole (getD gs 4 none) (needed 4 (unfold neededOf boneKinds kind in refl)) (λ a e. unfold tests in fits-at tests gs 4 any? a (w .0) e (omega arith)),
-      vector-whole (getD gs 5 none) (needed 5 (unfold neededOf boneKinds kind in refl)) (λ a e. unfold tests in fits-at tests gs 5 any? a (w .0) e (omega arith)),
-    )
-  where
-    needed : (k : ℕ) → getD (neededOf boneKinds) k false ≡ true → isSome (getD gs k none) ≡ true
-    needed k h = complete-at boneKinds gs k (w .1) (unfold boneKinds tests in fits-length tests gs (w .0)) h
+row-whole gs w = rw (three-all (numbersIn (getD gs 3 none)) (w .translate), three-all (numbersIn (getD gs 4 none)) (w .rotate), three-all (numbersIn (getD gs 5 none)) (w .handle))
 
 -- ---- a whole bone
 
@@ -154,5 +111,5 @@ bone-on text c d r n b i table s seen row s′ o h y =
         let k = y .kept q in
         let u : boneNumbers (y .value) ≡ row = ap (λ (p : List Bool × List ℤ × (Bool × List ℤ)). p .1) k in
         let v : claimed n b s (numbersIn (getD (y .value) 6 none)) ≡ s′ = ap (λ (p : List Bool × List ℤ × (Bool × List ℤ)). p .2) k in
-        let w = row-whole (y .value) (given (λ gs. Whole tests boneKinds gs) (fields boneKinds) fields-whole text r (lexAt text (d .at)) (y .value) (y .read) q) in
+        let w = row-whole (y .value) (given (λ gs. WholeBone (boneOf gs)) (fields boneKinds) fields-whole text r (lexAt text (d .at)) (y .value) (y .read) q) in
         rw (← u, ← v, w)

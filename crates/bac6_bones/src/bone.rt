@@ -5,15 +5,14 @@ ghost use mathlib.Core.Bool.{false};
 ghost use lib.IntN.{pos};
 ghost use lib.ListN.{length, replicate};
 ghost use Rattle.lexer.specs.Tokens.{lexAt};
-ghost use Rattle.chunks.specs.Fields.{insideAt, fields, neededOf, coversAll};
-ghost use Rattle.chunks.specs.Cursors.{reads, from, closedAt};
+ghost use Rattle.chunks.specs.Fields.{insideAt, fields};
+ghost use Rattle.chunks.specs.Cursors.{reads, from};
 ghost use Rattle.bac6_text.specs.Grammar.{boneKinds};
 ghost use Rattle.bac6_bones.specs.Into.{Yields, putRow, ChunkRead, boneState, boneInto};
 use crate::entry::Claims;
 use crate::entry::entries;
 use chunks::Cursor;
 use chunks::Form;
-use lexer::Span;
 
 // The name's place and length, to the row.
 fn bone_name(text: &[u8], at: usize, row: &mut [i64]) -> Cursor
@@ -114,23 +113,7 @@ fn bone_chunk(
     entries(text, t.end, points, bone, owners, fine)
 }
 
-// The closing bracket of a bone: all but `name` and `vertexIndices` must have stood.
-fn closed_at(t: Span, seen: &[bool]) -> Cursor
-    ensures { λ r. ⌜ r ≡ closedAt t (coversAll (neededOf boneKinds) (now (seen .entry))) ⌝ }
-{
-    if chunks::covers(&[false, true, true, true, true, true, false], seen) {
-        return Cursor {
-            refusal: 0,
-            at: t.end,
-        };
-    }
-    Cursor {
-        refusal: 5,
-        at: t.start,
-    }
-}
-
-// The chunks of a bone up to its closing bracket, from an empty row.
+// The chunks of a bone up to its closing bracket, from an empty row: all but `name` and `vertexIndices` must have stood.
 fn bone_fields(
     text: &[u8],
     at: usize,
@@ -159,7 +142,7 @@ fn bone_fields(
         };
         if chunks::is_closing(kind) {
             return Claims {
-                cursor: closed_at(t, seen),
+                cursor: chunks::closed_at(t, &[false, true, true, true, true, true, false], seen),
                 fine: free,
             };
         }

@@ -1,5 +1,5 @@
 -- A value and its closing bracket, by the reader of the value.
-use mathlib.Core.Path.{_≡_, refl, ap, sym, _∙_}
+use mathlib.Core.Path.{_≡_, refl, sym, _∙_}
 use mathlib.Core.List.{List, [], _∷_}
 use Prim.Native.Nat.{ℕ}
 use Prim.Native.String.{String}
@@ -11,14 +11,14 @@ use Rattle.lexer.specs.Tokens.{Lexeme, lexAt}
 use Rattle.lexer.specs.declared.token.Span.{Span}
 use Rattle.lexer.specs.Answers.{Next, lexemeOf}
 use Rattle.chunks.specs.declared.cursor.Cursor.{Cursor}
-use Rattle.chunks.specs.Readers.{Got, Reader, after, _>>=_, _>>_, pure, close-bracket, closed, isClosing}
+use Rattle.chunks.specs.Readers.{Reader, after, closed, isClosing}
 use Rattle.chunks.specs.Words.{words, wordIn}
 use Rattle.chunks.specs.Cursors.{reads, from, closedAt}
 use Rattle.chunks.proofs.Steps.{join, from-same}
-use Rattle.chunks.specs.Fields.{Kind, fieldsIn, fieldsOf, neededOf, coversAll}
-use Rattle.chunks.proofs.FieldSteps.{complete-flags, turn-close, turn-early}
+use Rattle.chunks.specs.Fields.{Kind, kind, fieldsIn, fieldsOf, neededOf, coversAll}
+use Rattle.chunks.proofs.FieldSteps.{complete-flags, turn-ended}
 use Rattle.chunks.proofs.Vocabulary.{wordList, one-word}
-use Rattle.bac6_text.specs.Grammar.{word}
+use Rattle.bac6_text.specs.Grammar.{word, materialKinds}
 use Rattle.bac6_parse.specs.Closing.{closeWith}
 
 -- a reader and the closing bracket after it
@@ -31,14 +31,14 @@ pub close-word : (text : List ℕ) (c d r : Cursor) (a b : ℤ) (ks : List Strin
 unfolding word
 close-word text c d r a b ks list e p q = close-join text c d r a b (word ks) (p ∙ sym (from-same text c (word ks) (wordIn list (length ks)) (λ ms. one-word ks list ms e))) q
 
--- the closing bracket of chunks in a free order, where the flags that are needed say whether it may stand
-pub closed-turn : {A : Type 0} (text : List ℕ) (at : ℕ) (t : Span) (n : Next text at t) (ks : List (Kind A)) (left : ℕ) (seen : List Bool) (row : List A) → length seen ≡ length row → isClosing (lexemeOf text t .token) ≡ true → reads text (closedAt t (coversAll (neededOf ks) seen)) (fieldsOf seen row) ≡ fieldsIn left ks (fieldsOf seen row) (lexAt text at)
-unfolding closedAt
-closed-turn text at t n ks left seen row l e = go (coversAll (neededOf ks) seen) refl
-  where
-    go : (v : Bool) → coversAll (neededOf ks) seen ≡ v → reads text (closedAt t v) (fieldsOf seen row) ≡ fieldsIn left ks (fieldsOf seen row) (lexAt text at)
-    go true q = turn-close text at t n ks (fieldsOf seen row) left e (complete-flags ks seen row l ∙ q)
-    go false q = turn-early text at t n ks (fieldsOf seen row) left (fieldsOf seen row) e (complete-flags ks seen row l ∙ q)
+-- the flags that a material needs
+material-needs : neededOf materialKinds ≡ true ∷ true ∷ true ∷ true ∷ true ∷ true ∷ true ∷ false ∷ false ∷ []
+unfolding neededOf materialKinds kind
+material-needs = refl
+
+-- its closing bracket, where they say whether it may stand
+pub closed-turn : (text : List ℕ) (at : ℕ) (t : Span) (n : Next text at t) (left : ℕ) (seen : List Bool) (row : List ℤ) → length seen ≡ length row → isClosing (lexemeOf text t .token) ≡ true → reads text (closedAt t (coversAll (true ∷ true ∷ true ∷ true ∷ true ∷ true ∷ true ∷ false ∷ false ∷ []) seen)) (fieldsOf seen row) ≡ fieldsIn left materialKinds (fieldsOf seen row) (lexAt text at)
+closed-turn text at t n left seen row l e = turn-ended text at t n materialKinds (fieldsOf seen row) left e _ (complete-flags materialKinds seen row l ∙ rw material-needs)
 
 pub fields-count : {A : Type 0} (ks : List (Kind A)) (fs : List (Option A)) (ms : List Lexeme) (n m : ℕ) → n ≡ m → fieldsIn n ks fs ms ≡ fieldsIn m ks fs ms
 fields-count ks fs ms n m e = rw e

@@ -4,8 +4,8 @@ ghost use mathlib.Core.Bool.{Bool};
 ghost use Prim.Native.Nat.{ℕ, _<_};
 ghost use lib.ListN.{length};
 ghost use Rattle.lexer.specs.Tokens.{lexAt};
-ghost use Rattle.chunks.specs.Fields.{insideAt, kindFrom, fieldsIn, fieldsOf, neededOf, coversAll};
-ghost use Rattle.chunks.specs.Cursors.{reads, from, closedAt};
+ghost use Rattle.chunks.specs.Fields.{insideAt, kindFrom, fieldsIn, fieldsOf};
+ghost use Rattle.chunks.specs.Cursors.{reads, from};
 ghost use Rattle.bac6_text.specs.Grammar.{materialKinds, material};
 ghost use Rattle.bac6_parse.specs.Closing.{closeWith};
 ghost use Rattle.bac6_parse.specs.Into.{Settled, materialInto, materialsInto};
@@ -14,7 +14,6 @@ use chunks::Counted;
 use chunks::Cursor;
 use chunks::Form;
 use chunks::Numeric;
-use lexer::Span;
 
 // The value in the chunk of column k, and the closing bracket.
 fn material_value(text: &[u8], c: Cursor, k: usize) -> Numeric
@@ -77,7 +76,7 @@ fn material_chunk(text: &[u8], at: usize, row: &mut [i64], seen: &mut [bool]) ->
     v.cursor
 }
 
-// The chunks of a material up to its closing bracket.
+// The chunks of a material up to its closing bracket: all but `alpha` and `shininess` must have stood.
 fn material_fields(text: &[u8], at: usize, row: &mut [i64], seen: &mut [bool]) -> Cursor
     requires { ⌜ (length (now row) ≡ 9) × (length (now seen) ≡ 9) ⌝ }
     requires { ⌜ Settled (now seen) (now row) ⌝ }
@@ -94,7 +93,11 @@ fn material_fields(text: &[u8], at: usize, row: &mut [i64], seen: &mut [bool]) -
             at: t.start,
         };
         if chunks::is_closing(kind) {
-            return closed_at(t, seen);
+            return chunks::closed_at(
+                t,
+                &[true, true, true, true, true, true, true, false, false],
+                seen,
+            );
         }
         if left == 0 {
             return refused;
@@ -108,25 +111,6 @@ fn material_fields(text: &[u8], at: usize, row: &mut [i64], seen: &mut [bool]) -
         }
         from = m.at;
         left -= 1;
-    }
-}
-
-// The closing bracket of a material: all but `alpha` and `shininess` must have stood.
-fn closed_at(t: Span, seen: &[bool]) -> Cursor
-    ensures { λ r. ⌜ r ≡ closedAt t (coversAll (neededOf materialKinds) (now (seen .entry))) ⌝ }
-{
-    if chunks::covers(
-        &[true, true, true, true, true, true, true, false, false],
-        seen,
-    ) {
-        return Cursor {
-            refusal: 0,
-            at: t.end,
-        };
-    }
-    Cursor {
-        refusal: 5,
-        at: t.start,
     }
 }
 

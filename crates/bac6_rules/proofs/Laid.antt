@@ -133,7 +133,7 @@ module _ (b : Bone) (w : WholeBone b) where
   nine-length : length nine ≡ 9
   nine-length = rw (length-append (b .translate ++ b .rotate) (b .handle), length-append (b .translate) (b .rotate), w .translate, w .rotate, w .handle)
 
-  bone-wide : (p : ℤ) → length (boneRow b p) ≡ 14
+  pub bone-wide : (p : ℤ) → length (boneRow b p) ≡ 14
   unfolding boneRow nameNumbers
   bone-wide p = rw (length-append nine (b .child ∷ b .brother ∷ p ∷ nameNumbers (b .name)), nine-length)
 

@@ -1,19 +1,19 @@
 -- Chunks in a free order, turn by turn: the closing bracket, a chunk, or a token that cannot stand there.
 use mathlib.Core.Path.{_≡_, refl, ap, sym, _∙_}
 use mathlib.Core.List.{List, [], _∷_, map}
-use mathlib.Core.Bool.{Bool, true, false, not, _&&_, _||_}
-use mathlib.Core.Option.{Option, none, some}
-use Prim.Native.Nat.{ℕ, zero, suc}
+use mathlib.Core.Bool.{Bool, true, false}
+use mathlib.Core.Option.{Option}
+use Prim.Native.Nat.{ℕ, suc}
 use native.Mathlib.Omega.{arith}
 use lib.ListN.{length}
-use Rattle.lexer.specs.Tokens.{Token, Lexeme, lexeme, lexAt}
+use Rattle.lexer.specs.Tokens.{lexeme, lexAt}
 use Rattle.lexer.specs.declared.token.Span.{Span}
 use Rattle.lexer.specs.Answers.{Next, lexemeOf}
 use Rattle.chunks.specs.declared.cursor.Cursor.{Cursor}
-use Rattle.chunks.specs.Readers.{Got, got, refused, Reader, after, pure, stop, tokenOf, rest, isOpening, isClosing}
-use Rattle.chunks.specs.Cursors.{reads, from}
+use Rattle.chunks.specs.Readers.{Got, got, pure, stop, isOpening, isClosing}
+use Rattle.chunks.specs.Cursors.{reads, from, closedAt}
 use Rattle.chunks.specs.Fields.{Kind, isSome, complete, kindFrom, fieldsIn, fieldOf, fieldsOf, neededOf, coversAll}
-use Rattle.chunks.proofs.Steps.{from-on, from-off, reads-on, next-token, next-stop, next-rest, live, after-reads}
+use Rattle.chunks.proofs.Steps.{from-off, reads-on, next-token, next-stop, next-rest, live, after-reads}
 use Rattle.chunks.proofs.Choices.{fields-close, fields-early, fields-full, fields-other, fields-chunk}
 
 -- the needed kinds have stood, by the flags alone
@@ -25,20 +25,31 @@ complete-flags (k ∷ ks) (b ∷ seen) [] l = absurd (omega arith)
 complete-flags (k ∷ ks) (true ∷ seen) (z ∷ row) l = rw (complete-flags ks seen row (omega arith))
 complete-flags (k ∷ ks) (false ∷ seen) (z ∷ row) l = rw (complete-flags ks seen row (omega arith))
 
+pub complete-seen : {A : Type 0} (ks : List (Kind A)) (fs : List (Option A)) → complete ks fs ≡ coversAll (neededOf ks) (map isSome fs)
+unfolding complete neededOf coversAll
+complete-seen [] fs = refl
+complete-seen (k ∷ ks) [] = refl
+complete-seen (k ∷ ks) (f ∷ fs) = rw (complete-seen ks fs)
+
 module _ {A : Type 0} (text : List ℕ) (at : ℕ) (t : Span) (n : Next text at t) (ks : List (Kind A)) (fs : List (Option A)) where
   stopped : (g : Got (List (Option A))) (gs : List (Option A)) → g ≡ stop 5 (lexAt text at) → reads text (record { refusal = 5; at = t .start }) gs ≡ g
   unfolding reads
   stopped g gs e = from-off text _ (pure gs) (λ q. omega arith) ∙ sym (e ∙ next-stop text at t n 5)
 
-  pub turn-close : (left : ℕ) → isClosing (lexemeOf text t .token) ≡ true → complete ks fs ≡ true → reads text (record { refusal = 0; at = t .end }) fs ≡ fieldsIn left ks fs (lexAt text at)
+  turn-close : (left : ℕ) → isClosing (lexemeOf text t .token) ≡ true → complete ks fs ≡ true → reads text (record { refusal = 0; at = t .end }) fs ≡ fieldsIn left ks fs (lexAt text at)
   unfolding lexemeOf lexeme
   turn-close left e f =
       reads-on text _ fs refl
       ∙ sym (fields-close ks fs (lexAt text at) left (ap isClosing (next-token text at t n) ∙ e) f
       ∙ ap (got fs) (next-rest text at t n (live isClosing (unfold isClosing in refl) (t .kind) _ e)))
 
-  pub turn-early : (left : ℕ) (gs : List (Option A)) → isClosing (lexemeOf text t .token) ≡ true → complete ks fs ≡ false → reads text (record { refusal = 5; at = t .start }) gs ≡ fieldsIn left ks fs (lexAt text at)
+  turn-early : (left : ℕ) (gs : List (Option A)) → isClosing (lexemeOf text t .token) ≡ true → complete ks fs ≡ false → reads text (record { refusal = 5; at = t .start }) gs ≡ fieldsIn left ks fs (lexAt text at)
   turn-early left gs e f = stopped _ gs (fields-early ks fs (lexAt text at) left (ap isClosing (next-token text at t n) ∙ e) f)
+
+  pub turn-ended : (left : ℕ) → isClosing (lexemeOf text t .token) ≡ true → (v : Bool) → complete ks fs ≡ v → reads text (closedAt t v) fs ≡ fieldsIn left ks fs (lexAt text at)
+  unfolding closedAt
+  turn-ended left e true q = turn-close left e q
+  turn-ended left e false q = turn-early left fs e q
 
   pub turn-full : (gs : List (Option A)) → isClosing (lexemeOf text t .token) ≡ false → reads text (record { refusal = 5; at = t .start }) gs ≡ fieldsIn 0 ks fs (lexAt text at)
   turn-full gs e = stopped _ gs (fields-full ks fs (lexAt text at) (ap isClosing (next-token text at t n) ∙ e))

@@ -27,6 +27,9 @@ before (refused n p) k b l e = absurd (not-got n p b l e)
 abbrev pub Gives : {A : Type 0} → (A → Type 0) → Reader A → Type 0
 Gives {A} P r = (ms : List Lexeme) (a : A) (l : List Lexeme) → r ms ≡ got a l → P a
 
+pub any-gives : {A : Type 0} (r : Reader A) → Gives (λ _. Unit {0}) r
+any-gives r ms a l e = tt
+
 pub pure-gives : {A : Type 0} (P : A → Type 0) (a : A) → P a → Gives P (pure a)
 unfolding pure
 pure-gives P a h ms b l e = let q : b ≡ a = cc in rw q h

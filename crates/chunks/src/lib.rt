@@ -34,6 +34,7 @@ pub use numerals::number;
 pub use optionals::Start;
 pub use optionals::optional;
 pub use optionals::trailing;
+pub use places::closed_at;
 pub use places::covers;
 pub use places::store;
 pub use words::one_of;

@@ -13,14 +13,14 @@ use Rattle.bac6_bones.proofs.bone.bone_fields.Statement.{statement}
 use Rattle.bac6_bones.proofs.bone.bone_fields.Tie as tie
 
 abbrev Inv-loop : tie.InvT-loop
-Inv-loop text at points bone row₀ seen₀ owners₀ fine from₀ left₀ free₀ row seen owners from left free =
+Inv-loop text at points bone row₀ seen₀ owners₀ fine from₀ left₀ free₀ needed row seen owners from left free =
     Midway text at left from points (toZ w64 bone) (fine, owners₀) (seen, row, (free, owners))
     × (length row ≡ length row₀)
     × (length seen ≡ length seen₀)
     × (length owners ≡ length owners₀)
 
 abbrev μ-loop : tie.MeasureT-loop
-μ-loop text at points bone row₀ seen₀ owners₀ fine from₀ left₀ free₀ row seen owners from left free =
+μ-loop text at points bone row₀ seen₀ owners₀ fine from₀ left₀ free₀ needed row seen owners from left free =
     left
 
 loop-holds : tie.Need-loop-holds Inv-loop μ-loop
@@ -31,6 +31,9 @@ next-requires c κs = search needs
 
 is-closing-requires : tie.Need-is-closing-requires Inv-loop μ-loop
 is-closing-requires c κs = search needs
+
+slice-aggregate-closed-at : tie.Need-slice-aggregate-closed-at Inv-loop μ-loop
+slice-aggregate-closed-at c = search needs
 
 closed-at-requires : tie.Need-closed-at-requires Inv-loop μ-loop
 closed-at-requires c κs = search needs
@@ -47,11 +50,11 @@ same-length-3 c = search needs
 returns : tie.Need-returns Inv-loop μ-loop
 unfolding lexemeOf lexeme
 returns c =
-    let k = c .before .before .before in
+    let k = c .before .before .before .before in
     let l = k .before .before in
     rw (c .closed-at .ensures)
     (state-bits _ _ _ _ _ _ _ (l .before .before .before .fits .bone)
-    (turn-ends _ _ _ _ _ _ _ _ _ _ (l .loop .inv .0) _ (k .before .next .ensures) (sym (k .is-closing .ensures _) ∙ c .before .before .if1 .taken)))
+    (turn-ends _ _ _ _ _ _ _ _ _ _ (l .loop .inv .0) _ (k .before .next .ensures) (sym (k .is-closing .ensures _) ∙ c .before .before .before .if1 .taken)))
 
 same-length-4 : tie.Need-same-length-4 Inv-loop μ-loop
 same-length-4 c = search needs
@@ -146,6 +149,7 @@ bone-fields-spec =
     loop-holds
     next-requires
     is-closing-requires
+    slice-aggregate-closed-at
     closed-at-requires
     same-length
     same-length-2

@@ -1,19 +1,16 @@
 -- `material_fields` reads chunks turn by turn: the invariant says that the fields from the start are those from here on.
-use mathlib.Core.Path.{_≡_, refl, ap, sym, _∙_}
-use mathlib.Core.Bool.{true, false}
-use Prim.Native.Nat.{ℕ, suc, _-_, _<_}
+use mathlib.Core.Path.{_≡_, sym, _∙_}
+use Prim.Native.Nat.{suc, _-_}
 use native.Mathlib.Omega.{arith}
-use native.Mathlib.Nat.{add-sub-cancel}
 use borrow.Author.Tests.{not-true, not-false}
 use denote.Ref.{now}
 use lib.ListN.{length}
 use Rattle.lexer.specs.Tokens.{lexAt, lexeme}
 use Rattle.lexer.specs.Answers.{lexemeOf}
-use Rattle.chunks.specs.Readers.{isClosing, isOpening}
-use Rattle.chunks.specs.Fields.{fieldsIn, fieldsOf, complete, coversAll, neededOf}
+use Rattle.chunks.specs.Fields.{fieldsIn, fieldsOf}
 use Rattle.chunks.specs.Cursors.{from}
 use Rattle.chunks.proofs.Steps.{passed, from-on}
-use Rattle.chunks.proofs.FieldSteps.{complete-flags, turn-close, turn-early, turn-full, turn-other, turn-chunk}
+use Rattle.chunks.proofs.FieldSteps.{turn-full, turn-other, turn-chunk}
 use Rattle.bac6_text.specs.Grammar.{materialKinds}
 use Rattle.bac6_parse.specs.Into.{Settled}
 use Rattle.bac6_parse.proofs.Closings.{closed-turn, fields-count}
@@ -22,21 +19,20 @@ use Rattle.bac6_parse.proofs.material.material_fields.Statement.{statem
 use Rattle.bac6_parse.proofs.material.material_fields.Tie as tie
 use Rattle.bac6_parse.proofs.material.material_fields.Reads as reads
 use Rattle.bac6_parse.proofs.material.material_fields.Lts as lts
-use Rattle.bac6_parse.proofs.material.closed_at.Reads as closed-at-reads
 use Rattle.bac6_parse.proofs.material.material_chunk.Reads as material-chunk-reads
 use Rattle.chunks.proofs.is_closing.Reads as is-closing-reads
 use Rattle.chunks.proofs.is_opening.Reads as is-opening-reads
 use Rattle.lexer.proofs.next.Reads as next-reads
 
 abbrev Inv-loop : tie.InvT-loop
-Inv-loop text at row₀ seen₀ from₀ left₀ row seen from left =
+Inv-loop text at row₀ seen₀ from₀ left₀ needed row seen from left =
     (fieldsIn 9 materialKinds (fieldsOf seen₀ row₀) (lexAt text at) ≡ fieldsIn left materialKinds (fieldsOf seen row) (lexAt text from))
     × (length row ≡ 9)
     × (length seen ≡ 9)
     × Settled seen row
 
 abbrev μ-loop : tie.MeasureT-loop
-μ-loop text at row₀ seen₀ from₀ left₀ row seen from left = left
+μ-loop text at row₀ seen₀ from₀ left₀ needed row seen from left = left
 
 -- what one chunk does to the fields that are left
 stepped : (m : tie.After-material-chunk Inv-loop μ-loop) → fieldsIn 9 materialKinds (fieldsOf (now (m .before .before .before .before .before .before .before .before .before .before .before .before .args .seen)) (now (m .before .before .before .before .before .before .before .before .before .before .before .before .args .row))) (lexAt (now (m .before .before .before .before .before .before .before .before .before .before .before .before .args .text)) (m .before .before .before .before .before .before .before .before .before .before .before .before .args .at)) ≡ from (now (m .before .before .before .before .before .before .before .before .before .before .before .before .args .text)) (m .material-chunk .result) (fieldsIn (m .before .before .before .before .before .before .before .before .before .loop .left - 1) materialKinds (fieldsOf (m .material-chunk .last .1 .1 .1 .0) (m .material-chunk .last .1 .1 .0)))
@@ -59,6 +55,9 @@ next-requires c κs = search needs
 is-closing-requires : tie.Need-is-closing-requires Inv-loop μ-loop
 is-closing-requires c κs = search needs
 
+slice-aggregate-closed-at : tie.Need-slice-aggregate-closed-at Inv-loop μ-loop
+slice-aggregate-closed-at c = search needs
+
 closed-at-requires : tie.Need-closed-at-requires Inv-loop μ-loop
 closed-at-requires c κs = search needs
 
@@ -71,10 +70,10 @@ same-length-2 c = search needs
 returns : tie.Need-returns Inv-loop μ-loop
 unfolding lexemeOf lexeme
 returns c =
-    let b = c .before .before .before .before in
+    let b = c .before .before .before .before .before in
     let l = b .before .loop in
     rw (c .closed-at .ensures)
-    (closed-turn _ _ _ (b .next .ensures) materialKinds (l .left) (l .seen) (l .row) (l .inv .2 ∙ sym (l .inv .1)) (sym (c .before .before .before .is-closing .ensures _) ∙ c .before .before .if1 .taken) ∙ sym (l .inv .0), l .inv .3)
+    (closed-turn _ _ _ (b .next .ensures) (l .left) (l .seen) (l .row) (l .inv .2 ∙ sym (l .inv .1)) (sym (c .before .before .before .before .is-closing .ensures _) ∙ c .before .before .before .if1 .taken) ∙ sym (l .inv .0), l .inv .3)
 
 same-length-3 : tie.Need-same-length-3 Inv-loop μ-loop
 same-length-3 c = search needs
@@ -144,6 +143,7 @@ material-fields-spec =
     loop-holds
     next-requires
     is-closing-requires
+    slice-aggregate-closed-at
     closed-at-requires
     same-length
     same-length-2
