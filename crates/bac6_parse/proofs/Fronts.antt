@@ -16,7 +16,7 @@ use Rattle.chunks.specs.Readers.{Name, absent, Got, got, Reader, after, _>>=_, 
 use Rattle.chunks.specs.Fields.{Kind, kind, unread, complete, kindFrom, fieldsIn, fields}
 use Rattle.chunks.specs.Places.{placeOf, optionalName}
 use Rattle.chunks.specs.Branches.{startOf}
-use Rattle.chunks.specs.Into.{flat, rowsInto}
+use Rattle.chunks.specs.Into.{flat, rowsInto, someInto}
 use Rattle.chunks.specs.Folds.{fold, folded, stepped, rowStep}
 use Rattle.chunks.specs.Cursors.{overlayAt}
 use Rattle.chunks.proofs.Binds.{after-after, after-same, after-when, then-same}
@@ -26,7 +26,7 @@ use Rattle.chunks.proofs.Tables.{overlayAt-append, overlayAt-none}
 use Rattle.chunks.proofs.Sequences.{bind-same, project, into-then, into-bind, into-end}
 use Rattle.bac6_text.specs.Grammar.{material, materialKinds, orZero}
 use Rattle.bac6_parse.specs.Into.{materialsInto}
-use Rattle.bac6_parse.specs.Lists.{laidRows, sectionOf, sectionInto, someInto}
+use Rattle.bac6_parse.specs.Lists.{laidRows, sectionOf, sectionInto}
 use Rattle.bac6_parse.specs.Front.{FrontValue, frontValue, frontInto, frontThen}
 
 -- ---- a list that may be left out
@@ -71,8 +71,8 @@ materials-same t ms =
 
 -- ---- the front
 
-points-same : (t : List ℤ) (ms : List Lexeme) → (many⁺ (row "pnt" FLOAT 3) >>= λ rs. pure (laidRows t rs)) ms ≡ someInto (bytes "pnt") FLOAT 3 t ms
-unfolding someInto row
+points-same : (t : List ℤ) (ms : List Lexeme) → (many⁺ (row "pnt" FLOAT 3) >>= λ rs. pure (laidRows t rs)) ms ≡ someInto (bytes "pnt") 0 FLOAT 3 0 t ms
+unfolding someInto row laidRows
 points-same t ms = refl
 
 normals-same : (t : List ℤ) (ms : List Lexeme) → (many (row "vct" FLOAT 3) >>= λ rs. pure (laidRows t rs)) ms ≡ rowsInto (bytes "vct") 0 FLOAT 3 0 t ms
@@ -93,6 +93,6 @@ module _ {A B : Type 0} (t c m p v : List ℤ) (back : Name → List (List ℤ) 
       into-bind g h (optional "Colors" [] (many (row "f3" FLOAT 3))) (laidRows c) (sectionInto (bytes "Colors") (bytes "f3") FLOAT 3 c) (section-same "Colors" "f3" FLOAT 3 c) _ _ (λ cs.
       into-then g h (opened "Materials") _ _ (into-bind g h (many⁺ material) (laidRows m) (materialsInto m) (materials-same m) _ _ (λ mats.
       into-then g h (opened "Vertices") _ _ (into-then g h (opened "coords") _ _
-      (into-bind g h (many⁺ (row "pnt" FLOAT 3)) (laidRows p) (someInto (bytes "pnt") FLOAT 3 p) (points-same p) _ _ (λ ps.
+      (into-bind g h (many⁺ (row "pnt" FLOAT 3)) (laidRows p) (someInto (bytes "pnt") 0 FLOAT 3 0 p) (points-same p) _ _ (λ ps.
       into-then g h (opened "normals") _ _ (into-bind g h (many (row "vct" FLOAT 3)) (laidRows v) (rowsInto (bytes "vct") 0 FLOAT 3 0 v) (normals-same v) _ _ (λ vs.
       into-then g h close-bracket _ _ (λ ms. e n ts cs mats ps vs ms ∙ into-end (frontValue (placeOf n) (laidRows t ts) (laidRows c cs) (laidRows m mats) (laidRows p ps) (laidRows v vs)) h ms)))))))))))))

@@ -1,5 +1,4 @@
 -- Laws that belong to no one function.
 pub mod Closings
 pub mod Materials
-pub mod RowLists
 pub mod Fronts

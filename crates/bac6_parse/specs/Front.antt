@@ -6,10 +6,10 @@ use Rattle.lexer.specs.Bytes.{bytes}
 use Rattle.lexer.specs.Numbers.{INT, FLOAT}
 use Rattle.chunks.specs.Readers.{Name, absent, Reader, _>>=_, _>>_, pure, opened, close-bracket, head, closed, string, optional, many, many⁺, row}
 use Rattle.chunks.specs.Places.{optionalName}
-use Rattle.chunks.specs.Into.{rowsInto}
+use Rattle.chunks.specs.Into.{rowsInto, someInto}
 use Rattle.bac6_text.specs.Grammar.{material}
 use Rattle.bac6_parse.specs.Into.{materialsInto}
-use Rattle.bac6_parse.specs.Lists.{sectionInto, someInto}
+use Rattle.bac6_parse.specs.Lists.{sectionInto}
 
 -- the name's place and length; of each list how many rows it has, and its table
 pub record FrontValue : Type 0 where
@@ -34,7 +34,7 @@ frontInto textures colours materials points normals = do
   m ← materialsInto materials
   opened "Vertices"
   opened "coords"
-  p ← someInto (bytes "pnt") FLOAT 3 points
+  p ← someInto (bytes "pnt") 0 FLOAT 3 0 points
   opened "normals"
   v ← rowsInto (bytes "vct") 0 FLOAT 3 0 normals
   close-bracket

@@ -5,7 +5,7 @@ use Prim.Native.Nat.{ℕ}
 use lib.IntN.{ℤ}
 use lib.ListN.{length}
 use Rattle.lexer.specs.Numbers.{Form}
-use Rattle.chunks.specs.Readers.{Reader, _>>=_, pure, many⁺, rowOf}
+use Rattle.chunks.specs.Readers.{Reader, _>>=_, pure}
 use Rattle.chunks.specs.Branches.{startOf}
 use Rattle.chunks.specs.Into.{flat, rowsInto}
 use Rattle.chunks.specs.Cursors.{overlayAt}
@@ -21,7 +21,3 @@ sectionOf false k f w table = pure (0, table)
 
 unfoldable pub sectionInto : List ℕ → List ℕ → Form → ℕ → List ℤ → Reader (ℕ × List ℤ)
 sectionInto name k f w table = startOf name >>= λ present. sectionOf present k f w table
-
--- one row or more
-unfoldable pub someInto : List ℕ → Form → ℕ → List ℤ → Reader (ℕ × List ℤ)
-someInto k f w table = many⁺ (rowOf k 0 f w) >>= λ rs. pure (laidRows table rs)

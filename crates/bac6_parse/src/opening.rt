@@ -4,7 +4,6 @@ ghost use Rattle.chunks.specs.Cursors.{reads, from};
 ghost use Rattle.bac6_parse.specs.Front.{frontValue, frontInto};
 use crate::material::materials;
 use crate::rows::section;
-use crate::rows::some_rows;
 use chunks::Cursor;
 use chunks::Form;
 use chunks::opened;
@@ -55,7 +54,7 @@ pub fn read_front(
     let m = materials(text, opened(text, coloured, b"Materials"), material_rows);
     let made = m.cursor;
     let coords = opened(text, opened(text, made, b"Vertices"), b"coords");
-    let p = some_rows(text, coords, b"pnt", Form::Float, 3, point_rows);
+    let p = chunks::some_rows(text, coords, b"pnt", 0, Form::Float, 3, point_rows, 0);
     let placed = p.cursor;
     let v = chunks::rows(
         text,

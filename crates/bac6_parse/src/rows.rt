@@ -1,8 +1,8 @@
-// Lists of number rows: one that may be left out, and one that has a row at least.
+// A list of number rows that may be left out.
 ghost use mathlib.Core.Path.{_≡_};
 ghost use Rattle.chunks.specs.Answers.{formNamed};
 ghost use Rattle.chunks.specs.Cursors.{reads, from};
-ghost use Rattle.bac6_parse.specs.Lists.{sectionInto, someInto};
+ghost use Rattle.bac6_parse.specs.Lists.{sectionInto};
 use chunks::Counted;
 use chunks::Cursor;
 use chunks::Form;
@@ -27,28 +27,5 @@ pub fn section(
     Counted {
         cursor: d,
         count: 0,
-    }
-}
-
-// One row or more, up to the closing bracket after them.
-pub(crate) fn some_rows(
-    text: &[u8],
-    c: Cursor,
-    word: &[u8],
-    form: Form,
-    width: usize,
-    out: &mut [i64],
-) -> Counted
-    ensures { λ r. ⌜ reads (now (text .entry)) (r .cursor) (r .count, now (out .exit)) ≡ from (now (text .entry)) c (someInto (now (word .entry)) (formNamed form) width (now (out .entry))) ⌝ }
-{
-    let first = chunks::row(text, c, word, 0, form, width, out, 0);
-    let more = chunks::rows(text, first, word, 0, form, width, out, width);
-    let d = more.cursor;
-    if d.refusal != 0 {
-        return more;
-    }
-    Counted {
-        cursor: d,
-        count: more.count + 1,
     }
 }

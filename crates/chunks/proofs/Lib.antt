@@ -15,6 +15,7 @@ pub mod Many
 pub mod NameSteps
 pub mod NumberSteps
 pub mod RowCounts
+pub mod RowLists
 pub mod Sequences
 pub mod Steps
 pub mod Stored

@@ -4,7 +4,7 @@ use Prim.Native.Nat.{ℕ}
 use lib.IntN.{ℤ}
 use lib.ListN.{length}
 use Rattle.lexer.specs.Numbers.{Form}
-use Rattle.chunks.specs.Readers.{Reader, _>>=_, _>>_, pure, numbers, cells, wordOf, closed, rowOf, many}
+use Rattle.chunks.specs.Readers.{Reader, _>>=_, _>>_, pure, numbers, cells, wordOf, closed, rowOf, many, many⁺}
 use Rattle.chunks.specs.Cursors.{overlayAt}
 
 -- rows one after the other
@@ -31,3 +31,7 @@ rowTail k lead f w i table = wordOf k >> closed (cellsInto lead f w i table)
 -- rows up to ), one after the other over a table's numbers from index i on, and how many they are
 unfoldable pub rowsInto : List ℕ → ℕ → Form → ℕ → ℕ → List ℤ → Reader (ℕ × List ℤ)
 rowsInto k lead f w i table = many (rowOf k lead f w) >>= λ rs. pure (length rs, overlayAt i (flat rs) table)
+
+-- one row or more, likewise
+unfoldable pub someInto : List ℕ → ℕ → Form → ℕ → ℕ → List ℤ → Reader (ℕ × List ℤ)
+someInto k lead f w i table = many⁺ (rowOf k lead f w) >>= λ rs. pure (length rs, overlayAt i (flat rs) table)

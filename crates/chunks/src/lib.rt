@@ -25,6 +25,7 @@ pub use lists::next_item;
 pub use lists::numbers;
 pub use lists::row;
 pub use lists::rows;
+pub use lists::some_rows;
 pub use naming::Named;
 pub use naming::name;
 pub use naming::optional_name;

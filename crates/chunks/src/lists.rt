@@ -3,7 +3,7 @@ ghost use mathlib.Core.Path.{_≡_};
 ghost use Prim.Native.Nat.{_+_, min};
 ghost use Rattle.chunks.specs.Cursors.{reads, from};
 ghost use Rattle.chunks.specs.Answers.{formNamed};
-ghost use Rattle.chunks.specs.Into.{numbersInto, rowInto, rowTail, rowsInto};
+ghost use Rattle.chunks.specs.Into.{numbersInto, rowInto, rowTail, rowsInto, someInto};
 ghost use Rattle.chunks.specs.Branches.{itemOf};
 use crate::cursor::Cursor;
 use crate::cursor::closing;
@@ -177,5 +177,33 @@ pub fn rows(
         count += 1;
         let n = out.len();
         i = advance(advance(i, lead, n), width, n);
+    }
+}
+
+// One row or more up to ), as `rows`.
+// Where the cursor has refused, what the table holds is free.
+pub fn some_rows(
+    text: &[u8],
+    c: Cursor,
+    word: &[u8],
+    lead: usize,
+    form: Form,
+    width: usize,
+    out: &mut [i64],
+    at: usize,
+) -> Counted
+    ensures { λ r. ⌜ reads (now (text .entry)) (r .cursor) (r .count, now (out .exit)) ≡ from (now (text .entry)) c (someInto (now (word .entry)) lead (formNamed form) width at (now (out .entry))) ⌝ }
+{
+    let first = row(text, c, word, lead, form, width, out, at);
+    let n = out.len();
+    let i = advance(advance(at, lead, n), width, n);
+    let more = rows(text, first, word, lead, form, width, out, i);
+    let d = more.cursor;
+    if d.refusal != 0 {
+        return more;
+    }
+    Counted {
+        cursor: d,
+        count: more.count + 1,
     }
 }
