@@ -1,10 +1,12 @@
 -- Laws that belong to no one function.
+pub mod Behind
 pub mod Binds
 pub mod Branches
 pub mod Choices
 pub mod Counts
 pub mod FieldCounts
 pub mod FieldFits
+pub mod FieldFlags
 pub mod FieldKeeps
 pub mod FieldSteps
 pub mod Folds
