@@ -5,12 +5,12 @@ use mathlib.Core.Bool.{Bool, true, false}
 use mathlib.Core.Option.{Option, none, some}
 use Prim.Native.Nat.{ℕ, _+_, _*_, _≤_, _<_}
 use lib.IntN.{ℤ, pos}
-use lib.ListN.{length, getD, take, drop}
+use lib.ListN.{length, getD, set, take, drop}
 use Rattle.lexer.specs.Tokens.{lexAt}
 use Rattle.chunks.specs.declared.cursor.Cursor.{Cursor}
 use Rattle.chunks.specs.Readers.{Got}
 use Rattle.chunks.specs.Cursors.{reads}
-use Rattle.chunks.specs.Fields.{isSome, kindFrom}
+use Rattle.chunks.specs.Fields.{isSome, kindFrom, insideAt}
 use Rattle.chunks.specs.Into.{flat}
 use Rattle.tra4_text.specs.Movement.{Channel}
 use Rattle.tra4_text.specs.Grammar.{channelKinds, keysIn}
@@ -43,6 +43,11 @@ pub record Reached {A : Type 0} (text : List ℕ) (r : Cursor) (g : Got A) (P : 
   pub value : A
   pub read : reads text r value ≡ g
   pub kept : r .refusal ≡ 0 → P value
+
+-- the keys of channel k, which has not been read, whatever other channels the code's state stands for
+abbrev pub KeysRead : List ℕ → ℕ → ℕ → List ℤ × List ℤ × ℕ × Bool → Cursor → List ℤ × List ℤ × ℕ × Bool → Type 0
+KeysRead text at k s r t =
+    (fs : List (Option Channel)) (seen : List Bool) → length fs ≡ 10 → getD fs k none ≡ none → Held fs seen (s .0) (s .1) (s .2) (s .3) → Reached text r (insideAt channelKinds k (lexAt text at)) (λ c. Held (set fs k (some c)) (set seen k true) (t .0) (t .1) (t .2) (t .3))
 
 -- one chunk after its (, whatever channels the code's state stands for
 abbrev pub ChunkRead : List ℕ → ℕ → List Bool × List ℤ × List ℤ × ℕ × Bool → Cursor → List Bool × List ℤ × List ℤ × ℕ × Bool → Type 0

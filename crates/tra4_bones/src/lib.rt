@@ -1,1 +1,2 @@
 // The bones of a movement, their keys laid by channel number.
+mod channel;
