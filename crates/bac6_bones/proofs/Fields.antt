@@ -17,6 +17,7 @@ use Rattle.chunks.specs.Readers.{absent}
 use Rattle.chunks.specs.Fields.{kind, isSome, kindFrom, unread, insideAt}
 use Rattle.chunks.specs.Words.{words, onto, keysOf, apart, differs, indexIn}
 use Rattle.chunks.proofs.Steps.{from-on}
+use Rattle.chunks.proofs.FieldFlags.{flags-length, flag-unread, flag-read}
 use Rattle.chunks.proofs.Vocabulary.{chunk-other, chunk-again, chunk-took}
 use Rattle.bac6_text.specs.Grammar.{BoneField, nameIn, flagIn, numbersIn, boneKinds}
 use Rattle.bac6_text.specs.Layout.{nameNumbers}
@@ -39,26 +40,6 @@ bone-count = refl
 pub unread-state : (n : ℕ) (b : ℤ) (s : Bool × List ℤ) → boneState n b s (unread boneKinds) ≡ (replicate 7 false, replicate 14 (pos 0), s)
 unfolding boneState boneNumbers unread boneKinds isSome three numbersIn flagIn nameIn nameNumbers absent claimed
 unread-state n b s = refl
-
--- ---- fields by their flags
-
-pub flags-length : {A : Type 0} (fs : List (Option A)) → length (map isSome fs) ≡ length fs
-flags-length [] = refl
-flags-length (f ∷ fs) = ap suc (flags-length fs)
-
-pub flag-unread : {A : Type 0} (fs : List (Option A)) (k : ℕ) → getD (map isSome fs) k false ≡ false → getD fs k none ≡ none
-unfolding isSome
-flag-unread [] k e = refl
-flag-unread (none ∷ fs) zero e = refl
-flag-unread (some a ∷ fs) zero e = absurd (true≢false e)
-flag-unread (f ∷ fs) (suc k) e = flag-unread fs k e
-
-pub flag-read : {A : Type 0} (fs : List (Option A)) (k : ℕ) → getD (map isSome fs) k false ≡ true → (a : A) × (getD fs k none ≡ some a)
-unfolding isSome
-flag-read [] k e = absurd (false≢true e)
-flag-read (none ∷ fs) zero e = absurd (false≢true e)
-flag-read (some a ∷ fs) zero e = (a, refl)
-flag-read (f ∷ fs) (suc k) e = flag-read fs k e
 
 -- ---- a field more
 

@@ -19,13 +19,13 @@ use Rattle.chunks.specs.Readers.{Got, _>>_, pure, isClosing, isOpening, keyword
 use Rattle.chunks.specs.Cursors.{reads, from, overlayAt, closedAt}
 use Rattle.chunks.specs.Fields.{kind, isSome, kindFrom, fieldsIn, fields, unread, neededOf, coversAll}
 use Rattle.chunks.proofs.Steps.{join, seq, reads-same, passed, from-on}
+use Rattle.chunks.proofs.Behind.{given}
 use Rattle.chunks.proofs.FieldSteps.{complete-seen, turn-ended, turn-full, turn-other, turn-chunk}
 use Rattle.bac6_text.specs.Figure.{Bone}
 use Rattle.bac6_text.specs.Grammar.{BoneField, numbersIn, boneOf, boneKinds}
 use Rattle.bac6_text.specs.Layout.{boneRow}
 use Rattle.bac6_rules.specs.Claims.{claimed}
 use Rattle.bac6_bones.specs.Into.{Yields, boneNumbers, boneState, boneTail, boneInto}
-use Rattle.bac6_bones.proofs.Yielding.{given}
 use Rattle.bac6_rules.proofs.Laid.{WholeBone}
 use Rattle.bac6_bones.proofs.Whole.{fields-whole}
 use Rattle.bac6_bones.proofs.Values.{three-all}

@@ -27,7 +27,8 @@ use Rattle.bac6_text.specs.Layout.{nameNumbers}
 use Rattle.bac6_rules.specs.Claims.{claimed}
 use Rattle.bac6_bones.specs.Into.{Yields, entriesInto, three, putRow}
 use Rattle.chunks.proofs.Counts.{alive}
-use Rattle.bac6_bones.proofs.Yielding.{unmap, given}
+use Rattle.chunks.proofs.Behind.{given}
+use Rattle.bac6_bones.proofs.Yielding.{unmap}
 use Rattle.bac6_bones.proofs.Fields.{putClaims}
 
 -- a cursor at an offset

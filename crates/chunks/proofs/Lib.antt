@@ -1,4 +1,5 @@
 -- Laws that belong to no one function.
+pub mod Behind
 pub mod Binds
 pub mod Branches
 pub mod Chains
@@ -6,6 +7,7 @@ pub mod Choices
 pub mod Counts
 pub mod FieldCounts
 pub mod FieldFits
+pub mod FieldFlags
 pub mod FieldKeeps
 pub mod FieldSteps
 pub mod Folds

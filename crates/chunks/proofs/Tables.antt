@@ -8,7 +8,7 @@ use native.Mathlib.Omega.{arith}
 use borrow.Author.Tests.{leb-true, leb-false}
 use lib.Dec.{leb}
 use lib.IntN.{ℤ}
-use lib.ListN.{length, set}
+use lib.ListN.{length, set, take, drop}
 use Rattle.chunks.specs.Cursors.{overlay, overlayAt}
 
 overlay-length : (zs t : List ℤ) → length (overlay zs t) ≡ length t
@@ -76,3 +76,33 @@ overlayAt-min i zs t = go (leb i (length t)) refl
 
 pub overlayAt-same : (i j : ℕ) (zs t : List ℤ) → min i (length t) ≡ min j (length t) → overlayAt i zs t ≡ overlayAt j zs t
 overlayAt-same i j zs t e = sym (overlayAt-min i zs t) ∙ ap (λ (n : ℕ). overlayAt n zs t) e ∙ overlayAt-min j zs t
+
+-- ---- parts of a table that numbers have been laid over
+
+overlay-part : (zs t : List ℤ) → length zs ≤ length t → take (length zs) (overlay zs t) ≡ zs
+unfolding overlay
+overlay-part [] t h = refl
+overlay-part (z ∷ zs) [] h = absurd (omega arith)
+overlay-part (z ∷ zs) (x ∷ t) h = ap (λ (l : List ℤ). z ∷ l) (overlay-part zs t (omega arith))
+
+-- the numbers stand where they were laid
+pub overlayAt-part : (i : ℕ) (zs t : List ℤ) → i + length zs ≤ length t → take (length zs) (drop i (overlayAt i zs t)) ≡ zs
+unfolding overlayAt
+overlayAt-part zero zs t h = overlay-part zs t (omega arith)
+overlayAt-part (suc i) zs [] h = absurd (omega arith)
+overlayAt-part (suc i) zs (x ∷ t) h = overlayAt-part i zs t (omega arith)
+
+take-below : (m i : ℕ) (zs t : List ℤ) → m ≤ i → take m (overlayAt i zs t) ≡ take m t
+unfolding overlayAt
+take-below zero i zs t h = refl
+take-below (suc m) zero zs t h = absurd (omega arith)
+take-below (suc m) (suc i) zs [] h = refl
+take-below (suc m) (suc i) zs (x ∷ t) h = ap (λ (l : List ℤ). x ∷ l) (take-below m i zs t (omega arith))
+
+-- a part below them is as it was
+pub overlayAt-below : (a m i : ℕ) (zs t : List ℤ) → a + m ≤ i → take m (drop a (overlayAt i zs t)) ≡ take m (drop a t)
+unfolding overlayAt
+overlayAt-below zero m i zs t h = take-below m i zs t (omega arith)
+overlayAt-below (suc a) m zero zs t h = absurd (omega arith)
+overlayAt-below (suc a) m (suc i) zs [] h = refl
+overlayAt-below (suc a) m (suc i) zs (x ∷ t) h = overlayAt-below a m i zs t (omega arith)

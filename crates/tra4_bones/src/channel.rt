@@ -18,6 +18,93 @@ pub(crate) struct Keyed {
     pub over: bool,
 }
 
+// The keys of channel k, to the table after those that stand there, and their first row and count to the ranges.
+fn channel_keys(
+    text: &[u8],
+    at: usize,
+    k: usize,
+    ranges: &mut [i64],
+    keys: &mut [i64],
+    count: usize,
+    over: bool,
+) -> Keyed
+    requires { ⌜ (k < 10) × (length (now ranges) ≡ 20) × (length (now keys) ≡ 8192) × (count ≤ 4096) ⌝ }
+    ensures { λ r. ⌜ KeysRead (now (text .entry)) at k (now (ranges .entry), now (keys .entry), count, over) (r .cursor) (now (ranges .exit), now (keys .exit), r .count, r .over) ⌝ }
+{
+    let inside = Cursor { refusal: 0, at };
+    let read = chunks::some_rows(text, inside, b"kf", 1, Form::Float, 1, keys, count * 2);
+    let d = read.cursor;
+    let n = read.count;
+    if d.refusal != 0 {
+        return Keyed {
+            cursor: d,
+            count,
+            over,
+        };
+    }
+    if over {
+        return Keyed {
+            cursor: d,
+            count,
+            over,
+        };
+    }
+    if 4096 - count < n {
+        return Keyed {
+            cursor: d,
+            count,
+            over: true,
+        };
+    }
+    let i = k * 2;
+    let first = count as i64;
+    let size = n as i64;
+    ranges[i] = first;
+    ranges[i + 1] = size;
+    Keyed {
+        cursor: d,
+        count: count + n,
+        over,
+    }
+}
+
+// One chunk after its opening bracket: the channel of its keyword is read, where it has not been.
+fn channel_chunk(
+    text: &[u8],
+    at: usize,
+    seen: &mut [bool],
+    ranges: &mut [i64],
+    keys: &mut [i64],
+    count: usize,
+    over: bool,
+) -> Keyed
+    requires { ⌜ (length (now seen) ≡ 10) × (length (now ranges) ≡ 20) × (length (now keys) ≡ 8192) × (count ≤ 4096) ⌝ }
+    ensures { λ r. ⌜ ChunkRead (now (text .entry)) at (now (seen .entry), now (ranges .entry), now (keys .entry), count, over) (r .cursor) (now (seen .exit), now (ranges .exit), now (keys .exit), r .count, r .over) ⌝ }
+{
+    let t = lexer::next(text, at);
+    let refused = Keyed {
+        cursor: Cursor {
+            refusal: 5,
+            at: t.start,
+        },
+        count,
+        over,
+    };
+    let k = chunks::word_index(
+        text,
+        t,
+        b"translate.x translate.y translate.z scale.x scale.y scale.z rotate.x rotate.y rotate.z roll",
+    );
+    if 10 <= k {
+        return refused;
+    }
+    if seen[k] {
+        return refused;
+    }
+    seen[k] = true;
+    channel_keys(text, t.end, k, ranges, keys, count, over)
+}
+
 // The channels up to the closing bracket of their bone: all ten must have stood.
 pub(crate) fn channels(
     text: &[u8],
@@ -29,9 +116,46 @@ pub(crate) fn channels(
     requires { ⌜ (now seen ≡ replicate 10 false) × (length (now ranges) ≡ 20) × (length (now keys) ≡ 8192) ⌝ }
     ensures { λ r. ⌜ Reached (now (text .entry)) (r .cursor) (fields channelKinds (lexAt (now (text .entry)) at)) (λ gs. Held gs (now (seen .exit)) (now (ranges .exit)) (now (keys .exit)) (r .count) (r .over)) ⌝ }
 {
-    Keyed {
-        cursor: Cursor { refusal: 0, at },
-        count: 0,
-        over: false,
+    let mut from = at;
+    let mut left: usize = 10;
+    let mut count: usize = 0;
+    let mut over = false;
+    loop {
+        let t = lexer::next(text, from);
+        let kind = t.kind;
+        let refused = Keyed {
+            cursor: Cursor {
+                refusal: 5,
+                at: t.start,
+            },
+            count,
+            over,
+        };
+        if chunks::is_closing(kind) {
+            return Keyed {
+                cursor: chunks::closed_at(
+                    t,
+                    &[true, true, true, true, true, true, true, true, true, true],
+                    seen,
+                ),
+                count,
+                over,
+            };
+        }
+        if left == 0 {
+            return refused;
+        }
+        if !chunks::is_opening(kind) {
+            return refused;
+        }
+        let m = channel_chunk(text, t.end, seen, ranges, keys, count, over);
+        let d = m.cursor;
+        if d.refusal != 0 {
+            return m;
+        }
+        from = d.at;
+        count = m.count;
+        over = m.over;
+        left -= 1;
     }
 }

@@ -1,0 +1,58 @@
+-- How many keys the channels have that have been read, and how wide the keys are: by list induction, and by what the readers give.
+use mathlib.Core.Path.{_≡_, refl, ap, sym, _∙_}
+use mathlib.Core.List.{List, [], _∷_, _++_, map}
+use mathlib.Core.Option.{Option, none, some}
+use Prim.Native.Nat.{ℕ, zero, suc, _+_, _*_, _<_}
+use Prim.Native.String.{String}
+use native.Mathlib.Omega.{arith}
+use lib.IntN.{ℤ}
+use lib.ListN.{length, getD, set, length-append}
+use Rattle.lexer.specs.Bytes.{bytes}
+use Rattle.lexer.specs.Numbers.{FLOAT}
+use Rattle.chunks.specs.Readers.{many⁺, rowOf}
+use Rattle.chunks.specs.Fields.{kind, insideAt}
+use Rattle.chunks.specs.Into.{flat}
+use Rattle.chunks.proofs.Given.{Gives, Every, row-of-gives, some-give}
+use Rattle.tra4_text.specs.Movement.{Key, Channel}
+use Rattle.tra4_text.specs.Grammar.{key, channel, channelNames, channelKinds, keysIn}
+use Rattle.tra4_text.specs.Rules.{allKeys}
+use Rattle.tra4_bones.specs.Held.{keysRead}
+
+-- ---- keys are two numbers wide
+
+abbrev pub Pairs : Channel → Type 0
+Pairs c = Every (λ (r : Key). length r ≡ 2) c
+
+pub keys-give : Gives Pairs (many⁺ key)
+unfolding key
+keys-give = some-give (λ (r : Key). length r ≡ 2) (rowOf (bytes "kf") 1 FLOAT 1) (row-of-gives (bytes "kf") 1 FLOAT 1)
+
+pub flat-pairs : (c : Channel) → Pairs c → length (flat c) ≡ length c * 2
+unfolding flat
+flat-pairs [] h = refl
+flat-pairs (r ∷ c) h = length-append r (flat c) ∙ omega (arith, h .0, flat-pairs c (h .1))
+
+-- ---- what stands in any channel's chunk
+
+inside-named : (ns : List String) (k : ℕ) → k < length ns → insideAt (map channel ns) k ≡ many⁺ key
+unfolding insideAt channel kind
+inside-named [] k h = absurd (omega arith)
+inside-named (n ∷ ns) zero h = refl
+inside-named (n ∷ ns) (suc k) h = inside-named ns k (omega arith)
+
+pub inside-is : (k : ℕ) → k < 10 → insideAt channelKinds k ≡ many⁺ key
+unfolding channelKinds channelNames
+inside-is k h = inside-named channelNames k h
+
+-- ---- the count
+
+keys-read : (f : Option Channel) (fs : List (Option Channel)) → keysRead (f ∷ fs) ≡ length (keysIn f) + keysRead fs
+unfolding keysRead allKeys
+keys-read f fs = length-append (keysIn f) (allKeys (map keysIn fs))
+
+-- a channel more
+pub keys-set : (fs : List (Option Channel)) (k : ℕ) (c : Channel) → k < length fs → getD fs k none ≡ none → keysRead (set fs k (some c)) ≡ keysRead fs + length c
+unfolding keysIn
+keys-set [] k c h e = absurd (omega arith)
+keys-set (f ∷ fs) zero c h e = keys-read (some c) fs ∙ let none-yet : f ≡ none = e in rw none-yet (let z = keys-read none fs in rw z (omega arith))
+keys-set (f ∷ fs) (suc k) c h e = keys-read f (set fs k (some c)) ∙ omega (arith, keys-set fs k c (omega arith) e, keys-read f fs)

@@ -1,0 +1,74 @@
+-- Channels that are read to their closing bracket: all ten have stood, and each key is two numbers wide, by what each kind's reader gives.
+use mathlib.Core.Path.{_≡_, refl, ap, ap₂, sym, _∙_}
+use mathlib.Core.List.{List, [], _∷_, map}
+use mathlib.Core.Bool.{true, false, false≢true}
+use mathlib.Core.Option.{Option, none, some}
+use Prim.Native.Nat.{ℕ, zero, suc, _<_}
+use Prim.Native.String.{String}
+use native.Mathlib.Omega.{arith}
+use lib.ListN.{length, getD}
+use Rattle.lexer.specs.Tokens.{Lexeme}
+use Rattle.chunks.specs.declared.cursor.Cursor.{Cursor}
+use Rattle.chunks.specs.Cursors.{reads}
+use Rattle.chunks.specs.Fields.{kind, isSome, unread, complete, fields}
+use Rattle.chunks.proofs.Behind.{given}
+use Rattle.chunks.proofs.Given.{Gives, Every}
+use Rattle.chunks.proofs.FieldCounts.{fields-in-length}
+use Rattle.chunks.proofs.FieldFits.{AllGive, AllFit, Whole, fields-fit}
+use Rattle.tra4_text.specs.Movement.{Channel}
+use Rattle.tra4_text.specs.Grammar.{channel, channelNames, channelKinds, keysIn}
+use Rattle.tra4_text.specs.Rules.{allKeys}
+use Rattle.tra4_bones.specs.Held.{keysRead}
+use Rattle.tra4_bones.proofs.Counts.{Pairs, keys-give}
+
+-- the channels behind fields that have all been read
+pub record AllRead (n : ℕ) (gs : List (Option Channel)) : Type 0 where
+  pub channels : List Channel
+  pub are : gs ≡ map some channels
+  pub count : length channels ≡ n
+  pub wide : Every Pairs channels
+
+one-more : (n : ℕ) (c : Channel) (gs : List (Option Channel)) → Pairs c → AllRead n gs → AllRead (suc n) (some c ∷ gs)
+one-more n c gs p r = record { channels = c ∷ r .channels; are = ap (λ (l : List (Option Channel)). some c ∷ l) (r .are); count = ap suc (r .count); wide = (p, r .wide) }
+
+abbrev Fine : ℕ → Channel → Type 0
+Fine i c = Pairs c
+
+names-give : (i : ℕ) (ns : List String) → AllGive Fine i (map channel ns)
+unfolding channel kind
+names-give i [] = tt
+names-give i (n ∷ ns) = (keys-give, names-give (suc i) ns)
+
+all-read : (i : ℕ) (ns : List String) (gs : List (Option Channel)) → AllFit Fine i gs → complete (map channel ns) gs ≡ true → length gs ≡ length ns → AllRead (length ns) gs
+unfolding complete channel kind isSome
+all-read i [] [] h e l = record { channels = []; are = refl; count = refl; wide = tt }
+all-read i [] (g ∷ gs) h e l = absurd (omega arith)
+all-read i (n ∷ ns) [] h e l = absurd (omega arith)
+all-read i (n ∷ ns) (none ∷ gs) h e l = absurd (false≢true e)
+all-read i (n ∷ ns) (some c ∷ gs) h e l = one-more (length ns) c gs (h .0) (all-read (suc i) ns gs (h .1) e (omega arith))
+
+pub fields-read : Gives (AllRead 10) (fields channelKinds)
+unfolding fields unread channelKinds channelNames
+fields-read ms gs l e =
+    let w = fields-fit Fine channelKinds (names-give 0 channelNames) ms gs l e in
+    all-read 0 channelNames gs (w .0) (w .1) (fields-in-length 10 channelKinds (unread channelKinds) ms gs l e)
+
+-- where a cursor has not refused
+pub read-all : (text : List ℕ) (r : Cursor) (ms : List Lexeme) (gs : List (Option Channel)) → reads text r gs ≡ fields channelKinds ms → r .refusal ≡ 0 → AllRead 10 gs
+read-all text r ms gs e o = given (AllRead 10) (fields channelKinds) fields-read text r ms gs e o
+
+-- ---- fields that are channels
+
+pub keys-in-some : (cs : List Channel) → map keysIn (map some cs) ≡ cs
+unfolding keysIn
+keys-in-some [] = refl
+keys-in-some (c ∷ cs) = ap (λ (l : List Channel). c ∷ l) (keys-in-some cs)
+
+pub keys-read-some : (cs : List Channel) → keysRead (map some cs) ≡ length (allKeys cs)
+unfolding keysRead
+keys-read-some cs = ap (λ (l : List Channel). length (allKeys l)) (keys-in-some cs)
+
+pub some-at : (cs : List Channel) (k : ℕ) → k < length cs → getD (map some cs) k none ≡ some (getD cs k [])
+some-at [] k h = absurd (omega arith)
+some-at (c ∷ cs) zero h = refl
+some-at (c ∷ cs) (suc k) h = some-at cs k (omega arith)
