@@ -13,6 +13,7 @@ use Rattle.tra4_text.specs.Grammar.{keysIn}
 use Rattle.tra4_text.specs.Rules.{allKeys}
 use Rattle.tra4_text.specs.Layout.{keyRanges}
 use Rattle.tra4_bones.specs.Held.{keysRead, Stored, Held}
+use Rattle.tra4_bones.proofs.Whole.{keys-read-some}
 use Rattle.tra4_bones.specs.Laying.{magnitude, rangeRows, gathered, rangesTotal, renumbered, RangeIn, Within}
 use Rattle.tra4_bones.proofs.Ranges.{magnitude-is}
 
@@ -82,26 +83,17 @@ ranged m keys n (f ∷ g ∷ ranges) (c ∷ cs) l w e =
 
 -- ---- what the code holds where every channel has been read
 
-keys-all : (cs : List Channel) → map keysIn (map some cs) ≡ cs
-unfolding keysIn
-keys-all [] = refl
-keys-all (c ∷ cs) = ap (λ (l : List Channel). c ∷ l) (keys-all cs)
-
-pub keysRead-all : (cs : List Channel) → keysRead (map some cs) ≡ length (allKeys cs)
-unfolding keysRead
-keysRead-all cs = rw (keys-all cs) refl
-
 module _ (cs : List Channel) (seen : List Bool) (ranges keys : List ℤ) (n : ℕ) where
   -- not too many: the ranges are the channels'
   pub held-ranged : length cs ≡ 10 → Held (map some cs) seen ranges keys n false → Ranged 4096 keys ranges cs
   held-ranged w h = ranged 4096 keys n ranges cs (h .most) (let v = h .width in omega arith) (h .stored refl)
 
   pub held-count : Held (map some cs) seen ranges keys n false → length (allKeys cs) ≡ n
-  held-count h = sym (keysRead-all cs) ∙ h .counted refl
+  held-count h = sym (keys-read-some cs) ∙ h .counted refl
 
   pub held-total : length cs ≡ 10 → Held (map some cs) seen ranges keys n false → rangesTotal ranges ≡ n
   held-total w h = held-ranged w h .total ∙ held-count h
 
   -- too many
   pub held-over : Held (map some cs) seen ranges keys n true → 4096 < length (allKeys cs)
-  held-over h = rw (keysRead-all cs) at (h .many refl)
+  held-over h = rw (keys-read-some cs) at (h .many refl)

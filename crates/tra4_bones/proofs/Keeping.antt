@@ -1,35 +1,31 @@
 -- What is kept of a bone: its name's place and its channels decide it; too many keys leave nothing.
 use mathlib.Core.Path.{_≡_, refl, ap, sym, _∙_}
 use mathlib.Core.List.{List, [], _∷_, _++_, map}
-use mathlib.Core.Bool.{Bool, true, false, _&&_}
+use mathlib.Core.Bool.{Bool, true, false}
 use mathlib.Core.Option.{Option, none, some}
-use Prim.Native.Nat.{ℕ, suc, _+_, _*_, _-_, _≤_, _<_, min}
-use Prim.Native.String.{String}
+use Prim.Native.Nat.{ℕ, _+_, _*_, _-_, _≤_, _<_, min}
 use native.Mathlib.Omega.{arith}
 use borrow.Author.Tests.{le-leb, lt-leb}
 use lib.IntN.{ℤ, pos}
-use lib.ListN.{length, length-map}
-use Rattle.lexer.proofs.Numerals.{and-true}
+use lib.ListN.{length}
 use Rattle.lexer.specs.Tokens.{Lexeme, lexAt}
 use Rattle.chunks.specs.declared.cursor.Cursor.{Cursor}
 use Rattle.chunks.specs.Readers.{Got, got, Reader, after, _>>=_, pure, absent, closed, string, optional}
 use Rattle.chunks.specs.Places.{placeOf, optionalName}
-use Rattle.chunks.specs.Fields.{kind, isSome, unread, complete, fields}
+use Rattle.chunks.specs.Fields.{fields}
 use Rattle.chunks.specs.Cursors.{from, reads, overlayAt}
 use Rattle.chunks.specs.Into.{flat}
-use Rattle.chunks.proofs.Steps.{join, from-on, reads-on, from-same, passed}
+use Rattle.chunks.proofs.Steps.{join, from-on, from-same, passed}
 use Rattle.chunks.proofs.Binds.{after-after, after-same}
 use Rattle.chunks.proofs.Tables.{overlayAt-append, overlayAt-same}
-use Rattle.chunks.proofs.Given.{Gives}
-use Rattle.chunks.proofs.FieldCounts.{fields-in-length}
-use Rattle.chunks.proofs.FieldFits.{AllGive, fields-fit}
 use Rattle.tra4_text.specs.Movement.{Channel, Bone}
-use Rattle.tra4_text.specs.Grammar.{channel, channelNames, channelKinds, keysIn, bone}
+use Rattle.tra4_text.specs.Grammar.{channelKinds, keysIn, bone}
 use Rattle.tra4_text.specs.Rules.{allKeys}
 use Rattle.tra4_text.specs.Layout.{nameNumbers, keyRanges, boneRow}
-use Rattle.tra4_bones.specs.Held.{Held, Reached, AllHeld}
+use Rattle.tra4_bones.specs.Held.{Held, AllHeld}
 use Rattle.tra4_bones.specs.Laying.{gathered, renumbered}
 use Rattle.tra4_bones.specs.Into.{Kept, kept, keyCount, boneKept, keptBy, boneInto}
+use Rattle.tra4_bones.proofs.Whole.{AllRead, read-all, keys-in-some}
 use Rattle.tra4_bones.proofs.Gathered.{held-ranged, held-count, held-over}
 
 -- ---- a bone by its parts
@@ -77,35 +73,18 @@ module _ (i : ℕ) (s : Kept) where
 
 -- ---- every channel has been read
 
-complete-all : (ns : List String) (gs : List (Option Channel)) → length gs ≡ length ns → complete (map channel ns) gs ≡ true → gs ≡ map some (map keysIn gs)
-unfolding complete channel kind isSome keysIn
-complete-all [] [] l h = refl
-complete-all [] (g ∷ gs) l h = absurd (omega arith)
-complete-all (n ∷ ns) [] l h = absurd (omega arith)
-complete-all (n ∷ ns) (none ∷ gs) l h = absurd (let z : _≡_ {A = Bool} false true = h in let y : _≡_ {A = ℕ} 0 1 = cc in omega (arith, y))
-complete-all (n ∷ ns) (some c ∷ gs) l h = ap (λ (t : List (Option Channel)). some c ∷ t) (complete-all ns gs (omega arith) h)
-
-any-give : (i : ℕ) (ns : List String) → AllGive {A = Channel} (λ _ _. Unit {0}) i (map channel ns)
-any-give i [] = tt
-any-give i (n ∷ ns) = ((λ _ _ _ _. tt), any-give (suc i) ns)
-
-pub ten-fields : Gives (λ gs. length gs ≡ 10) (fields channelKinds)
-unfolding fields channelKinds channelNames channel unread
-ten-fields = fields-in-length 10 channelKinds (unread channelKinds)
-
-pub fields-all : Gives (λ gs. gs ≡ map some (map keysIn gs)) (fields channelKinds)
-unfolding channelKinds
-fields-all ms gs l e = complete-all channelNames gs (unfold channelNames in ten-fields ms gs l e) (fields-fit (λ _ _. Unit {0}) channelKinds (any-give 0 channelNames) ms gs l e .1)
-
 module _ (text : List ℕ) (at : ℕ) (e : Cursor) (gs : List (Option Channel)) (q : reads text e gs ≡ fields channelKinds (lexAt text at)) (o : e .refusal ≡ 0) where
-  gave : fields channelKinds (lexAt text at) ≡ got gs (lexAt text (e .at))
-  gave = sym q ∙ reads-on text e gs o
+  all : AllRead 10 gs
+  all = read-all text e (lexAt text at) gs q o
+
+  keys : map keysIn gs ≡ all .channels
+  keys = ap (map keysIn) (all .are) ∙ keys-in-some (all .channels)
 
   pub all-some : gs ≡ map some (map keysIn gs)
-  all-some = fields-all _ gs _ gave
+  all-some = all .are ∙ ap (map some) (sym keys)
 
   pub all-ten : length (map keysIn gs) ≡ 10
-  all-ten = length-map gs keysIn ∙ ten-fields _ gs _ gave
+  all-ten = ap length keys ∙ all .count
 
   pub all-held : {seen : List Bool} {ranges keys : List ℤ} {n : ℕ} {over : Bool} → Held gs seen ranges keys n over → AllHeld ranges keys n over
   all-held {seen} h = record { channels = map keysIn gs; ten = all-ten; seen = seen; held = rw all-some at h }
