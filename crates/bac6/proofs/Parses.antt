@@ -12,6 +12,7 @@ use Rattle.lexer.specs.Numbers.{FLOAT}
 use Rattle.chunks.specs.Readers.{Name, Got, got, refused, Reader, after, _>>=_, _>>_, pure, opened, close-bracket, text-end, optional, trailing, many, many⁺, row}
 use Rattle.chunks.specs.Cursors.{reads, from}
 use Rattle.chunks.specs.Places.{placeOf}
+use Rattle.chunks.proofs.Counts.{whole-text}
 use Rattle.chunks.proofs.Steps.{from-on, from-off, join}
 use Rattle.chunks.proofs.Many.{not-got}
 use Rattle.chunks.proofs.Sequences.{into-then, into-bind, into-end, pair-up}
@@ -24,13 +25,6 @@ use Rattle.bac6_bones.specs.Into.{bonesInto}
 use Rattle.bac6_faces.specs.Into.{tablesOf, polygonsInto}
 use Rattle.bac6_faces.proofs.PolygonSteps.{polygons-shape}
 use Rattle.bac6.specs.Parse.{BackValue, backValue, backInto, figureInto, frontOf, bonesOf, backOf}
-
--- from a text's first byte on
-pub whole-text : {A : Type 0} (text : List ℕ) (r : Reader A) → from text (record { refusal = 0; at = 0 }) r ≡ r (lex text)
-unfolding lex lexAt
-whole-text text r =
-    let z : min 0 (length text) ≡ 0 = omega arith in
-    from-on text (record { refusal = 0; at = 0 }) r refl ∙ ap (λ (p : ℕ). r (tokens 0 p text)) z
 
 module _ (t c m p v b o u f g : List ℤ) where
   pub parse-join : (text : List ℕ) (d e : Cursor) (x : FrontValue) (y : BackValue) → reads text d x ≡ from text (record { refusal = 0; at = 0 }) (frontInto t c m p v) → reads text e y ≡ from text d (backInto (x .points .0) b o u f g) → reads {A = FrontValue × BackValue} text e (x, y) ≡ figureInto t c m p v b o u f g (lex text)

@@ -1,5 +1,5 @@
 -- How many tokens there are, and that a reader which takes one leaves fewer.
-use mathlib.Core.Path.{_≡_, refl, sym, _∙_}
+use mathlib.Core.Path.{_≡_, refl, ap, sym, _∙_}
 use mathlib.Core.List.{List, [], _∷_}
 use mathlib.Core.Bool.{Bool, true, false}
 use Prim.Native.Nat.{ℕ, zero, suc, _≤_, _<_, min}
@@ -8,7 +8,7 @@ use borrow.Author.Tests.{eqb-true, eqb-false}
 use lib.Dec.{eqb}
 use lib.ListN.{length, drop, length-drop}
 use Rattle.lexer.specs.Bytes.{Class, blank, opener, closer, quote, semicolon, letter, other, classOf, isLetter, inLine, inString, run}
-use Rattle.lexer.specs.Tokens.{tokens, lexAt}
+use Rattle.lexer.specs.Tokens.{tokens, lexAt, lex}
 use Rattle.chunks.specs.declared.cursor.Cursor.{Cursor}
 use Rattle.chunks.specs.Readers.{Reader}
 use Rattle.chunks.specs.Cursors.{reads, from}
@@ -54,3 +54,10 @@ falls text d e r a t p o = t .less _ a _ (sym (sym (reads-on text e a o) ∙ p �
 -- a reader that takes no token back, from cursor d to e
 pub short : {A : Type 0} (text : List ℕ) (d e : Cursor) (r : Reader A) (a : A) → Keeps r → reads text e a ≡ from text d r → e .refusal ≡ 0 → length (lexAt text (e .at)) ≤ length (lexAt text (d .at))
 short text d e r a k p o = k _ a _ (sym (sym (reads-on text e a o) ∙ p ∙ from-on text d r (alive text d e r a p o)))
+
+-- from a text's first byte on
+pub whole-text : {A : Type 0} (text : List ℕ) (r : Reader A) → from text (record { refusal = 0; at = 0 }) r ≡ r (lex text)
+unfolding lex lexAt
+whole-text text r =
+    let z : min 0 (length text) ≡ 0 = omega arith in
+    from-on text (record { refusal = 0; at = 0 }) r refl ∙ ap (λ (p : ℕ). r (tokens 0 p text)) z
