@@ -7,7 +7,8 @@ use borrow.Author.Tests.{le-leb, lt-leb}
 use lib.IntN.{ℤ, pos}
 use lib.Signed.{ltZ}
 use Rattle.lexer.specs.Faults.{clear, fault}
-use Rattle.tra4_text.specs.Rules.{tooMany, totalFault}
+use Rattle.chunks.specs.Rules.{tooMany}
+use Rattle.tra4_text.specs.Rules.{totalFault}
 use Rattle.tra4_rules.proofs.Numbers.{most-above}
 
 module _ (i n m : ℕ) (ns ms : List ℕ) where

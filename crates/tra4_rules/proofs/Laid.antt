@@ -15,13 +15,14 @@ use Rattle.chunks.specs.Into.{flat}
 use Rattle.chunks.proofs.Given.{Every}
 use Rattle.tra4_text.specs.Movement.{Key, Channel, Bone, Movement}
 use Rattle.tra4_text.specs.Layout.{nameNumbers, keyRanges, boneRow, boneRows}
-use Rattle.tra4_text.specs.Rules.{channelsOf, allKeys, keyRows, countsOf, mosts, tooMany, movementFault}
+use Rattle.chunks.specs.Rules.{tooMany}
+use Rattle.tra4_text.specs.Rules.{channelsOf, allKeys, keyRows, countsOf, mosts, movementFault}
 use Rattle.tra4_rules.specs.Rows.{rowsOf, wholeRows}
 use Rattle.tra4_rules.specs.Keys.{countOf, pairCounts, boneCounts, rowCounts, keyCounts, cut, channelsIn}
 use Rattle.tra4_rules.specs.Order.{tablesFault}
 use Rattle.tra4_rules.proofs.Tables.{rows-more}
 use Rattle.tra4_rules.proofs.Counts.{count-beyond}
-use Rattle.tra4_rules.proofs.Orders.{or-fault}
+use Rattle.chunks.proofs.Rules.{or-fault}
 
 -- ---- rows of one width
 

@@ -4,5 +4,4 @@ pub mod Counts
 pub mod Tables
 pub mod Frames
 pub mod Keys
-pub mod Orders
 pub mod Laid

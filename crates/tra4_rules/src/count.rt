@@ -2,7 +2,8 @@
 ghost use mathlib.Core.Path.{_≡_};
 ghost use mathlib.Core.List.{[], _∷_};
 ghost use Rattle.lexer.specs.Answers.{refusal};
-ghost use Rattle.tra4_text.specs.Rules.{tooMany, mosts, totalFault};
+ghost use Rattle.chunks.specs.Rules.{tooMany};
+ghost use Rattle.tra4_text.specs.Rules.{mosts, totalFault};
 use lexer::Checked;
 
 // The first list with more rows than it may have.

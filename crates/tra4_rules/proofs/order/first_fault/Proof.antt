@@ -6,10 +6,11 @@ use denote.Ref.{now}
 use mir.Facts.{toZ-ofZ}
 use Rattle.lexer.specs.Faults.{clear}
 use Rattle.lexer.specs.Answers.{refusal}
-use Rattle.tra4_text.specs.Rules.{tooMany, mosts, totalFault, keysFault}
+use Rattle.chunks.specs.Rules.{tooMany}
+use Rattle.tra4_text.specs.Rules.{mosts, totalFault, keysFault}
 use Rattle.tra4_rules.specs.Keys.{channelsIn}
 use Rattle.tra4_rules.specs.Order.{tablesFault}
-use Rattle.tra4_rules.proofs.Orders.{refused-by, clear-by, or-clear, or-fault}
+use Rattle.chunks.proofs.Rules.{refused-by, clear-by, or-clear, or-fault}
 use Rattle.tra4_rules.proofs.order.first_fault.Statement.{statement}
 use Rattle.tra4_rules.proofs.order.first_fault.Tie as tie
 
