@@ -20,7 +20,8 @@ use Rattle.bac6_text.specs.Layout.{layoutOf, nameNumbers, boneRow, boneRows, ow
 use Rattle.chunks.proofs.Chains.{overlay-whole}
 use Rattle.bac6_layout.proofs.Layouts.{layout-lists}
 use Rattle.bac6_rules.proofs.Claims.{owners-length}
-use Rattle.bac6_rules.proofs.Laid.{Wide, face-rows-wide, face-rows-length, bones-wide, bones-count}
+use Rattle.chunks.proofs.Widths.{Wide, flat-length}
+use Rattle.bac6_rules.proofs.Laid.{face-rows-wide, face-rows-length, bones-wide, bones-count}
 use Rattle.bac6_rules.proofs.Placing.{fault-not-clear}
 use Rattle.bac6.proofs.Whole.{WholeFigure}
 
@@ -67,21 +68,6 @@ bounds f h =
     let s = count-clear 7 (length (facesOf f)) 1024 _ _ (u .1) in
     let g = count-clear 8 (length (f .groups)) 32 _ _ (s .1) in
     record { textures = t .0; colours = c .0; materials = m .0; points = p .0; normals = v .0; bones = b .0; uvs = u .0; faces = s .0; groups = g .0 }
-
--- ---- rows of one width
-
-pub flat-length : (w : ℕ) (rs : List (List ℤ)) → Wide w rs → length (flat rs) ≡ length rs * w
-unfolding flat
-flat-length w [] h = sym (zero-mul w)
-flat-length w (r ∷ rs) h = length-append r (flat rs) ∙ ap₂ _+_ (h .0) (flat-length w rs (h .1)) ∙ add-comm w (length rs * w) ∙ sym (suc-mul (length rs) w)
-
--- rows in a table with room for n of them
-pub held : (w n : ℕ) (rs : List (List ℤ)) (t : List ℤ) → Wide w rs → length rs ≤ n → n * w ≤ length t → overlayAt 0 (flat rs) t ≡ flat rs ++ drop (length (flat rs)) t
-held w n rs t h l k = overlay-whole (flat rs) t (rw (flat-length w rs h) (le-trans (mul-le-mul-right w l) k))
-
--- and those rows alone
-pub prefix : (w : ℕ) (rs : List (List ℤ)) (rest : List ℤ) → Wide w rs → take (length rs * w) (flat rs ++ rest) ≡ flat rs
-prefix w rs rest h = take-at (flat rs) rest (length rs * w) (flat-length w rs h)
 
 -- ---- groups
 

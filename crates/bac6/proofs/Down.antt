@@ -27,7 +27,7 @@ use Rattle.bac6.proofs.Parses.{values}
 use Rattle.bac6.proofs.Whole.{WholeFigure, faces-whole}
 use Rattle.bac6.proofs.Bounds.{Within, bounds, groups-wide, groups-count, total}
 use Rattle.bac6.proofs.Rules.{unclaimed-parts, bones-held}
-use Rattle.bac6.proofs.Parts.{rows-part, rows-room, part-is, room-is}
+use Rattle.chunks.proofs.Widths.{rows-part, rows-room, part-is, room-is}
 use Rattle.bac6.proofs.Taken.{parsedAs, name-is, textures-are, colours-are, materials-are, points-are, normals-are, bones-are, claims-are, uvs-are, faces-are, groups-are, counts-are}
 
 module _ (f : Figure) (clean : figureFault f ≡ clear) where

@@ -6,7 +6,6 @@ pub mod Rules
 pub mod FigureName
 pub mod Settings
 pub mod Taken
-pub mod Parts
 pub mod Down
 pub mod Outcomes
 pub mod Checks

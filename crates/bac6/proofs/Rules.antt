@@ -15,10 +15,12 @@ use Rattle.bac6_text.specs.Layout.{boneRow, boneRows, faceRows, ownersFrom}
 use Rattle.bac6_rules.specs.Claims.{claimedBones}
 use Rattle.bac6_rules.specs.Order.{figureCounts, tablesFault, BonesLeft}
 use Rattle.bac6_rules.proofs.Claims.{unclaimed, claims-fault, claims-owners}
-use Rattle.bac6_rules.proofs.Laid.{Wide, face-rows-wide, face-rows-length, bones-wide, bones-count}
+use Rattle.chunks.proofs.Widths.{Wide}
+use Rattle.bac6_rules.proofs.Laid.{face-rows-wide, face-rows-length, bones-wide, bones-count}
 use Rattle.bac6_rules.proofs.Orders.{tables-within, tables-laid, bones-left}
 use Rattle.bac6.proofs.Whole.{WholeFigure, faces-whole}
-use Rattle.bac6.proofs.Bounds.{Within, bounds, held, bones-rows}
+use Rattle.bac6.proofs.Bounds.{Within, bounds, bones-rows}
+use Rattle.chunks.proofs.Widths.{held}
 
 -- as many unclaimed vertices as there are points, and the others
 pub unclaimed-parts : (n k : ℕ) → n ≤ k → replicate k (negsuc 0) ≡ unclaimed n (replicate (k - n) (negsuc 0))

@@ -14,7 +14,8 @@ use Rattle.bac6_text.specs.Grammar.{bone, faceOf, faceBy, face, group, material
 use Rattle.bac6_text.specs.Rules.{groupFaces, facesOf}
 use Rattle.bac6_parse.proofs.Fronts.{material-wide}
 use Rattle.bac6_bones.proofs.Whole.{bone-whole}
-use Rattle.bac6_rules.proofs.Laid.{Wide, WholeFace, WholeFaces, WholeBone, WholeBones}
+use Rattle.chunks.proofs.Widths.{Wide}
+use Rattle.bac6_rules.proofs.Laid.{WholeFace, WholeFaces, WholeBone, WholeBones}
 
 -- ---- faces
 

@@ -10,21 +10,14 @@ use lib.ListN.{length, length-append}
 use Rattle.chunks.specs.Cursors.{overlayAt}
 use Rattle.chunks.specs.Into.{flat}
 use Rattle.chunks.specs.Folds.{fold, rowStep}
+use Rattle.chunks.proofs.Folds.{fold-rows}
+use Rattle.chunks.proofs.Widths.{Wide, wide-append}
 use Rattle.chunks.proofs.Tables.{overlayAt-none, overlayAt-append}
 use Rattle.bac6_text.specs.Figure.{Face, Group}
 use Rattle.bac6_text.specs.Layout.{corners, faceRow, groupRows, groupNames, nameNumbers}
 use Rattle.bac6_faces.specs.Into.{faceStep, groupStep, allRows, tablesOf}
 
 -- ---- rows of one width
-
-unfoldable Wide : ℕ → List (List ℤ) → Type 0
-Wide w [] = Unit {0}
-Wide w (r ∷ rs) = (length r ≡ w) × Wide w rs
-
-wide-append : (w : ℕ) (rs qs : List (List ℤ)) → Wide w rs → Wide w qs → Wide w (rs ++ qs)
-unfolding Wide
-wide-append w [] qs h k = k
-wide-append w (r ∷ rs) qs h k = (h .0, wide-append w rs qs (h .1) k)
 
 corners-length : (n : ℕ) (zs : List ℤ) → length (corners n zs) ≡ n
 unfolding corners
@@ -37,17 +30,16 @@ unfolding faceRow
 face-length g f = simp (length-append, corners-length)
 
 faces-wide : (g : ℤ) (fs : List Face) → Wide 11 (map (faceRow g) fs)
-unfolding Wide
 faces-wide g [] = tt
 faces-wide g (f ∷ fs) = (face-length g f, faces-wide g fs)
 
 groups-wide : (i : ℕ) (gs : List Group) → Wide 11 (groupRows i gs)
-unfolding Wide groupRows
+unfolding groupRows
 groups-wide i [] = tt
 groups-wide i (g ∷ gs) = wide-append 11 (map (faceRow (pos i)) (g .faces)) (groupRows (suc i) gs) (faces-wide (pos i) (g .faces)) (groups-wide (suc i) gs)
 
 names-wide : (gs : List Group) → Wide 2 (groupNames gs)
-unfolding Wide groupNames nameNumbers
+unfolding groupNames nameNumbers
 names-wide [] = tt
 names-wide (g ∷ gs) = (refl, names-wide gs)
 
@@ -60,14 +52,6 @@ names-length (g ∷ gs) = ap suc (names-length gs)
 
 next-row : (n w : ℕ) → n * w + w ≡ (n + 1) * w
 next-row n w = omega arith
-
-rows-fold : (w n : ℕ) (t : List ℤ) (rs : List (List ℤ)) → Wide w rs → fold (rowStep w) (n, t) rs ≡ (n + length rs, overlayAt (n * w) (flat rs) t)
-unfolding Wide fold rowStep flat
-rows-fold w n t [] h = rw (add-zero, overlayAt-none (n * w) t)
-rows-fold w n t (r ∷ rs) h =
-    let c : n + 1 + length rs ≡ n + suc (length rs) = omega arith in
-    rows-fold w (n + 1) (overlayAt (n * w) r t) rs (h .1)
-    ∙ rw (overlayAt-append (n * w) r (flat rs) t, h .0, next-row n w, c)
 
 fold-append : {A S : Type 0} (step : S → A → S) (s : S) (l m : List A) → fold step s (l ++ m) ≡ fold step (fold step s l) m
 unfolding fold
@@ -95,7 +79,7 @@ both-closed : (faces names : List ℤ) (ps : List Face) (gs : List Group) → fo
 unfolding allRows
 both-closed faces names ps gs =
     group-fold 0 names (fold (faceStep (negsuc 0)) (0, faces) ps) gs
-    ∙ rw (face-fold (negsuc 0) (0, faces) ps, ← fold-append (rowStep 11) (0, faces) (map (faceRow (negsuc 0)) ps) (groupRows 0 gs), rows-fold 2 0 names (groupNames gs) (names-wide gs), rows-fold 11 0 faces (map (faceRow (negsuc 0)) ps ++ groupRows 0 gs) (wide-append 11 _ _ (faces-wide (negsuc 0) ps) (groups-wide 0 gs)), names-length gs)
+    ∙ rw (face-fold (negsuc 0) (0, faces) ps, ← fold-append (rowStep 11) (0, faces) (map (faceRow (negsuc 0)) ps) (groupRows 0 gs), fold-rows 2 0 names (groupNames gs) (names-wide gs), fold-rows 11 0 faces (map (faceRow (negsuc 0)) ps ++ groupRows 0 gs) (wide-append 11 (map (faceRow (negsuc 0)) ps) (groupRows 0 gs) (faces-wide (negsuc 0) ps) (groups-wide 0 gs)), names-length gs)
     (rw (zero-add (length gs), zero-add (length (map (faceRow (negsuc 0)) ps ++ groupRows 0 gs))))
 
 -- the faces first

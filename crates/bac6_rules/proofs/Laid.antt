@@ -12,6 +12,7 @@ use lib.Seq.{take-at, drop-at, getD-at, getD-append-add, set-at, set-append-left
 use lib.IntN.{ℤ, pos, negsuc}
 use Rattle.lexer.specs.Faults.{clear}
 use Rattle.bac6_text.specs.Figure.{Bone, Face, Group, Figure}
+use Rattle.chunks.proofs.Widths.{Wide, wide-append}
 use Rattle.chunks.specs.Into.{flat}
 use Rattle.chunks.proofs.Given.{Every}
 use Rattle.bac6_text.specs.Layout.{nameNumbers, boneRow, boneRows, faceRow, groupRows, faceRows}
@@ -25,9 +26,6 @@ use Rattle.bac6_rules.proofs.Whole.{settled-clear}
 
 -- ---- rows of one width
 
-abbrev pub Wide : ℕ → List (List ℤ) → Type 0
-Wide w rs = Every (λ r. length r ≡ w) rs
-
 flat-apart : (r : List ℤ) (rs : List (List ℤ)) (rest : List ℤ) → flat (r ∷ rs) ++ rest ≡ r ++ (flat rs ++ rest)
 unfolding flat
 flat-apart r rs rest = append-assoc r (flat rs) rest
@@ -39,10 +37,6 @@ rows-laid w (r ∷ rs) rest h =
     rw (flat-apart r rs rest)
     (rows-more w (length rs) (r ++ (flat rs ++ rest)) (rw length-append (omega arith))
     ∙ rw (take-at r (flat rs ++ rest) w e, drop-at r (flat rs ++ rest) w e, rows-laid w rs rest (h .1)))
-
-wide-append : (w : ℕ) (a b : List (List ℤ)) → Wide w a → Wide w b → Wide w (a ++ b)
-wide-append w [] b h k = k
-wide-append w (r ∷ a) b h k = (h .0, wide-append w a b (h .1) k)
 
 -- ---- faces
 

@@ -24,5 +24,6 @@ pub mod Steps
 pub mod Stored
 pub mod Tables
 pub mod Vocabulary
+pub mod Widths
 pub mod Within
 pub mod Outcomes

@@ -1,6 +1,6 @@
 -- Bones one after another leave their rows and keys at the tables' start, or there are too many keys.
 use mathlib.Core.Path.{_≡_, refl, ap, sym, _∙_}
-use mathlib.Core.List.{List, [], _∷_, _++_}
+use mathlib.Core.List.{List, [], _∷_, _++_, append-assoc}
 use mathlib.Core.Bool.{Bool, true, false}
 use mathlib.Core.Option.{Option, none, some}
 use Prim.Native.Nat.{ℕ, zero, suc, _+_, _*_, _≤_, _<_}
@@ -19,27 +19,8 @@ use Rattle.tra4_text.specs.Movement.{Key, Channel, Bone}
 use Rattle.tra4_text.specs.Rules.{allKeys, channelsOf}
 use Rattle.tra4_text.specs.Layout.{nameNumbers, keyRanges, boneRow, boneRows}
 use Rattle.tra4_bones.specs.Into.{Kept, keyCount, boneKept, boneStep}
-use Rattle.tra4.proofs.Whole.{Wide, WholeBone}
-
--- ---- lists of rows
-
-pub append-assoc : {A : Type 0} (a b c : List A) → (a ++ b) ++ c ≡ a ++ (b ++ c)
-append-assoc [] b c = refl
-append-assoc (x ∷ a) b c = ap (λ l. x ∷ l) (append-assoc a b c)
-
-pub flat-append : (a b : List (List ℤ)) → flat (a ++ b) ≡ flat a ++ flat b
-unfolding flat
-flat-append [] b = refl
-flat-append (r ∷ a) b = ap (λ (l : List ℤ). r ++ l) (flat-append a b) ∙ sym (append-assoc r (flat a) (flat b))
-
-pub flat-length : (w : ℕ) (rs : List (List ℤ)) → Wide w rs → length (flat rs) ≡ length rs * w
-unfolding flat
-flat-length w [] h = omega arith
-flat-length w (r ∷ rs) h = let e : suc (length rs) * w ≡ w + length rs * w = omega arith in length-append r (flat rs) ∙ rw (e, h .0, flat-length w rs (h .1))
-
-wide-append : (w : ℕ) (a b : List (List ℤ)) → Wide w a → Wide w b → Wide w (a ++ b)
-wide-append w [] b h k = k
-wide-append w (r ∷ a) b h k = (h .0, wide-append w a b (h .1) k)
+use Rattle.chunks.proofs.Widths.{Wide, wide-append, flat-append, flat-length}
+use Rattle.tra4.proofs.Whole.{WholeBone}
 
 -- ---- the keys of channels
 

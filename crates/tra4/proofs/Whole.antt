@@ -13,14 +13,12 @@ use Rattle.lexer.specs.Tokens.{Lexeme}
 use Rattle.chunks.specs.Readers.{Name, absent, got, Reader, _>>=_, _>>_, pure, rest, head, opened, closed, string, number, optional, trailing, many, many⁺, rowOf, starts, close-bracket, text-end}
 use Rattle.chunks.specs.Fields.{kind, unread, fields}
 use Rattle.chunks.proofs.Given.{Gives, Every, pure-gives, bind-gives, then-gives, row-of-gives, some-give, many-gives, trailing-gives}
+use Rattle.chunks.proofs.Widths.{Wide}
 use Rattle.chunks.proofs.FieldCounts.{fields-in-length}
 use Rattle.chunks.proofs.FieldFits.{AllGive, AllFit, fields-fit}
 use Rattle.tra4_text.specs.Movement.{Key, Channel, Bone, Pattern, Movement}
 use Rattle.tra4_text.specs.Grammar.{repeatedIn, repeated, repeated⁺, key, channel, channelNames, channelKinds, keysIn, bone, pattern, movement}
 use Rattle.tra4_parse.proofs.Patterns.{pattern-wide}
-
-abbrev pub Wide : ℕ → List (List ℤ) → Type 0
-Wide w = Every (λ r. length r ≡ w)
 
 pub record WholeBone (b : Bone) : Type 0 where
   pub ten : length (b .channels) ≡ 10

@@ -13,6 +13,7 @@ use Rattle.chunks.specs.Readers.{many⁺, rowOf}
 use Rattle.chunks.specs.Fields.{kind, insideAt}
 use Rattle.chunks.specs.Into.{flat}
 use Rattle.chunks.proofs.Given.{Gives, Every, row-of-gives, some-give}
+use Rattle.chunks.proofs.Widths.{Wide, flat-length}
 use Rattle.tra4_text.specs.Movement.{Key, Channel}
 use Rattle.tra4_text.specs.Grammar.{key, channel, channelNames, channelKinds, keysIn}
 use Rattle.tra4_text.specs.Rules.{allKeys}
@@ -21,16 +22,14 @@ use Rattle.tra4_bones.specs.Held.{keysRead}
 -- ---- keys are two numbers wide
 
 abbrev pub Pairs : Channel → Type 0
-Pairs c = Every (λ (r : Key). length r ≡ 2) c
+Pairs c = Wide 2 c
 
 pub keys-give : Gives Pairs (many⁺ key)
 unfolding key
 keys-give = some-give (λ (r : Key). length r ≡ 2) (rowOf (bytes "kf") 1 FLOAT 1) (row-of-gives (bytes "kf") 1 FLOAT 1)
 
 pub flat-pairs : (c : Channel) → Pairs c → length (flat c) ≡ length c * 2
-unfolding flat
-flat-pairs [] h = refl
-flat-pairs (r ∷ c) h = length-append r (flat c) ∙ omega (arith, h .0, flat-pairs c (h .1))
+flat-pairs c h = flat-length 2 c h
 
 -- ---- what stands in any channel's chunk
 

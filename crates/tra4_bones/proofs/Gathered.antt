@@ -8,6 +8,7 @@ use native.Mathlib.Omega.{arith}
 use lib.IntN.{ℤ, pos}
 use lib.ListN.{length, getD, length-append}
 use Rattle.chunks.specs.Into.{flat}
+use Rattle.chunks.proofs.Widths.{flat-append}
 use Rattle.tra4_text.specs.Movement.{Key, Channel}
 use Rattle.tra4_text.specs.Grammar.{keysIn}
 use Rattle.tra4_text.specs.Rules.{allKeys}
@@ -16,11 +17,6 @@ use Rattle.tra4_bones.specs.Held.{keysRead, Stored, Held}
 use Rattle.tra4_bones.proofs.Whole.{keys-read-some}
 use Rattle.tra4_bones.specs.Laying.{magnitude, rangeRows, gathered, rangesTotal, renumbered, RangeIn, Within}
 use Rattle.tra4_bones.proofs.Ranges.{magnitude-is}
-
-flat-append : (a b : List Key) → flat (a ++ b) ≡ flat a ++ flat b
-unfolding flat
-flat-append [] b = refl
-flat-append (r ∷ a) b = ap (λ (l : List ℤ). r ++ l) (flat-append a b) ∙ sym (append-assoc r (flat a) (flat b))
 
 -- ---- one channel
 

@@ -93,5 +93,15 @@ pub(crate) fn bone_tail(
     if over {
         return unset;
     }
-    set_bone(read, n.place, n.length, &mut ranges, scratch, bone_rows, to, key_rows, count)
+    set_bone(
+        read,
+        n.place,
+        n.length,
+        &mut ranges,
+        scratch,
+        bone_rows,
+        to,
+        key_rows,
+        count,
+    )
 }

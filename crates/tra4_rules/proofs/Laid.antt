@@ -11,6 +11,7 @@ use lib.ListN.{length, length-append}
 use lib.Seq.{take-at, drop-at}
 use lib.IntN.{ℤ}
 use Rattle.lexer.specs.Faults.{Fault, clear, fault}
+use Rattle.chunks.proofs.Widths.{Wide}
 use Rattle.chunks.specs.Into.{flat}
 use Rattle.chunks.proofs.Given.{Every}
 use Rattle.tra4_text.specs.Movement.{Key, Channel, Bone, Movement}
@@ -25,9 +26,6 @@ use Rattle.tra4_rules.proofs.Counts.{count-beyond}
 use Rattle.chunks.proofs.Rules.{or-fault}
 
 -- ---- rows of one width
-
-abbrev pub Wide : ℕ → List (List ℤ) → Type 0
-Wide w rs = Every (λ r. length r ≡ w) rs
 
 flat-apart : (r : List ℤ) (rs : List (List ℤ)) (rest : List ℤ) → flat (r ∷ rs) ++ rest ≡ r ++ (flat rs ++ rest)
 unfolding flat
