@@ -1,0 +1,80 @@
+// Reads a movement's text into a lent table.
+ghost use mathlib.Core.Path.{_≡_};
+ghost use Prim.Native.Nat.{_≤_};
+ghost use lib.ListN.{length};
+ghost use Rattle.lexer.specs.Tokens.{lex};
+ghost use Rattle.chunks.specs.Outcomes.{shaped, fitted, laid};
+ghost use Rattle.tra4_text.specs.Grammar.{movement};
+ghost use Rattle.tra4_text.specs.Rules.{movementFault};
+ghost use Rattle.tra4_text.specs.Layout.{layoutOf};
+ghost use Rattle.tra4_text.specs.Answer.{movementAnswer, movementTable};
+ghost use Rattle.tra4.specs.Answers.{Blank, answerOf, keyCount};
+use crate::setting::MovementAnswer;
+use crate::setting::refused;
+use crate::setting::set_down;
+use lexer::Checked;
+use lexer::Format;
+use tra4_parse::parse;
+
+// The answer is document 01's, and the table holds the layout from its start on; or, where refused, what it held.
+pub fn read(text: &[u8], table: &mut [i64]) -> MovementAnswer
+    ensures answer { λ r. ⌜ r ≡ answerOf (movementAnswer (now (text .entry)) (length (now (table .entry)))) ⌝ }
+    ensures content { λ r. ⌜ now (table .exit) ≡ movementTable (now (text .entry)) (now (table .entry)) ⌝ }
+{
+    match lexer::check_text(text, Format::Tra) {
+        Checked::Refused { number, offset } => refused(number as usize, offset),
+        Checked::Clear => read_shape(text, table),
+    }
+}
+
+// Each list has a table of its most rows.
+fn read_shape(text: &[u8], table: &mut [i64]) -> MovementAnswer
+    requires { ⌜ length (now text) ≤ 65536 ⌝ }
+    ensures answer { λ r. ⌜ r ≡ answerOf (fitted layoutOf (length (now (table .entry))) (shaped movementFault (movement (lex (now (text .entry)))))) ⌝ }
+    ensures content { λ r. ⌜ now (table .exit) ≡ laid layoutOf (now (table .entry)) (fitted layoutOf (length (now (table .entry))) (shaped movementFault (movement (lex (now (text .entry)))))) ⌝ }
+{
+    let mut bone_rows = [0i64; 2816];
+    let mut key_rows = [0i64; 8192];
+    let mut pattern_rows = [0i64; 768];
+    read_into(text, table, &mut bone_rows, &mut key_rows, &mut pattern_rows)
+}
+
+// How many keys there are, or one more than the most where there are too many.
+fn key_count(over: bool, keys: usize) -> usize
+    ensures { λ r. ⌜ r ≡ keyCount over keys ⌝ }
+{
+    if over { 4097 } else { keys }
+}
+
+// The text is parsed, the rules run over the rows, and the lent table is written where all of them hold.
+fn read_into(
+    text: &[u8],
+    table: &mut [i64],
+    bone_rows: &mut [i64],
+    key_rows: &mut [i64],
+    pattern_rows: &mut [i64],
+) -> MovementAnswer
+    requires { ⌜ Blank (now text) (now «bone_rows») (now «key_rows») (now «pattern_rows») ⌝ }
+    ensures answer { λ r. ⌜ r ≡ answerOf (fitted layoutOf (length (now (table .entry))) (shaped movementFault (movement (lex (now (text .entry)))))) ⌝ }
+    ensures content { λ r. ⌜ now (table .exit) ≡ laid layoutOf (now (table .entry)) (fitted layoutOf (length (now (table .entry))) (shaped movementFault (movement (lex (now (text .entry)))))) ⌝ }
+{
+    let p = parse(text, bone_rows, key_rows, pattern_rows);
+    let d = p.cursor;
+    if d.refusal != 0 {
+        return refused(d.refusal as usize, d.at);
+    }
+    let total = p.total;
+    let keys = key_count(p.over, p.keys);
+    match tra4_rules::first_fault(
+        total,
+        p.bones,
+        keys,
+        p.patterns,
+        bone_rows,
+        key_rows,
+        pattern_rows,
+    ) {
+        Checked::Refused { number, offset } => refused(number as usize, offset),
+        Checked::Clear => set_down(table, p, bone_rows, key_rows, pattern_rows),
+    }
+}

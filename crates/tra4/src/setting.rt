@@ -1,0 +1,68 @@
+// A parsed movement's lists set down in the lent table.
+ghost use mathlib.Core.Path.{_≡_};
+ghost use lib.ListN.{length};
+ghost use Rattle.tra4.specs.Answers.{Fits, refusedWith, downAnswer, downTable, partsOf};
+use chunks::put;
+use tra4_parse::Parsed;
+
+// A refusal's number, place and file; or the total and how many rows each list has. All else is 0.
+pub struct MovementAnswer {
+    pub refusal: usize,
+    pub place: usize,
+    pub file: usize,
+    pub total: usize,
+    pub bones: usize,
+    pub keys: usize,
+    pub patterns: usize,
+}
+
+pub(crate) fn refused(number: usize, place: usize) -> MovementAnswer
+    ensures { λ r. ⌜ r ≡ refusedWith number place ⌝ }
+{
+    MovementAnswer {
+        refusal: number,
+        place,
+        file: 1,
+        total: 0,
+        bones: 0,
+        keys: 0,
+        patterns: 0,
+    }
+}
+
+// Lays the lists without gaps, each list's part of its table; or refuses a table that is too short (17).
+pub(crate) fn set_down(
+    table: &mut [i64],
+    p: Parsed,
+    bone_rows: &[i64],
+    key_rows: &[i64],
+    pattern_rows: &[i64],
+) -> MovementAnswer
+    requires { ⌜ Fits p (now «bone_rows») (now «key_rows») (now «pattern_rows») ⌝ }
+    ensures answer { λ r. ⌜ r ≡ downAnswer p (length (now (table .entry))) ⌝ }
+    ensures content { λ r. ⌜ now (table .exit) ≡ downTable p (partsOf p (now («bone_rows» .entry)) (now («key_rows» .entry)) (now («pattern_rows» .entry))) (now (table .entry)) ⌝ }
+{
+    let b = p.bones * 22;
+    let k = p.keys * 2;
+    let g = p.patterns * 3;
+    let total = 3 + b + k + g;
+    if table.len() < total {
+        return refused(17, total);
+    }
+    let frames = p.total;
+    let place = p.place;
+    let size = p.length;
+    let named = put(table, 0, &[frames, place as i64, size as i64]);
+    let boned = put(table, named, &bone_rows[..b]);
+    let keyed = put(table, boned, &key_rows[..k]);
+    put(table, keyed, &pattern_rows[..g]);
+    MovementAnswer {
+        refusal: 0,
+        place: 0,
+        file: 0,
+        total,
+        bones: p.bones,
+        keys: p.keys,
+        patterns: p.patterns,
+    }
+}
