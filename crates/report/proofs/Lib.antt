@@ -4,4 +4,5 @@ pub mod Numerals
 pub mod Lines
 pub mod Lists
 pub mod Texts
+pub mod Listings
 pub mod Examples

@@ -1,10 +1,11 @@
 -- Lists of rows as lines, one line a row (document 01, "Listing").
-use mathlib.Core.List.{List, [], _∷_, _++_}
+use mathlib.Core.List.{List, [], _∷_, _++_, map}
 use mathlib.Core.Bool.{true, false}
 use Prim.Native.Nat.{ℕ, zero, suc, _*_}
-use lib.Dec.{leb}
+use lib.Dec.{eqb, leb}
 use lib.IntN.{ℤ, pos, negsuc}
 use lib.ListN.{length, take, drop}
+use Rattle.lexer.specs.Bytes.{bytes}
 use Rattle.report.specs.Text.{line}
 use Rattle.report.specs.Output.{Output, output, appended}
 use Rattle.report.specs.declared.list.Progress.{Progress}
@@ -36,6 +37,16 @@ listLines (rowList word width count ∷ ls) zs = rowLines word width count zs ++
 -- a count as a number of a line; one of 2 ^ 63 or more, which no table has, is shown as -1
 unfoldable pub shown : ℕ → ℤ
 shown n = elim (leb n 9223372036854775807) [ true ↦ pos n | false ↦ negsuc 0 ]
+
+-- ---- a whole listing
+
+-- the total after a word; or a refusal's number and place
+unfoldable pub firstLine : List ℕ → ℕ → ℕ → ℕ → List ℕ
+firstLine word refusal place total = elim (eqb refusal 0) [ true ↦ line word (map shown (total ∷ [])) | false ↦ line (bytes "refused") (map shown (refusal ∷ place ∷ [])) ]
+
+-- that, and the lists where nothing is refused
+unfoldable pub listingLines : List ℕ → ℕ → ℕ → ℕ → List RowList → List ℤ → List (List ℕ)
+listingLines word refusal place total ls zs = firstLine word refusal place total ∷ elim (eqb refusal 0) [ true ↦ listLines ls zs | false ↦ [] ]
 
 -- ---- on the way through a table: what is put, and the numbers that are left
 

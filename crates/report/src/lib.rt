@@ -8,4 +8,5 @@ pub use line::append_number;
 pub use line::append_row;
 pub use list::Progress;
 pub use list::append_list;
+pub use list::first_line;
 pub use list::shown;

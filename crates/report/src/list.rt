@@ -1,7 +1,8 @@
 // Lists of a table, a line a row.
 ghost use mathlib.Core.Path.{_≡_};
 ghost use Prim.Native.Nat.{min};
-ghost use Rattle.report.specs.Lists.{rowList, listed, reached};
+ghost use Rattle.report.specs.Output.{output, appended};
+ghost use Rattle.report.specs.Lists.{rowList, listed, reached, firstLine};
 ghost use Rattle.report.specs.Lists.{shown as shownAs};
 use crate::buffer::has_room;
 use crate::line::append_row;
@@ -55,4 +56,14 @@ pub fn append_list(
         left -= 1;
     }
     Progress { filled: n, at }
+}
+
+// Puts a listing's first line at the start of buf: a word and the total, or a refusal's number and place.
+pub fn first_line(buf: &mut [u8], word: &[u8], refusal: usize, place: usize, total: usize) -> usize
+    ensures { λ r. ⌜ output r (now (buf .exit)) ≡ appended (output 0 (now (buf .entry))) (firstLine (now (word .entry)) refusal place total) ⌝ }
+{
+    if refusal != 0 {
+        return append_row(buf, 0, b"refused", &[shown(refusal), shown(place)]);
+    }
+    append_row(buf, 0, word, &[shown(total)])
 }
