@@ -1,11 +1,8 @@
 -- How many rows and numbers a figure's lists have, so that each fits its table and the layout's length is their sum.
 use mathlib.Core.Path.{_≡_, refl, ap, ap₂, sym, _∙_}
 use mathlib.Core.List.{List, [], _∷_, _++_, map}
-use mathlib.Core.Bool.{Bool, true, false}
 use Prim.Native.Nat.{ℕ, zero, suc, _+_, _*_, _≤_}
 use native.Mathlib.Nat.{zero-mul, suc-mul, add-comm, le-trans, mul-le-mul-right}
-use borrow.Author.Tests.{leb-true}
-use lib.Dec.{leb}
 use lib.ListN.{length, take, drop, replicate, length-append}
 use lib.Seq.{take-at}
 use lib.IntN.{ℤ, pos}
@@ -17,12 +14,12 @@ use Rattle.bac6_text.specs.Figure.{Bone, Group, Figure}
 use Rattle.chunks.specs.Rules.{tooMany}
 use Rattle.bac6_text.specs.Rules.{facesOf, countsOf, mosts, flagsOf, wholeList, parentsIn}
 use Rattle.bac6_text.specs.Layout.{layoutOf, nameNumbers, boneRow, boneRows, ownersFrom, faceRows, groupNames}
+use Rattle.chunks.proofs.Rules.{count-clear}
 use Rattle.chunks.proofs.Chains.{overlay-whole}
 use Rattle.bac6_layout.proofs.Layouts.{layout-lists}
 use Rattle.bac6_rules.proofs.Claims.{owners-length}
 use Rattle.chunks.proofs.Widths.{Wide, flat-length}
 use Rattle.bac6_rules.proofs.Laid.{face-rows-wide, face-rows-length, bones-wide, bones-count}
-use Rattle.bac6_rules.proofs.Placing.{fault-not-clear}
 use Rattle.bac6.proofs.Whole.{WholeFigure}
 
 -- ---- the most rows of each list
@@ -37,23 +34,6 @@ pub record Within (f : Figure) : Type 0 where
   pub uvs : length (f .uvs) ≤ 4096
   pub faces : length (facesOf f) ≤ 1024
   pub groups : length (f .groups) ≤ 32
-
-module _ (i n m : ℕ) (ns ms : List ℕ) where
-  count-fine : leb n m ≡ true → tooMany i (n ∷ ns) (m ∷ ms) ≡ tooMany (suc i) ns ms
-  unfolding tooMany
-  count-fine e = rw (e, tooMany)
-
-  count-over : leb n m ≡ false → tooMany i (n ∷ ns) (m ∷ ms) ≡ fault 8 i
-  unfolding tooMany
-  count-over e = rw (e, tooMany)
-
-  -- a list without fault is within its most, and so are those after it
-  count-clear : tooMany i (n ∷ ns) (m ∷ ms) ≡ clear → (n ≤ m) × (tooMany (suc i) ns ms ≡ clear)
-  count-clear h = go (leb n m) refl
-    where
-      go : (v : Bool) → leb n m ≡ v → (n ≤ m) × (tooMany (suc i) ns ms ≡ clear)
-      go true e = (leb-true n m e, sym (count-fine e) ∙ h)
-      go false e = absurd (fault-not-clear 8 i (sym (count-over e) ∙ h))
 
 pub bounds : (f : Figure) → tooMany 0 (countsOf f) mosts ≡ clear → Within f
 unfolding countsOf mosts

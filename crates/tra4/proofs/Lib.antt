@@ -2,3 +2,6 @@
 pub mod Whole
 pub mod Parses
 pub mod Bones
+pub mod MovementName
+pub mod Settings
+pub mod Ends

@@ -36,7 +36,13 @@ fn read_shape(text: &[u8], table: &mut [i64]) -> MovementAnswer
     let mut bone_rows = [0i64; 2816];
     let mut key_rows = [0i64; 8192];
     let mut pattern_rows = [0i64; 768];
-    read_into(text, table, &mut bone_rows, &mut key_rows, &mut pattern_rows)
+    read_into(
+        text,
+        table,
+        &mut bone_rows,
+        &mut key_rows,
+        &mut pattern_rows,
+    )
 }
 
 // How many keys there are, or one more than the most where there are too many.

@@ -1,0 +1,255 @@
+-- What reading answers at each of its ends is the definition's: the text refused, a rule broken, the lists set down.
+use mathlib.Core.Path.{_≡_, refl, ap, sym, _∙_}
+use mathlib.Core.List.{List, [], _∷_, _++_}
+use mathlib.Core.Bool.{Bool, true, false}
+use mathlib.Core.Option.{Option, none, some}
+use Prim.Native.Nat.{ℕ, _+_, _*_, _≤_, _<_}
+use native.Mathlib.Nat.{zero-add}
+use native.Mathlib.Omega.{arith}
+use borrow.Author.Tests.{leb-true, leb-false}
+use lib.Dec.{leb}
+use lib.IntN.{ℤ, pos}
+use lib.ListN.{length, take, drop, length-append}
+use Rattle.lexer.specs.Faults.{Fault, clear, fault}
+use Rattle.lexer.specs.Tokens.{lex}
+use Rattle.chunks.specs.Places.{placeOf}
+use Rattle.chunks.specs.Into.{flat}
+use Rattle.chunks.specs.Cursors.{reads, overlayAt}
+use Rattle.chunks.specs.Folds.{fold}
+use Rattle.chunks.specs.Rules.{tooMany}
+use Rattle.chunks.specs.Outcomes.{Outcome, rejected, accepted, shaped, fitted, laid}
+use Rattle.chunks.proofs.Rules.{or-first, count-clear}
+use Rattle.chunks.proofs.Given.{Every}
+use Rattle.chunks.proofs.Widths.{Wide, flat-length, held, part-is, room-is}
+use Rattle.chunks.proofs.Outcomes.{shape-rejected, rule-rejected, all-taken}
+use Rattle.tra4_text.specs.Movement.{Bone, Movement}
+use Rattle.tra4_text.specs.Grammar.{movement}
+use Rattle.tra4_text.specs.Rules.{allKeys, channelsOf, keyRows, countsOf, mosts, movementFault}
+use Rattle.tra4_text.specs.Layout.{nameNumbers, boneRows, layoutOf}
+use Rattle.tra4_bones.specs.Into.{Kept, kept, boneStep}
+use Rattle.tra4_parse.specs.declared.shape.Parsed.{Parsed}
+use Rattle.tra4_parse.specs.Parse.{MovementValue, movementValue, movementInto}
+use Rattle.tra4_rules.specs.Order.{tablesFault}
+use Rattle.tra4_rules.proofs.Laid.{Tenfold, inTables, keys-beyond, tables-over, tables-within, tables-laid}
+use Rattle.tra4.specs.Parse.{valueOf}
+use Rattle.tra4.specs.Answers.{refusedWith, answerOf, totalOf, countsAnswer, downAnswer, downTable, partsOf, Fits, keyCount, rulesFault, Blank}
+use Rattle.tra4.proofs.Whole.{WholeBone, WholeMovement, movement-whole}
+use Rattle.tra4.proofs.Parses.{Found, parsed-found, parsed-refused}
+use Rattle.tra4.proofs.Bones.{all-wide, row-length, fold-bones, fold-over}
+use Rattle.tra4.proofs.MovementName.{name-within}
+use Rattle.tra4.proofs.Settings.{answer-is, table-is}
+
+-- what parsing answers, with the tables that it leaves
+unfoldable pub parsedAs : Parsed → List ℤ → List ℤ → List ℤ → MovementValue
+parsedAs p b k g = movementValue (p .total) (p .place, p .length) (p .bones, kept (p .over) b (p .keys) k) (p .patterns, g)
+
+-- ---- what is kept of bones
+
+kept-some : (over : Bool) (rows : List ℤ) (n : ℕ) (keys : List ℤ) (x : List ℤ × ℕ × List ℤ) → kept over rows n keys ≡ some x → (over ≡ false) × (x ≡ (rows, n, keys))
+unfolding kept
+kept-some true rows n keys x e = let z : _≡_ {A = ℕ} 0 1 = cc in absurd (omega (arith, z))
+kept-some false rows n keys x e = (refl, cc)
+
+kept-none : (over : Bool) (rows : List ℤ) (n : ℕ) (keys : List ℤ) → kept over rows n keys ≡ none → over ≡ true
+unfolding kept
+kept-none true rows n keys e = refl
+kept-none false rows n keys e = let z : _≡_ {A = ℕ} 0 1 = cc in absurd (omega (arith, z))
+
+rows-wide : (row : ℕ) (bs : List Bone) → Every WholeBone bs → Wide 22 (boneRows row bs)
+unfolding boneRows
+rows-wide row [] h = tt
+rows-wide row (b ∷ bs) h = (row-length row b (h .0), rows-wide (row + length (allKeys (b .channels))) bs (h .1))
+
+rows-count : (row : ℕ) (bs : List Bone) → length (boneRows row bs) ≡ length bs
+unfolding boneRows
+rows-count row [] = refl
+rows-count row (b ∷ bs) = let h = rows-count (row + length (allKeys (b .channels))) bs in omega arith
+
+tenfold : (bs : List Bone) → Every WholeBone bs → Tenfold bs
+tenfold [] h = tt
+tenfold (b ∷ bs) h = (h .0 .ten, tenfold bs (h .1))
+
+-- ---- the most rows of each list
+
+bounds : (m : Movement) → tooMany 0 (countsOf m) mosts ≡ clear → (length (m .bones) ≤ 128) × (length (keyRows m) ≤ 4096) × (length (m .patterns) ≤ 256)
+unfolding countsOf mosts
+bounds m h =
+    let b = count-clear 0 (length (m .bones)) 128 _ _ h in
+    let k = count-clear 1 (length (keyRows m)) 4096 _ _ (b .1) in
+    let p = count-clear 2 (length (m .patterns)) 256 _ _ (k .1) in
+    (b .0, k .0, p .0)
+
+-- ---- the rules by equal counts and tables
+
+same-tables : (t t′ : ℤ) (n n′ k k′ p p′ : ℕ) (bs ks ps : List ℤ) → t′ ≡ t → n′ ≡ n → k′ ≡ k → p′ ≡ p → tablesFault t′ n′ k′ p′ bs ks ps ≡ tablesFault t n k p bs ks ps
+same-tables t t′ n n′ k k′ p p′ bs ks ps e f h i = rw (e, f, h, i)
+
+held-rules : (m : Movement) (bs ks ps rb rk rp : List ℤ) → bs ≡ flat (boneRows 0 (m .bones)) ++ rb → ks ≡ flat (keyRows m) ++ rk → ps ≡ flat (m .patterns) ++ rp → Tenfold (m .bones) → Wide 2 (keyRows m) → Wide 3 (m .patterns) → inTables m bs ks ps ≡ movementFault m
+held-rules m bs ks ps rb rk rp e f h t w v = rw (e, f, h) (tables-laid m rb rk rp t w v)
+
+same-parts : (t t′ : ℤ) (a a′ s s′ : ℕ) (b b′ k k′ g g′ : List ℤ) → t ≡ t′ → a ≡ a′ → s ≡ s′ → b ≡ b′ → k ≡ k′ → g ≡ g′ → (t ∷ pos a ∷ pos s ∷ []) ++ b ++ k ++ g ≡ (t′ ∷ pos a′ ∷ pos s′ ∷ []) ++ b′ ++ k′ ++ g′
+same-parts t t′ a a′ s s′ b b′ k k′ g g′ et ea es eb ek eg = rw (et, ea, es, eb, ek, eg)
+
+count-few : (over : Bool) (n k : ℕ) → over ≡ false → k ≡ n → keyCount over n ≡ k
+unfolding keyCount
+count-few over n k e f = rw (e, f)
+
+count-over : (over : Bool) (n : ℕ) → over ≡ true → keyCount over n ≡ 4097
+unfolding keyCount
+count-over over n e = rw e
+
+module _ (text : List ℕ) (b k g : List ℤ) (blank : Blank text b k g) (p : Parsed) (b′ k′ g′ : List ℤ) (e : reads text (p .cursor) (parsedAs p b′ k′ g′) ≡ movementInto b k g (lex text)) where
+  -- the shape is refused
+  pub shape-refused : (p .cursor .refusal ≡ 0 → ⊥) → shaped movementFault (movement (lex text)) ≡ rejected (p .cursor .refusal) (p .cursor .at)
+  shape-refused z = shape-rejected movementFault (parsed-refused text b k g (p .cursor) (parsedAs p b′ k′ g′) e z)
+
+  module _ (z : p .cursor .refusal ≡ 0) where
+    found : Found text b k g (parsedAs p b′ k′ g′)
+    found = parsed-found text b k g (p .cursor) (parsedAs p b′ k′ g′) e z
+
+    abbrev read : Movement
+    read = found .read
+
+    abbrev bones : List Bone
+    bones = found .read .bones
+
+    whole : WholeMovement read
+    whole = movement-whole (lex text) read (found .left) (found .gives)
+
+    frames-are : read .totalFrames ≡ p .total
+    unfolding parsedAs valueOf movementValue
+    frames-are = ap (λ (v : MovementValue). v .total) (found .value)
+
+    name-is : placeOf (read .name) ≡ (p .place, p .length)
+    unfolding parsedAs valueOf movementValue
+    name-is = ap (λ (v : MovementValue). v .name) (found .value)
+
+    bones-are : fold boneStep (0, some (b, 0, k)) bones ≡ (p .bones, kept (p .over) b′ (p .keys) k′)
+    unfolding parsedAs valueOf movementValue
+    bones-are = ap (λ (v : MovementValue). v .bones) (found .value)
+
+    patterns-are : (length (read .patterns) ≡ p .patterns) × (overlayAt 0 (flat (read .patterns)) g ≡ g′)
+    unfolding parsedAs valueOf movementValue
+    patterns-are = (ap (λ (v : MovementValue). v .patterns .0) (found .value), ap (λ (v : MovementValue). v .patterns .1) (found .value))
+
+    -- not too many keys: the tables begin with the rows
+    module _ (few : length (keyRows read) ≤ 4096) where
+      unfolded : (length bones ≡ p .bones) × (kept (p .over) b′ (p .keys) k′ ≡ some (overlayAt 0 (flat (boneRows 0 bones)) b, length (keyRows read), overlayAt 0 (flat (keyRows read)) k))
+      unfolding keyRows
+      unfolded =
+          let q = sym (fold-bones 0 0 b k bones (whole .bones) (omega (arith, few))) ∙ bones-are in
+          let i : 0 + length bones ≡ length bones = omega arith in
+          let j : 0 + length (allKeys (channelsOf bones)) ≡ length (allKeys (channelsOf bones)) = omega arith in
+          (sym i ∙ ap (λ (x : ℕ × Kept). x .0) q, sym (rw j at (ap (λ (x : ℕ × Kept). x .1) q)))
+
+      not-over : p .over ≡ false
+      not-over = kept-some (p .over) b′ (p .keys) k′ _ (unfolded .1) .0
+
+      tables : _≡_ {A = List ℤ × ℕ × List ℤ} (overlayAt 0 (flat (boneRows 0 bones)) b, length (keyRows read), overlayAt 0 (flat (keyRows read)) k) (b′, p .keys, k′)
+      tables = kept-some (p .over) b′ (p .keys) k′ _ (unfolded .1) .1
+
+      bones-held : (length (boneRows 0 bones) ≡ p .bones) × (overlayAt 0 (flat (boneRows 0 bones)) b ≡ b′)
+      bones-held = (rows-count 0 bones ∙ unfolded .0, ap (λ (x : List ℤ × ℕ × List ℤ). x .0) tables)
+
+      keys-held : (length (keyRows read) ≡ p .keys) × (overlayAt 0 (flat (keyRows read)) k ≡ k′)
+      keys-held = (ap (λ (x : List ℤ × ℕ × List ℤ). x .1) tables, ap (λ (x : List ℤ × ℕ × List ℤ). x .2) tables)
+
+      -- the rules over the tables are the movement's
+      rules-few : rulesFault p b′ k′ g′ ≡ movementFault read
+      unfolding rulesFault
+      rules-few = same-tables (read .totalFrames) (p .total) (length bones) (p .bones) (length (keyRows read)) (keyCount (p .over) (p .keys)) (length (read .patterns)) (p .patterns) b′ k′ g′ (sym frames-are) (sym (unfolded .0)) (count-few (p .over) (p .keys) (length (keyRows read)) not-over (keys-held .0)) (sym (patterns-are .0)) ∙ tables-within read b′ k′ g′ laid-rules
+        where
+          laid-rules : tooMany 0 (countsOf read) mosts ≡ clear → inTables read b′ k′ g′ ≡ movementFault read
+          laid-rules h =
+              let w = bounds read h in
+              held-rules read b′ k′ g′ _ _ _
+              (sym (bones-held .1) ∙ held 22 128 (boneRows 0 bones) b (rows-wide 0 bones (whole .bones)) (omega (arith, rows-count 0 bones, w .0)) (omega (arith, blank .bones)))
+              (sym (keys-held .1) ∙ held 2 4096 (keyRows read) k (unfold keyRows in (all-wide bones (whole .bones))) few (omega (arith, blank .keys)))
+              (sym (patterns-are .1) ∙ held 3 256 (read .patterns) g (whole .patterns) (w .2) (omega (arith, blank .patterns)))
+              (tenfold bones (whole .bones))
+              (unfold keyRows in (all-wide bones (whole .bones)))
+              (whole .patterns)
+
+    -- too many
+    rules-over : 4096 < length (keyRows read) → rulesFault p b′ k′ g′ ≡ movementFault read
+    unfolding rulesFault keyRows countsOf
+    rules-over h =
+        let q = sym (fold-over 0 0 b k bones (omega arith) (omega (arith, h))) ∙ bones-are in
+        let i : 0 + length bones ≡ length bones = omega arith in
+        let o = kept-none (p .over) b′ (p .keys) k′ (sym (ap (λ (x : ℕ × Kept). x .1) q)) in
+        let c : length bones ≡ p .bones = sym i ∙ ap (λ (x : ℕ × Kept). x .0) q in
+        same-tables (p .total) (p .total) (length bones) (p .bones) 4097 (keyCount (p .over) (p .keys)) (p .patterns) (p .patterns) b′ k′ g′ refl (sym c) (count-over (p .over) (p .keys) o) refl
+        ∙ tables-over read (keys-beyond (length bones) (length (keyRows read)) (length (read .patterns)) h) (p .total) (length bones) 4097 (p .patterns) b′ k′ g′ (keys-beyond (length bones) 4097 (p .patterns) (omega arith))
+
+    rules : rulesFault p b′ k′ g′ ≡ movementFault read
+    rules = go (leb (length (keyRows read)) 4096) refl
+      where
+        go : (v : Bool) → leb (length (keyRows read)) 4096 ≡ v → rulesFault p b′ k′ g′ ≡ movementFault read
+        go true o = rules-few (leb-true _ _ o)
+        go false o = rules-over (leb-false _ _ o)
+
+    -- a rule is broken
+    pub rule-refused : {n i : ℕ} → rulesFault p b′ k′ g′ ≡ fault n i → shaped movementFault (movement (lex text)) ≡ rejected n i
+    rule-refused h = rule-rejected movementFault (found .gives) (sym rules ∙ h)
+
+    -- none is
+    module _ (h : rulesFault p b′ k′ g′ ≡ clear) where
+      clean : movementFault read ≡ clear
+      clean = sym rules ∙ h
+
+      taken : shaped movementFault (movement (lex text)) ≡ accepted read
+      taken = all-taken movementFault (found .gives) clean
+
+      within : (length (read .bones) ≤ 128) × (length (keyRows read) ≤ 4096) × (length (read .patterns) ≤ 256)
+      unfolding movementFault
+      within = bounds read (or-first _ _ clean)
+
+      keys-two : Wide 2 (keyRows read)
+      unfolding keyRows
+      keys-two = all-wide bones (whole .bones)
+
+      rows-few : length (boneRows 0 bones) ≤ 128
+      rows-few = rw (rows-count 0 bones) (within .0)
+
+      bones-part : take (p .bones * 22) b′ ≡ flat (boneRows 0 bones)
+      bones-part = part-is 22 128 (p .bones) (boneRows 0 bones) b b′ (rows-wide 0 bones (whole .bones)) rows-few (omega (arith, blank .bones)) (bones-held (within .1))
+
+      keys-part : take (p .keys * 2) k′ ≡ flat (keyRows read)
+      keys-part = part-is 2 4096 (p .keys) (keyRows read) k k′ keys-two (within .1) (omega (arith, blank .keys)) (keys-held (within .1))
+
+      patterns-part : take (p .patterns * 3) g′ ≡ flat (read .patterns)
+      patterns-part = part-is 3 256 (p .patterns) (read .patterns) g g′ (whole .patterns) (within .2) (omega (arith, blank .patterns)) patterns-are
+
+      parts : partsOf p b′ k′ g′ ≡ layoutOf read
+      unfolding partsOf layoutOf nameNumbers placeOf
+      parts = same-parts _ _ _ _ _ _ _ _ _ _ _ _ (sym frames-are) (sym (ap (λ (x : ℕ × ℕ). x .0) name-is)) (sym (ap (λ (x : ℕ × ℕ). x .1) name-is)) bones-part keys-part patterns-part
+
+      total : totalOf p ≡ length (layoutOf read)
+      unfolding totalOf layoutOf nameNumbers
+      total =
+          rw (length-append ((read .totalFrames ∷ nameNumbers (read .name)) ++ flat (boneRows 0 bones) ++ flat (keyRows read)) (flat (read .patterns)), length-append ((read .totalFrames ∷ nameNumbers (read .name)) ++ flat (boneRows 0 bones)) (flat (keyRows read)), length-append (read .totalFrames ∷ nameNumbers (read .name)) (flat (boneRows 0 bones)), flat-length 22 (boneRows 0 bones) (rows-wide 0 bones (whole .bones)), flat-length 2 (keyRows read) keys-two, flat-length 3 (read .patterns) (whole .patterns), bones-held (within .1) .0, keys-held (within .1) .0, patterns-are .0)
+
+      counts : countsAnswer p ≡ answerOf (accepted read)
+      unfolding countsAnswer answerOf
+      counts = rw (total, unfolded (within .1) .0, keys-held (within .1) .0, patterns-are .0)
+
+      pub rows-fit : Fits p b′ k′ g′
+      unfolding totalOf placeOf
+      rows-fit =
+          let n = name-within text read (found .left) (found .gives) in
+          let at : read .name .at ≡ p .place = ap (λ (x : ℕ × ℕ). x .0) name-is in
+          let size : length (read .name .bytes) ≡ p .length = ap (λ (x : ℕ × ℕ). x .1) name-is in
+          record {
+            place = rw (← at) (omega (arith, n .0, blank .size));
+            size = rw (← size) (omega (arith, n .1, blank .size));
+            total = omega (arith, within .0, within .1, within .2, unfolded (within .1) .0, keys-held (within .1) .0, patterns-are .0);
+            bones = room-is 22 128 (p .bones) (boneRows 0 bones) b b′ (rows-wide 0 bones (whole .bones)) rows-few (omega (arith, blank .bones)) (bones-held (within .1));
+            keys = room-is 2 4096 (p .keys) (keyRows read) k k′ keys-two (within .1) (omega (arith, blank .keys)) (keys-held (within .1));
+            patterns = room-is 3 256 (p .patterns) (read .patterns) g g′ (whole .patterns) (within .2) (omega (arith, blank .patterns)) patterns-are;
+          }
+
+      pub down-answer : (room : ℕ) → downAnswer p room ≡ answerOf (fitted layoutOf room (shaped movementFault (movement (lex text))))
+      down-answer room = rw taken (answer-is read p total counts room)
+
+      pub down-table : (table : List ℤ) → downTable p (partsOf p b′ k′ g′) table ≡ laid layoutOf table (fitted layoutOf (length table) (shaped movementFault (movement (lex text))))
+      down-table table = rw (taken, parts) (table-is read p total table)

@@ -1,0 +1,117 @@
+-- `set_down` lays the parts where they fit, and refuses where not.
+use mathlib.Core.Path.{refl, ap, sym, _∙_}
+use mathlib.Core.List.{List, [], _∷_}
+use lib.IntN.{ℤ, pos}
+use native.Mathlib.Omega.{arith}
+use mir.Syntax.{w64}
+use mir.Facts.{toZ-ofZ}
+use lib.ListN.{length}
+use denote.Ref.{now}
+use Rattle.chunks.specs.Cursors.{overlayAt}
+use Rattle.chunks.proofs.Chains.{laid-first, laid-next}
+use Rattle.tra4.specs.Answers.{totalOf, countsAnswer, partsOf}
+use Rattle.tra4.proofs.Settings.{part-length, short-answer, short-table, long-answer, long-table, first-numbers}
+use borrow.Author.Needs.{needs}
+use Rattle.tra4.proofs.setting.set_down.Statement.{statement}
+use Rattle.tra4.proofs.setting.set_down.Tie as tie
+
+mul-b : tie.Need-mul-b
+mul-b c = search needs
+
+mul-k : tie.Need-mul-k
+mul-k c = search needs
+
+mul-g : tie.Need-mul-g
+mul-g c = search needs
+
+add-total : tie.Need-add-total
+add-total c = search needs
+
+add-total-2 : tie.Need-add-total-2
+add-total-2 c = search needs
+
+add-total-3 : tie.Need-add-total-3
+add-total-3 c = search needs
+
+refused-requires : tie.Need-refused-requires
+refused-requires c κs = search needs
+
+returns : tie.Need-returns
+unfolding totalOf
+returns c =
+    let a = c .before .before .before .before .before .args in
+    (c .refused .ensures ∙ sym (short-answer (a .p) (length (now (a .table))) (c .before .if1 .taken)), short-table (a .p) _ (now (a .table)) (c .before .if1 .taken))
+
+cast-t22 : tie.Need-cast-t22
+cast-t22 c = search needs
+
+cast-t23 : tie.Need-cast-t23
+cast-t23 c = search needs
+
+slice-aggregate-put : tie.Need-slice-aggregate-put
+slice-aggregate-put c = search needs
+
+put-requires : tie.Need-put-requires
+put-requires c κs = search needs
+
+slice-aggregate-put-2 : tie.Need-slice-aggregate-put-2
+slice-aggregate-put-2 c = part-length _ _ (c .before .before .before .before .before .before .before .before .before .before .before .pre .bones)
+
+put-requires-2 : tie.Need-put-requires-2
+put-requires-2 c κs = search needs
+
+slice-aggregate-put-3 : tie.Need-slice-aggregate-put-3
+slice-aggregate-put-3 c = part-length _ _ (c .before .before .before .before .before .before .before .before .before .before .before .before .before .before .before .pre .keys)
+
+put-requires-3 : tie.Need-put-requires-3
+put-requires-3 c κs = search needs
+
+slice-aggregate-put-4 : tie.Need-slice-aggregate-put-4
+slice-aggregate-put-4 c = part-length _ _ (c .before .before .before .before .before .before .before .before .before .before .before .before .before .before .before .before .before .before .before .pre .patterns)
+
+put-requires-4 : tie.Need-put-requires-4
+put-requires-4 c κs = search needs
+
+same-length : tie.Need-same-length
+same-length c = search needs
+
+returns-2 : tie.Need-returns-2
+unfolding totalOf countsAnswer partsOf
+returns-2 c =
+    let a = c .before .before .before .before .before .before .before .before .before .before .before .before .before .before .before .before .before .before .before .before .before in
+    let t = now (a .args .table) in
+    let one = c .before .before .before .before .before .before .before .before .before .before .before .before .before .put .ensures in
+    let two = c .before .before .before .before .before .before .before .before .before .put2 .ensures in
+    let three = c .before .before .before .before .before .put3 .ensures in
+    let four = c .before .put4 .ensures in
+    let first = first-numbers (a .args .p .total) _ (a .args .p .place) (a .args .p .length) (toZ-ofZ {w = w64} {z = a .args .p .total} (record { sfits = c .before .before .before .before .before .before .before .before .before .before .before .before .before .before .before .before .struct-told .given .1 .0 .1 })) (omega (arith, a .pre .place)) (omega (arith, a .pre .size)) in
+    let l1 = laid-first t (a .args .p .total ∷ pos (a .args .p .place) ∷ pos (a .args .p .length) ∷ []) _ _ (one .0 ∙ ap (λ (l : List ℤ). overlayAt 0 l t) first) (one .1) in
+    let l2 = laid-next t _ _ _ _ _ _ l1 (two .0) (two .1) in
+    let l3 = laid-next t _ _ _ _ _ _ l2 (three .0) (three .1) in
+    let l4 = laid-next t _ _ _ _ _ _ l3 (four .0) (four .1) in
+    (sym (long-answer (a .args .p) (length t) (c .before .before .before .before .before .before .before .before .before .before .before .before .before .before .before .before .before .if1 .left)), long-table (a .args .p) _ t _ (c .before .before .before .before .before .before .before .before .before .before .before .before .before .before .before .before .before .if1 .left) (l4 .0))
+
+pub set-down-spec : {M : Type 1} → statement M
+set-down-spec =
+    tie.close
+    (tie.spec
+    mul-b
+    mul-k
+    mul-g
+    add-total
+    add-total-2
+    add-total-3
+    refused-requires
+    returns
+    cast-t22
+    cast-t23
+    slice-aggregate-put
+    put-requires
+    slice-aggregate-put-2
+    put-requires-2
+    slice-aggregate-put-3
+    put-requires-3
+    slice-aggregate-put-4
+    put-requires-4
+    same-length
+    returns-2)
