@@ -1,17 +1,24 @@
 #!/usr/bin/env bash
-# The figure listing against the independent reader: the papers' samples, sound and damaged figures, and the time.
-# It runs once the program is built. It needs cargo and rustc, and no network.
+# The listings against the independent reader: the papers' samples, sound and damaged texts, and the time.
+# It runs once the programs are built. It needs cargo and rustc, and no network.
 set -eu
 cd "$(dirname "$0")/.."
 
-listing=${LISTING:-target/bin/listing}
-[ -x "$listing" ] || { echo "$listing is not there to run"; exit 1; }
+figures=${LISTING:-target/bin/listing}
+movements=${MOVEMENT_LISTING:-target/bin/movement_listing}
+for program in "$figures" "$movements"; do
+    [ -x "$program" ] || { echo "$program is not there to run"; exit 1; }
+done
 
 export CARGO_TARGET_DIR=target/independent
 cargo build --quiet --release --offline --manifest-path independent/Cargo.toml
 
 programs=$CARGO_TARGET_DIR/release
-"$programs/compare" "$listing" samples-figures
-"$programs/compare" "$listing" sound-figures 1 1000
-"$programs/compare" "$listing" damaged-figures 2 3000
-"$programs/measure" "$listing"
+compare_kind() { # PROGRAM KIND
+    "$programs/compare" "$1" "samples-$2"
+    "$programs/compare" "$1" "sound-$2" 1 1000
+    "$programs/compare" "$1" "damaged-$2" 2 3000
+    "$programs/measure" "$1" "$2"
+}
+compare_kind "$figures" figures
+compare_kind "$movements" movements

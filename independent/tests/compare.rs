@@ -58,6 +58,8 @@ fn this_reader_agrees_with_itself() {
     assert!(line.contains(": 300 agreed, "), "{line}");
     assert!(line.contains(" refused with 13"), "{line}");
     agrees(&[MOVEMENT, "sound-movements", "1", "30"]);
+    let line = agrees(&[MOVEMENT, "damaged-movements", "1", "300"]);
+    assert!(line.contains(" refused with 16"), "{line}");
     agrees(&[MOVEMENT, "damaged-movements", "1", "300"]);
 }
 
@@ -148,16 +150,21 @@ fn the_first_line_that_differs() {
 
 #[test]
 fn measure_prints_a_ratio() {
-    let measure = |program: &str| {
+    let measure = |program: &str, kind: &str| {
         Command::new(env!("CARGO_BIN_EXE_measure"))
-            .arg(program)
+            .args([program, kind])
             .env("LISTING", FIGURE)
             .output()
             .unwrap()
     };
-    let output = measure(FIGURE);
-    assert!(output.status.success());
-    assert!(printed(&output).contains(" ms, ratio "));
-    assert_eq!(printed(&output).lines().count(), 1);
-    assert!(!measure(&wrong("last_line_dropped")).status.success());
+    for (program, kind) in [(FIGURE, "figures"), (MOVEMENT, "movements")] {
+        let output = measure(program, kind);
+        assert!(output.status.success());
+        assert!(printed(&output).contains(" ms, ratio "));
+        assert_eq!(printed(&output).lines().count(), 1);
+    }
+    let dropped = measure(&wrong("last_line_dropped"), "figures");
+    assert!(!dropped.status.success());
+    assert!(!measure(FIGURE, "movements").status.success());
+    assert!(!measure(FIGURE, "others").status.success());
 }

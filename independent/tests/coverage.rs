@@ -1,6 +1,8 @@
 //! What the generated texts cover.
 
 use independent::figure::{self, Figure};
+use independent::generate::movement::full;
+use independent::generate::rng::Rng;
 use independent::generate::{text, Kind};
 use independent::movement;
 use independent::{figure_rules, limits};
@@ -155,6 +157,18 @@ fn sound_movements_vary() {
     assert_eq!(most(|movement| movement.bones.len()), limits::BONES);
     assert_eq!(most(|movement| movement.key_count()), limits::KEYS);
     assert_eq!(most(|movement| movement.patterns.len()), limits::PATTERNS);
+}
+
+/// Every list at its most fits a text, and fills the table.
+#[test]
+fn full_movements_fill_the_table() {
+    for index in 0..20 {
+        let mut rng = Rng::new(SEED, index);
+        let text = full(&mut rng).text(&mut rng);
+        assert!(text.len() <= limits::TEXT_BYTES, "{}", text.len());
+        let read = movement::read(&text, limits::MOVEMENT_ROOM).unwrap();
+        assert_eq!(read.total(), limits::MOVEMENT_ROOM);
+    }
 }
 
 /// Each list past its most, and texts of 65,536 and 65,537 bytes.

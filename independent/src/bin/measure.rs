@@ -1,43 +1,54 @@
-//! `measure PROGRAM` feeds the same large figures to a program and to
-//! `figure_listing`, in turn, and prints the times of all their runs, each
-//! from start to end, and the ratio of the two.
+//! `measure PROGRAM KIND` feeds the same large texts to a program and to this
+//! reader's own, in turn, and prints the times of all their runs, each from
+//! start to end, and the ratio of the two. KIND is figures or movements.
 
 use independent::compare::output;
-use independent::generate::figure_limits::full;
 use independent::generate::rng::Rng;
+use independent::generate::{figure_limits, movement};
 use std::error::Error;
 use std::path::Path;
 use std::time::{Duration, Instant};
 
 const SEED: u64 = 1;
-const FIGURES: u64 = 20;
+const TEXTS: u64 = 20;
 const TIMES: u64 = 20;
 
 fn main() -> Result<(), Box<dyn Error>> {
     let arguments: Vec<String> = std::env::args().skip(1).collect();
-    let [program] = &arguments[..] else {
-        return Err("measure PROGRAM".into());
+    let words: Vec<&str> = arguments.iter().map(String::as_str).collect();
+    let (program, kind, own_name) = match words[..] {
+        [program, kind @ "figures"] => (program, kind, "figure_listing"),
+        [program, kind @ "movements"] => (program, kind, "movement_listing"),
+        _ => return Err("measure PROGRAM figures | measure PROGRAM movements".into()),
     };
-    let own = std::env::current_exe()?.with_file_name("figure_listing");
+    let own = std::env::current_exe()?.with_file_name(own_name);
     let mut times = [Duration::ZERO; 2];
-    for index in 0..FIGURES {
-        let mut rng = Rng::new(SEED, index);
-        let text = full(&mut rng).text(&mut rng);
+    for index in 0..TEXTS {
+        let text = large(kind, index);
         for _ in 0..TIMES {
             let found = timed(Path::new(program), &text, &mut times[0])?;
             let expected = timed(&own, &text, &mut times[1])?;
             if found != expected {
-                return Err(format!("the outputs differ at figure {index}").into());
+                return Err(format!("the outputs differ at text {index}").into());
             }
         }
     }
     let [program_time, own_time] = times.map(|time| time.as_secs_f64() * 1000.0);
     println!(
-        "{} runs on {FIGURES} large figures: {program} {program_time:.0} ms, figure_listing {own_time:.0} ms, ratio {:.2}",
-        FIGURES * TIMES,
+        "{} runs on {TEXTS} large {kind}: {program} {program_time:.0} ms, {own_name} {own_time:.0} ms, ratio {:.2}",
+        TEXTS * TIMES,
         program_time / own_time
     );
     Ok(())
+}
+
+fn large(kind: &str, index: u64) -> Vec<u8> {
+    let mut rng = Rng::new(SEED, index);
+    if kind == "figures" {
+        figure_limits::full(&mut rng).text(&mut rng)
+    } else {
+        movement::full(&mut rng).text(&mut rng)
+    }
 }
 
 /// What a program prints of a text; its time is added to the sum.

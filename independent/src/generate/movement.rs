@@ -107,12 +107,35 @@ fn patterns(rng: &mut Rng, total_frames: i64) -> Option<Vec<Pattern>> {
     Some(lines.map(|frame| (frame, group(rng), rng.coin())).collect())
 }
 
-/// A movement with one list at its most, or past it. Short to write.
-pub fn at_limits(rng: &mut Rng, past: usize) -> Movement {
-    let bare = || Bone {
+/// A bone that is short to write.
+fn bare() -> Bone {
+    Bone {
         name: None,
         channels: vec![vec![(0, 0)]; 10],
+    }
+}
+
+/// A sound movement that fills the table: every list at its most.
+pub fn full(rng: &mut Rng) -> Movement {
+    let total_frames = rng.between(4, limits::TOTAL_FRAMES);
+    let mut movement = Movement {
+        total_frames,
+        name: None,
+        bones: vec![bare(); limits::BONES],
+        patterns: Some(
+            (0..limits::PATTERNS)
+                .map(|_| (0, rng.between(0, 9), rng.coin()))
+                .collect(),
+        ),
+        style: Style::Compact,
+        varied: false,
     };
+    add_keys(rng, &mut movement, limits::KEYS);
+    movement
+}
+
+/// A movement with one list at its most, or past it. Short to write.
+pub fn at_limits(rng: &mut Rng, past: usize) -> Movement {
     let list = rng.below(3);
     // Enough frames for the most keys over ten channels.
     let total_frames = match list {
