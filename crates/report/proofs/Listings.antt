@@ -34,14 +34,21 @@ module _ (word : List ℕ) (refusal place total : ℕ) where
     abbrev lines : List (List ℕ)
     lines = listingLines word refusal place total ls zs
 
-    -- a first line, and the lists after it where nothing is refused
-    pub put-taken : (n m : ℕ) (buf part buf' : List ℕ) → eqb refusal 0 ≡ true → output n part ≡ appended (output 0 buf) (firstLine word refusal place total) → output m buf' ≡ appendedEach (output n part) (listLines ls zs) → output m buf' ≡ appendedEach (output 0 buf) lines
-    unfolding listingLines appendedEach
-    put-taken n m buf part buf' e p q = q ∙ rw (e, listingLines) (ap (λ (o : Output). appendedEach o (listLines ls zs)) p)
+    -- what is said of how many bytes are filled and of the buffer
+    abbrev Said : ℕ → List ℕ → List ℕ → Type 0
+    Said m buf buf' = (output m buf' ≡ appendedEach (output 0 buf) lines) × ((m ≤ length buf') × (length (textOf lines) ≤ length buf → take m buf' ≡ textOf lines))
 
-    pub put-refused : (m : ℕ) (buf buf' : List ℕ) → eqb refusal 0 ≡ false → output m buf' ≡ appended (output 0 buf) (firstLine word refusal place total) → output m buf' ≡ appendedEach (output 0 buf) lines
+    said : (m : ℕ) (buf buf' : List ℕ) → output m buf' ≡ appendedEach (output 0 buf) lines → Said m buf buf'
+    said m buf buf' e = (e, (each-within 0 m buf buf' lines e (omega arith), λ h. each-whole m buf buf' lines e h))
+
+    -- a first line, and the lists after it where nothing is refused
+    pub said-taken : (n m : ℕ) (buf part buf' : List ℕ) → eqb refusal 0 ≡ true → output n part ≡ appended (output 0 buf) (firstLine word refusal place total) → output m buf' ≡ appendedEach (output n part) (listLines ls zs) → Said m buf buf'
     unfolding listingLines appendedEach
-    put-refused m buf buf' e p = rw (e, listingLines) p
+    said-taken n m buf part buf' e p q = said m buf buf' (q ∙ rw (e, listingLines) (ap (λ (o : Output). appendedEach o (listLines ls zs)) p))
+
+    pub said-refused : (m : ℕ) (buf buf' : List ℕ) → eqb refusal 0 ≡ false → output m buf' ≡ appended (output 0 buf) (firstLine word refusal place total) → Said m buf buf'
+    unfolding listingLines appendedEach
+    said-refused m buf buf' e p = said m buf buf' (rw (e, listingLines) p)
 
     -- 28 bytes for each number and for two more hold every listing
     pub listing-most : length word ≤ 34 → narrow ls ≡ true → AllFit zs → length (textOf lines) ≤ 28 * (length zs + 2)
@@ -51,7 +58,3 @@ module _ (word : List ℕ) (refusal place total : ℕ) where
         go : (v : Bool) → eqb refusal 0 ≡ v → length (textOf lines) ≤ 28 * (length zs + 2)
         go true e = rw (e, listingLines) (omega (arith, length-append (firstLine word refusal place total) (textOf (listLines ls zs)), first-most h, lists-most ls zs short fit))
         go false e = rw (e, listingLines) (omega (arith, length-append (firstLine word refusal place total) [], first-most h))
-
-    -- all that is said of what is put, from its lines
-    pub all-said : (m : ℕ) (buf buf' : List ℕ) → output m buf' ≡ appendedEach (output 0 buf) lines → (output m buf' ≡ appendedEach (output 0 buf) lines) × ((m ≤ length buf') × (length (textOf lines) ≤ length buf → take m buf' ≡ textOf lines))
-    all-said m buf buf' e = (e, (each-within 0 m buf buf' lines e (omega arith), λ h. each-whole m buf buf' lines e h))

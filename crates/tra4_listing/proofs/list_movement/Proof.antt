@@ -2,7 +2,8 @@
 use denote.Ref.{now}
 use borrow.Author.Tests.{eq-eqb, ne-eqb}
 use Rattle.lexer.specs.Bytes.{bytes}
-use Rattle.tra4_listing.proofs.Whole.{said-taken, said-refused}
+use Rattle.report.proofs.Listings.{said-taken, said-refused}
+use Rattle.tra4_listing.specs.Movements.{movementLists, movementLines, movementText}
 use borrow.Author.Needs.{needs}
 use Rattle.tra4_listing.proofs.list_movement.Statement.{statement}
 use Rattle.tra4_listing.proofs.list_movement.Tie as tie
@@ -17,11 +18,11 @@ same-length : tie.Need-same-length
 same-length c = search needs
 
 returns : tie.Need-returns
-unfolding bytes
+unfolding bytes movementLines movementText
 returns c =
     let k = c .before .before .before .before in
     let a = k .before .before .before .before .args in
-    said-refused (a .answer) (now (a .table)) _ (now (a .buf)) _ (ne-eqb (a .answer .refusal) 0 (c .if1 .taken)) (k .first-line .ensures)
+    said-refused (bytes "movement") (a .answer .refusal) (a .answer .place) (a .answer .total) (movementLists (a .answer)) (now (a .table)) _ (now (a .buf)) _ (ne-eqb (a .answer .refusal) 0 (c .if1 .taken)) (k .first-line .ensures)
 
 append-lists-requires : tie.Need-append-lists-requires
 append-lists-requires c κs = search needs
@@ -30,13 +31,13 @@ same-length-2 : tie.Need-same-length-2
 same-length-2 c = search needs
 
 returns-2 : tie.Need-returns-2
-unfolding bytes
+unfolding bytes movementLines movementText
 returns-2 c =
     let l = c .before .before in
     let t = l .before .before in
     let k = t .before .before .before .before in
     let a = k .before .before .before .before .args in
-    said-taken (a .answer) (now (a .table)) _ _ (now (a .buf)) _ _ (eq-eqb (a .answer .refusal) 0 (t .if1 .left)) (k .first-line .ensures) (l .append-lists .ensures)
+    said-taken (bytes "movement") (a .answer .refusal) (a .answer .place) (a .answer .total) (movementLists (a .answer)) (now (a .table)) _ _ (now (a .buf)) _ _ (eq-eqb (a .answer .refusal) 0 (t .if1 .left)) (k .first-line .ensures) (l .append-lists .ensures)
 
 pub list-movement-spec : {M : Type 1} → statement M
 list-movement-spec =
