@@ -1,6 +1,6 @@
 -- `first_line` puts a refusal's line, or the total's.
 use mathlib.Core.Path.{_≡_, sym, ap, _∙_}
-use mathlib.Core.List.{[], _∷_, map}
+use mathlib.Core.List.{[], _∷_}
 use denote.Ref.{now}
 use mir.Syntax.{w64}
 use mir.Val.{toZ, ofZ}
@@ -9,7 +9,6 @@ use borrow.Author.Needs.{needs}
 use Rattle.lexer.specs.Bytes.{bytes}
 use Rattle.report.specs.Output.{output, appended}
 use Rattle.report.specs.Text.{line}
-use Rattle.report.specs.Lists.{shown}
 use Rattle.report.proofs.Texts.{held}
 use Rattle.report.proofs.Listings.{first-taken, first-refused}
 use Rattle.report.proofs.list.first_line.Statement.{statement}
