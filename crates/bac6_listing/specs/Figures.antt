@@ -1,12 +1,9 @@
 -- A figure's listing (document 01, "Listing"): its lists' words, how many numbers a row has, how many rows there are.
-use mathlib.Core.List.{List, [], _∷_, map}
-use mathlib.Core.Bool.{true, false}
+use mathlib.Core.List.{List, [], _∷_}
 use Prim.Native.Nat.{ℕ}
-use lib.Dec.{eqb}
 use lib.IntN.{ℤ}
 use Rattle.lexer.specs.Bytes.{bytes}
-use Rattle.report.specs.Text.{line}
-use Rattle.report.specs.Lists.{RowList, rowList, listLines, shown, textOf}
+use Rattle.report.specs.Lists.{RowList, rowList, listingLines, textOf}
 use Rattle.bac6.specs.declared.setting.FigureAnswer.{FigureAnswer}
 
 -- in the table's order; an owner for each point
@@ -27,7 +24,7 @@ figureLists a =
 
 -- the total and the lists; or a refusal's number and place
 unfoldable pub figureLines : FigureAnswer → List ℤ → List (List ℕ)
-figureLines a zs = elim (eqb (a .refusal) 0) [ true ↦ line (bytes "figure") (map shown (a .total ∷ [])) ∷ listLines (figureLists a) zs | false ↦ line (bytes "refused") (map shown (a .refusal ∷ a .place ∷ [])) ∷ [] ]
+figureLines a zs = listingLines (bytes "figure") (a .refusal) (a .place) (a .total) (figureLists a) zs
 
 unfoldable pub figureText : FigureAnswer → List ℤ → List ℕ
 figureText a zs = textOf (figureLines a zs)

@@ -8,8 +8,7 @@ ghost use Rattle.bac6_listing.specs.Figures.{figureLists, figureLines, f
 use bac6::FigureAnswer;
 use report::Progress;
 use report::append_list;
-use report::append_row;
-use report::shown;
+use report::first_line;
 
 // Puts the lines of the lists after the first n bytes of buf, and answers how many bytes are filled then.
 fn append_lists(answer: FigureAnswer, table: &[i64], buf: &mut [u8], n: usize) -> usize
@@ -36,14 +35,9 @@ pub fn list_figure(answer: FigureAnswer, table: &[i64], buf: &mut [u8]) -> usize
     ensures within { λ r. ⌜ r ≤ length (now (buf .exit)) ⌝ }
     ensures whole { λ r. ⌜ (length (figureText answer (now (table .entry))) ≤ length (now (buf .entry)) → take r (now (buf .exit)) ≡ figureText answer (now (table .entry))) ⌝ }
 {
+    let n = first_line(buf, b"figure", answer.refusal, answer.place, answer.total);
     if answer.refusal != 0 {
-        return append_row(
-            buf,
-            0,
-            b"refused",
-            &[shown(answer.refusal), shown(answer.place)],
-        );
+        return n;
     }
-    let n = append_row(buf, 0, b"figure", &[shown(answer.total)]);
     append_lists(answer, table, buf, n)
 }
