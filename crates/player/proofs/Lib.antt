@@ -1,0 +1,4 @@
+-- Theorems on exact samples, and claims by computation.
+pub mod Factors
+pub mod Samples
+pub mod Examples

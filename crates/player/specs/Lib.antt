@@ -1,0 +1,3 @@
+pub mod Fractions
+pub mod Samples
+pub mod Faces

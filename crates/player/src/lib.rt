@@ -1,0 +1,1 @@
+// What playing gives, worked out from the two texts: definitions and theorems.
