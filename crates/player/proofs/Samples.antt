@@ -1,4 +1,4 @@
--- On a key the sample is the key's value; past the last key it is the last key's: by induction on the keys before.
+-- On a key the sample is the key's value, between two neighbouring keys the line, past the last key the last key's: by induction on the keys before.
 use mathlib.Core.Path.{_≡_, refl, ap, sym, _∙_}
 use mathlib.Core.List.{List, [], _∷_, _++_}
 use mathlib.Core.Bool.{Bool, true, false}
@@ -42,29 +42,37 @@ rest-rises : (k : Key) (before : List Key) (x : Key) (after : List Key) → Risi
 rest-rises k [] x after h = h
 rest-rises k (b ∷ before) x after h = let r = rest-rises b before x after (h .1) in (omega (arith, h .0, r .0), r .1)
 
-on-later : (k : Key) (before : List Key) (x : Key) (after : List Key) → Rising k (before ++ (x ∷ after)) → sampleFrom k (before ++ (x ∷ after)) (keyFrame x) ≡ whole (keyValue x)
-on-later k [] x after h = onward k x after (keyFrame x) (omega arith) ∙ here x after (h .1)
-on-later k (b ∷ before) x after h = onward k b (before ++ (x ∷ after)) (keyFrame x) (omega (arith, rest-rises b before x after (h .1) .0)) ∙ on-later b before x after (h .1)
+-- the keys up to one that is not after the frame are passed over
+reach : (j : Key) (before : List Key) (k : Key) (after : List Key) (at : ℕ) → Rising j (before ++ (k ∷ after)) → keyFrame k ≤ at → sampleFrom j (before ++ (k ∷ after)) at ≡ sampleFrom k after at
+reach j [] k after at h l = onward j k after at l
+reach j (b ∷ before) k after at h l = onward j b (before ++ (k ∷ after)) at (omega (arith, rest-rises b before k after (h .1) .0, l)) ∙ reach b before k after at (h .1) l
 
--- 1. on a key
+-- ---- the keys of a channel: one alone, the first of more, or a later one
+
 pub sample-first : (k : Key) (ks : List Key) → Rising k ks → sampleOf (k ∷ ks) (keyFrame k) ≡ whole (keyValue k)
 unfolding sampleOf
 sample-first k ks h = here k ks h
 
-pub sample-later : (k : Key) (before : List Key) (x : Key) (after : List Key) → Rising k (before ++ (x ∷ after)) → sampleOf (k ∷ (before ++ (x ∷ after))) (keyFrame x) ≡ whole (keyValue x)
+module _ (j : Key) (before : List Key) (k : Key) (after : List Key) (h : Rising j (before ++ (k ∷ after))) where
+  -- 1. on a key
+  pub sample-later : sampleOf (j ∷ (before ++ (k ∷ after))) (keyFrame k) ≡ whole (keyValue k)
+  unfolding sampleOf
+  sample-later = reach j before k after (keyFrame k) h (omega arith) ∙ here k after (rest-rises j before k after h .1)
+
+-- 2. between two neighbouring keys it is the line, whose bounds are in Between.antt
+pub sample-between-first : (k n : Key) (after : List Key) (at : ℕ) → at < keyFrame n → sampleOf (k ∷ n ∷ after) at ≡ line k n at
 unfolding sampleOf
-sample-later k before x after h = on-later k before x after h
+sample-between-first k n after at l = between k n after at l
+
+pub sample-between : (j : Key) (before : List Key) (k n : Key) (after : List Key) (at : ℕ) → Rising j (before ++ (k ∷ n ∷ after)) → keyFrame k ≤ at → at < keyFrame n → sampleOf (j ∷ (before ++ (k ∷ n ∷ after))) at ≡ line k n at
+unfolding sampleOf
+sample-between j before k n after at h l m = reach j before k (n ∷ after) at h l ∙ between k n after at m
 
 -- 3. past the last key
-past : (k : Key) (ks : List Key) (x : Key) (at : ℕ) → Rising k (ks ++ (x ∷ [])) → keyFrame x ≤ at → sampleFrom k (ks ++ (x ∷ [])) at ≡ whole (keyValue x)
-unfolding sampleFrom
-past k [] x at h l = onward k x [] at l
-past k (n ∷ ks) x at h l = onward k n (ks ++ (x ∷ [])) at (omega (arith, rest-rises n ks x [] (h .1) .0, l)) ∙ past n ks x at (h .1) l
-
-pub sample-past : (k : Key) (ks : List Key) (x : Key) (at : ℕ) → Rising k (ks ++ (x ∷ [])) → keyFrame x ≤ at → sampleOf (k ∷ (ks ++ (x ∷ []))) at ≡ whole (keyValue x)
-unfolding sampleOf
-sample-past k ks x at h l = past k ks x at h l
-
-pub sample-alone : (x : Key) (at : ℕ) → sampleOf (x ∷ []) at ≡ whole (keyValue x)
+pub sample-past : (j : Key) (before : List Key) (k : Key) (at : ℕ) → Rising j (before ++ (k ∷ [])) → keyFrame k ≤ at → sampleOf (j ∷ (before ++ (k ∷ []))) at ≡ whole (keyValue k)
 unfolding sampleOf sampleFrom
-sample-alone x at = refl
+sample-past j before k at h l = reach j before k [] at h l
+
+pub sample-alone : (k : Key) (at : ℕ) → sampleOf (k ∷ []) at ≡ whole (keyValue k)
+unfolding sampleOf sampleFrom
+sample-alone k at = refl
