@@ -8,7 +8,7 @@ use lib.IntN.{ℤ, pos, negsuc, negℤ, natAbs, sucℤ, _+ℤ_, _-ℤ_, _*ℤ_, 
 use Rattle.player.specs.Fractions.{Fraction, factor, signedAs, lowest}
 use Rattle.tra4_text.specs.Movement.{Key}
 use Rattle.player.specs.Samples.{keyFrame, keyValue, line}
-use Rattle.player.proofs.Factors.{factor-divides}
+use Rattle.player.proofs.Factors.{factor-divides, factor-some}
 
 -- b is a and so many more
 pub record AtMost (a b : ℤ) : Type 0 where
@@ -139,12 +139,8 @@ module _ (z : ℤ) (d : ℕ) (h : 0 < d) where
   unfolding lowest
   denominator-is = div-mul-cancel _ (factor-divides (natAbs z) d .1)
 
-  pub common-some : 0 < common
-  common-some = go common refl
-    where
-      go : (c : ℕ) → common ≡ c → 0 < common
-      go zero e = absurd (omega (arith, h, sym denominator-is ∙ ap (λ (c : ℕ). lowest z d .denominator * c) e ∙ mul-zero (lowest z d .denominator)))
-      go (suc c) e = rw e (omega arith)
+  common-some : 0 < common
+  common-some = factor-some (natAbs z) d h
 
   pub above : (v : ℤ) → AtMost (v *ℤ pos d) z → AtMost (v *ℤ pos (lowest z d .denominator)) (lowest z d .numerator)
   above v l = cancel (v *ℤ pos (lowest z d .denominator)) (lowest z d .numerator) common common-some (record { gap = l .gap; is = numerator-is ∙ l .is ∙ ap (λ (y : ℤ). y +ℤ pos (l .gap)) (scaled v) })

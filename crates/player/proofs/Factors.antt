@@ -3,7 +3,7 @@ use mathlib.Core.Path.{_≡_, refl, ap, sym, _∙_}
 use mathlib.Core.Bool.{Bool, true, false}
 use Prim.Native.Nat.{ℕ, zero, suc, _*_, _/_, _%_, _≤_, _<_}
 use Prim.Native.Nat.{_∣_}
-use native.Mathlib.Nat.{dvd-refl, dvd-zero, dvd-mod-iff, mod-lt, mul-mod-left, mul-div-cancel, div-self, mul-pos}
+use native.Mathlib.Nat.{dvd-refl, dvd-zero, dvd-mod-iff, mod-lt, mul-mod-left, mul-div-cancel, div-self, mul-pos, mul-zero, one-mul, div-mul-cancel, mul-dvd-mul-right, dvd-of-mul-dvd-mul-right}
 use native.Mathlib.Omega.{arith}
 use borrow.Author.Tests.{eqb-true, eqb-false, ne-eqb}
 use lib.Dec.{eqb}
@@ -82,3 +82,29 @@ pub lowest-multiple : (z : ℤ) (d : ℕ) → 0 < d → lowest (z *ℤ pos d) d 
 unfolding lowest whole
 lowest-multiple z zero h = absurd (omega arith)
 lowest-multiple z (suc d) h = rw (natAbs-multiple z (suc d), multiple-factor (natAbs z) (suc d) h, mul-div-cancel (natAbs z) h, div-self h, signed-multiple z d)
+
+-- ---- lowest terms have no common divisor but 1
+
+signed-size : (z : ℤ) (q : ℕ) → natAbs (signedAs z q) ≡ q
+unfolding signedAs
+signed-size (pos n) q = refl
+signed-size (negsuc n) zero = refl
+signed-size (negsuc n) (suc q) = refl
+
+pub factor-some : (a b : ℕ) → 0 < b → 0 < factor a b
+factor-some a b h = go (factor a b) refl
+  where
+    go : (c : ℕ) → factor a b ≡ c → 0 < factor a b
+    go zero e = absurd (omega (arith, h, sym (div-mul-cancel _ (factor-divides a b .1)) ∙ ap (λ (c : ℕ). b / factor a b * c) e ∙ mul-zero (b / factor a b)))
+    go (suc c) e = rw e (omega arith)
+
+pub lowest-coprime : (z : ℤ) (b d : ℕ) → 0 < b → d ∣ natAbs (lowest z b .numerator) → d ∣ lowest z b .denominator → d ∣ 1
+unfolding lowest
+lowest-coprime z b d h p q =
+    let a = natAbs z in
+    let g = factor a b in
+    let both = factor-divides a b in
+    let over : d * g ∣ a = rw (div-mul-cancel _ (both .0)) at (mul-dvd-mul-right d (rw (signed-size z (a / g)) at p) g) in
+    let under : d * g ∣ b = rw (div-mul-cancel _ (both .1)) at (mul-dvd-mul-right d q g) in
+    let all : d * g ∣ 1 * g = rw (one-mul g) (factor-greatest a b (d * g) over under) in
+    dvd-of-mul-dvd-mul-right d (factor-some a b h) all
