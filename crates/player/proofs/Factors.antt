@@ -5,7 +5,7 @@ use Prim.Native.Nat.{ℕ, zero, suc, _*_, _/_, _%_, _≤_, _<_}
 use Prim.Native.Nat.{_∣_}
 use native.Mathlib.Nat.{dvd-refl, dvd-zero, dvd-mod-iff, mod-lt, mul-mod-left, mul-div-cancel, div-self, mul-pos, mul-zero, one-mul, div-mul-cancel, mul-dvd-mul-right, dvd-of-mul-dvd-mul-right}
 use native.Mathlib.Omega.{arith}
-use borrow.Author.Tests.{eqb-true, eqb-false, ne-eqb}
+use borrow.Author.Tests.{eqb-true, eqb-false, eq-eqb, ne-eqb}
 use lib.Dec.{eqb}
 use lib.IntN.{ℤ, pos, negsuc, negℤ, natAbs, _*ℤ_}
 use Rattle.player.specs.Fractions.{Fraction, factorIn, factor, signedAs, lowest, whole}
@@ -17,6 +17,31 @@ last-turn n a b e = rw (e, factorIn)
 next-turn : (n a b : ℕ) → eqb b 0 ≡ false → factorIn (suc n) a b ≡ factorIn n b (a % b)
 unfolding factorIn
 next-turn n a b e = rw (e, factorIn)
+
+-- ---- turns enough
+
+more-turns : (n m a b : ℕ) → b < n → b < m → factorIn n a b ≡ factorIn m a b
+more-turns zero m a b h k = absurd (omega arith)
+more-turns (suc n) zero a b h k = absurd (omega arith)
+more-turns (suc n) (suc m) a b h k = go (eqb b 0) refl (more-turns n m b (a % b))
+  where
+    go : (v : Bool) → eqb b 0 ≡ v → (a % b < n → a % b < m → factorIn n b (a % b) ≡ factorIn m b (a % b)) → factorIn (suc n) a b ≡ factorIn (suc m) a b
+    go true e ih = last-turn n a b e ∙ sym (last-turn m a b e)
+    go false e ih =
+        let some : 0 < b = let d = eqb-false b 0 e in omega arith in
+        let less = mod-lt a some in
+        next-turn n a b e ∙ ih (omega (arith, less, h)) (omega (arith, less, k)) ∙ sym (next-turn m a b e)
+
+pub factor-end : (a b : ℕ) → b ≡ 0 → a ≡ factor a b
+unfolding factor
+factor-end a b e = sym (last-turn b a b (eq-eqb b 0 e))
+
+pub factor-more : (a b : ℕ) → (b ≡ 0 → ⊥) → factor b (a % b) ≡ factor a b
+unfolding factor
+factor-more a b d =
+    let some : 0 < b = omega arith in
+    let less = mod-lt a some in
+    more-turns (suc (a % b)) b b (a % b) (omega arith) (omega (arith, less)) ∙ sym (next-turn b a b (ne-eqb b 0 d))
 
 -- ---- a common divisor
 

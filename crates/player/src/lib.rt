@@ -1,1 +1,2 @@
-// What playing gives, worked out from the two texts: definitions and theorems.
+// Plays a movement's and a figure's tables.
+mod fraction;
