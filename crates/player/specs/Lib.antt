@@ -1,3 +1,5 @@
 pub mod Fractions
 pub mod Samples
 pub mod Faces
+pub mod Columns
+pub mod Lookups

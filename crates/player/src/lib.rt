@@ -1,2 +1,6 @@
 // Plays a movement's and a figure's tables.
+mod counts;
 mod fraction;
+
+pub use counts::FigureCounts;
+pub use counts::MovementCounts;

@@ -1,0 +1,69 @@
+-- Where 01's lists and columns stand in a table, by its counts, and what tables a lookup takes.
+use mathlib.Core.List.{List, [], _∷_}
+use mathlib.Core.Bool.{Bool, true, false, _&&_}
+use Prim.Native.Nat.{ℕ, zero, suc, _+_, _*_}
+use lib.Dec.{leb}
+use lib.IntN.{ℤ, pos}
+use lib.ListN.{length, getD, take, drop}
+use Rattle.lexer.specs.Faults.{Fault, clear, fault}
+use Rattle.chunks.specs.Rules.{tooMany}
+use Rattle.bac6_text.specs.Rules as bac6
+use Rattle.tra4_text.specs.Rules as tra4
+use Rattle.player.specs.declared.counts.MovementCounts.{MovementCounts}
+use Rattle.player.specs.declared.counts.FigureCounts.{FigureCounts}
+
+-- the number at an index
+unfoldable pub numberAt : List ℤ → ℕ → ℤ
+numberAt table i = getD table i (pos 0)
+
+-- so many numbers from an index on
+unfoldable pub numbersAt : List ℤ → ℕ → ℕ → List ℤ
+numbersAt table i n = take n (drop i table)
+
+-- so many rows of a width from an index on
+unfoldable pub rowsAt : ℕ → List ℤ → ℕ → ℕ → List (List ℤ)
+rowsAt w table i zero = []
+rowsAt w table i (suc n) = numbersAt table i w ∷ rowsAt w table (i + w) n
+
+unfoldable pub isClear : Fault → Bool
+isClear clear = true
+isClear (fault n p) = false
+
+-- ---- a movement's table
+
+module _ (n : MovementCounts) where
+  unfoldable pub keysBegin : ℕ
+  keysBegin = 3 + n .bones * 22
+
+  unfoldable pub patternsBegin : ℕ
+  patternsBegin = keysBegin + n .keys * 2
+
+  unfoldable pub movementEnd : ℕ
+  movementEnd = patternsBegin + n .patterns * 3
+
+  -- no count is above its most, and the table is not shorter than they say
+  unfoldable pub holdsMovement : List ℤ → Bool
+  holdsMovement table = isClear (tooMany 0 (n .bones ∷ n .keys ∷ n .patterns ∷ []) tra4.mosts) && leb movementEnd (length table)
+
+-- ---- a figure's table
+
+module _ (n : FigureCounts) where
+  unfoldable pub pointsBegin : ℕ
+  pointsBegin = 2 + n .textures * 2 + n .colours * 3 + n .materials * 9
+
+  unfoldable pub ownersBegin : ℕ
+  ownersBegin = pointsBegin + n .points * 3 + n .normals * 3 + n .bones * 14
+
+  unfoldable pub uvsBegin : ℕ
+  uvsBegin = ownersBegin + n .points
+
+  unfoldable pub facesBegin : ℕ
+  facesBegin = uvsBegin + n .uvs * 2
+
+  unfoldable pub figureEnd : ℕ
+  figureEnd = facesBegin + n .faces * 11 + n .groups * 2
+
+  unfoldable pub holdsFigure : List ℤ → Bool
+  holdsFigure table =
+      isClear (tooMany 0 (n .textures ∷ n .colours ∷ n .materials ∷ n .points ∷ n .normals ∷ n .bones ∷ n .uvs ∷ n .faces ∷ n .groups ∷ []) bac6.mosts)
+      && leb figureEnd (length table)

@@ -1,0 +1,184 @@
+-- What Sample, Shown and Corner answer on tables: none is 21, exactly where document 01 ("Playing") says so.
+use mathlib.Core.List.{List, [], _∷_, _++_}
+use mathlib.Core.Bool.{Bool, true, false, not, _&&_, _||_}
+use mathlib.Core.Option.{Option, none, some}
+use Prim.Native.Nat.{ℕ, zero, suc, _+_, _*_}
+use lib.Dec.{leb, ltb, eqb}
+use lib.IntN.{ℤ, pos, negsuc, natAbs}
+use lib.ListN.{length, getD, take, drop}
+use Rattle.lexer.specs.Faults.{Fault, clear}
+use Rattle.bac6_text.specs.Rules.{isRow, isNone}
+use Rattle.tra4_text.specs.Movement.{Key, Pattern, groupOf}
+use Rattle.tra4_text.specs.Rules.{totalFault, framesFault, keyFine, patternsFault}
+use Rattle.player.specs.declared.counts.MovementCounts.{MovementCounts}
+use Rattle.player.specs.declared.counts.FigureCounts.{FigureCounts}
+use Rattle.player.specs.Fractions.{Fraction}
+use Rattle.player.specs.Samples.{sampleOf}
+use Rattle.player.specs.Faces.{lastFlag, CornerOf}
+use Rattle.player.specs.Columns.{numberAt, numbersAt, rowsAt, isClear, keysBegin, patternsBegin, holdsMovement, pointsBegin, ownersBegin, uvsBegin, facesBegin, holdsFigure}
+
+unfoldable pub onlyIf : {A : Type 0} → Bool → A → Option A
+onlyIf true a = some a
+onlyIf false a = none
+
+-- FLOAT's range in millionths
+unfoldable pub isFloat : ℤ → Bool
+isFloat z = leb (natAbs z) 9999999999999
+
+unfoldable pub allFloat : List ℤ → Bool
+allFloat [] = true
+allFloat (z ∷ zs) = isFloat z && allFloat zs
+
+-- none, or a row of a list of n
+unfoldable pub isRowOrNone : ℕ → ℤ → Bool
+isRowOrNone n z = isNone z || isRow n z
+
+-- ---- Sample
+
+-- the total of frames is sound, and the frame is below it
+unfoldable pub isAsked : ℤ → ℕ → Bool
+isAsked total at = isClear (totalFault total) && ltb at (natAbs total)
+
+-- a first row and a count of at least one, which lie among n rows
+unfoldable pub isRange : ℕ → ℤ → ℤ → Bool
+isRange n (pos f) (pos zero) = false
+isRange n (pos f) (pos (suc c)) = leb (f + suc c) n
+isRange n (pos f) (negsuc c) = false
+isRange n (negsuc f) c = false
+
+unfoldable pub valuesFine : List Key → Bool
+valuesFine [] = true
+valuesFine (k ∷ ks) = isFloat (getD k 1 (pos 0)) && valuesFine ks
+
+module _ (n : MovementCounts) (table : List ℤ) where
+  -- the index of a channel's pair
+  unfoldable pub pairAt : ℕ → ℕ → ℕ
+  pairAt bone channel = 5 + bone * 22 + channel * 2
+
+  unfoldable pub channelKeys : ℕ → ℕ → List Key
+  channelKeys bone channel = rowsAt 2 table (keysBegin n + natAbs (numberAt table (pairAt bone channel)) * 2) (natAbs (numberAt table (pairAt bone channel + 1)))
+
+  unfoldable pub canSample : ℕ → ℕ → ℕ → Bool
+  canSample bone channel at =
+      holdsMovement n table
+      && ltb bone (n .bones)
+      && ltb channel 10
+      && isAsked (numberAt table 0) at
+      && isRange (n .keys) (numberAt table (pairAt bone channel)) (numberAt table (pairAt bone channel + 1))
+      && isClear (framesFault 15 (keyFine (numberAt table 0)) none 0 (channelKeys bone channel))
+      && valuesFine (channelKeys bone channel)
+
+  unfoldable pub sampleIn : ℕ → ℕ → ℕ → Option Fraction
+  sampleIn bone channel at = onlyIf (canSample bone channel at) (sampleOf (channelKeys bone channel) at)
+
+-- ---- a face's row: material, size, four vertices, four uvs, group
+
+unfoldable pub sizeFine : ℤ → Bool
+sizeFine z = eqbZ z 3 || eqbZ z 4
+  where
+    eqbZ : ℤ → ℕ → Bool
+    eqbZ (pos n) m = eqb n m
+    eqbZ (negsuc n) m = false
+
+-- the used corners are rows of a list of n, and the unused -1
+unfoldable pub cornersFine : ℕ → ℕ → List ℤ → Bool
+cornersFine n used [] = true
+cornersFine n zero (z ∷ zs) = isNone z && cornersFine n zero zs
+cornersFine n (suc used) (z ∷ zs) = isRow n z && cornersFine n used zs
+
+unfoldable pub allNone : List ℤ → Bool
+allNone [] = true
+allNone (z ∷ zs) = isNone z && allNone zs
+
+module _ (n : FigureCounts) (table : List ℤ) where
+  unfoldable pub faceAt : ℕ → List ℤ
+  faceAt face = numbersAt table (facesBegin n + face * 11) 11
+
+  unfoldable pub ownerAt : ℤ → ℤ
+  ownerAt v = numberAt table (ownersBegin n + natAbs v)
+
+  -- ---- Corner
+
+  unfoldable pub faceFine : List ℤ → Bool
+  faceFine row =
+      isRow (n .materials) (getD row 0 (pos 0))
+      && sizeFine (getD row 1 (pos 0))
+      && cornersFine (n .points) (natAbs (getD row 1 (pos 0))) (take 4 (drop 2 row))
+      && (allNone (take 4 (drop 6 row)) || cornersFine (n .uvs) (natAbs (getD row 1 (pos 0))) (take 4 (drop 6 row)))
+      && isRowOrNone (n .groups) (getD row 10 (pos 0))
+
+  unfoldable pub pointAt : ℤ → List ℤ
+  pointAt v = numbersAt table (pointsBegin n + natAbs v * 3) 3
+
+  unfoldable pub uvRow : ℤ → List ℤ
+  uvRow u = numbersAt table (uvsBegin n + natAbs u * 2) 2
+
+  unfoldable pub uvFine : ℤ → Bool
+  uvFine u = isNone u || allFloat (uvRow u)
+
+  unfoldable pub uvIn : ℤ → Option (List ℤ)
+  uvIn u = elim (isNone u) [ true ↦ none | false ↦ some (uvRow u) ]
+
+  unfoldable pub canCorner : ℕ → ℕ → Bool
+  canCorner face k =
+      holdsFigure n table
+      && ltb face (n .faces)
+      && faceFine (faceAt face)
+      && ltb k (natAbs (getD (faceAt face) 1 (pos 0)))
+      && allFloat (pointAt (getD (faceAt face) (2 + k) (pos 0)))
+      && isRowOrNone (n .bones) (ownerAt (getD (faceAt face) (2 + k) (pos 0)))
+      && uvFine (getD (faceAt face) (6 + k) (pos 0))
+
+  unfoldable pub cornerIn : ℕ → ℕ → Option CornerOf
+  cornerIn face k =
+      onlyIf (canCorner face k)
+      (record {
+        position = pointAt (getD (faceAt face) (2 + k) (pos 0));
+        owner = ownerAt (getD (faceAt face) (2 + k) (pos 0));
+        uv = uvIn (getD (faceAt face) (6 + k) (pos 0));
+        material = getD (faceAt face) 0 (pos 0);
+      })
+
+  -- ---- Shown
+
+  unfoldable pub ownersFine : ℕ → List ℤ → Bool
+  ownersFine zero vs = true
+  ownersFine (suc used) [] = true
+  ownersFine (suc used) (v ∷ vs) = isRowOrNone (n .bones) (ownerAt v) && ownersFine used vs
+
+  unfoldable pub ownedCorners : ℕ → List ℤ → Bool
+  ownedCorners zero vs = true
+  ownedCorners (suc used) [] = true
+  ownedCorners (suc used) (v ∷ vs) = not (isNone (ownerAt v)) && ownedCorners used vs
+
+  module _ (m : MovementCounts) (moves : List ℤ) where
+    unfoldable pub patternRows : List Pattern
+    patternRows = rowsAt 3 moves (patternsBegin m) (m .patterns)
+
+    -- a pattern's group is a row, and its flag 0 or 1
+    unfoldable pub linesFine : List Pattern → Bool
+    linesFine [] = true
+    linesFine (p ∷ ps) = isRow (n .groups) (groupOf p) && isRow 2 (getD p 2 (pos 0)) && linesFine ps
+
+    unfoldable pub patternsFine : Bool
+    patternsFine = isClear (patternsFault (numberAt moves 0) patternRows) && linesFine patternRows
+
+    unfoldable pub canShow : ℕ → ℕ → Bool
+    canShow face at =
+        holdsFigure n table
+        && holdsMovement m moves
+        && ltb face (n .faces)
+        && isAsked (numberAt moves 0) at
+        && sizeFine (getD (faceAt face) 1 (pos 0))
+        && cornersFine (n .points) (natAbs (getD (faceAt face) 1 (pos 0))) (take 4 (drop 2 (faceAt face)))
+        && ownersFine (natAbs (getD (faceAt face) 1 (pos 0))) (take 4 (drop 2 (faceAt face)))
+        && isRowOrNone (n .groups) (getD (faceAt face) 10 (pos 0))
+        && (isNone (getD (faceAt face) 10 (pos 0)) || patternsFine)
+
+    unfoldable pub groupFlag : ℤ → ℕ → Bool
+    groupFlag g at = isNone g || lastFlag (natAbs g) at false patternRows
+
+    unfoldable pub shownIn : ℕ → ℕ → Option Bool
+    shownIn face at =
+        onlyIf (canShow face at)
+        (ownedCorners (natAbs (getD (faceAt face) 1 (pos 0))) (take 4 (drop 2 (faceAt face))) && groupFlag (getD (faceAt face) 10 (pos 0)) at)
