@@ -1,0 +1,87 @@
+-- What the code's tests on an `i64` say of the definitions' tests, by the number's sign.
+use mathlib.Core.Path.{_≡_, refl, ap, sym, _∙_}
+use mathlib.Core.Bool.{Bool, true, false, cond, _&&_}
+use Prim.Native.Nat.{ℕ, zero, suc, _+_, _-_, _≤_, _<_}
+use native.Mathlib.Omega.{arith}
+use borrow.Author.Tests.{ltb-true, ltb-false, leb-true, leb-false, le-leb, lt-leb}
+use lib.Dec.{leb, ltb}
+use lib.IntN.{ℤ, pos, negsuc, natAbs}
+use lib.Signed.{ltZ, leZ, nonNeg}
+use lib.Dec.{T}
+use mir.Syntax.{w64}
+use mir.Val.{SFits, Fits, toZ, ofZ}
+use mir.Facts.{toZ-ofZ, fits-natAbs}
+use Rattle.lexer.specs.Faults.{Fault, clear, fault}
+use Rattle.tra4_text.specs.Rules.{totalFault}
+use Rattle.player.specs.Columns.{isClear}
+use Rattle.player.specs.Lookups.{isAsked, isRange}
+
+-- ---- a number of at least one
+
+pub some-number : (z : ℤ) → ltZ z (pos 1) ≡ false → z ≡ pos (natAbs z)
+some-number (pos n) e = refl
+some-number (negsuc n) e = let z : _≡_ {A = ℕ} 0 1 = cc in absurd (omega (arith, z))
+
+-- ---- a total of frames
+
+module _ (at : ℕ) where
+  pub asked-low : (z : ℤ) → ltZ z (pos 1) ≡ true → isAsked z at ≡ false
+  unfolding isAsked totalFault isClear
+  asked-low (pos n) e = rw (lt-leb 1 n (ltb-true n 1 e))
+  asked-low (negsuc n) e = refl
+
+  pub asked-high : (z : ℤ) → ltZ z (pos 1) ≡ false → ltZ (pos 32767) z ≡ true → isAsked z at ≡ false
+  unfolding isAsked totalFault isClear
+  asked-high (pos n) e h = rw (le-leb 1 n (let l = ltb-false n 1 e in omega arith), lt-leb n 32767 (ltb-true 32767 n h))
+  asked-high (negsuc n) e h = refl
+
+  pub asked-fine : (z : ℤ) → ltZ z (pos 1) ≡ false → ltZ (pos 32767) z ≡ false → isAsked z at ≡ ltb at (natAbs z)
+  unfolding isAsked totalFault isClear
+  asked-fine (pos n) e h = rw (le-leb 1 n (let l = ltb-false n 1 e in omega arith), le-leb n 32767 (ltb-false 32767 n h))
+  asked-fine (negsuc n) e h = let z : _≡_ {A = ℕ} 0 1 = cc in absurd (omega (arith, z))
+
+-- ---- a range
+
+pub range-first : (n : ℕ) (f c : ℤ) → ltZ f (pos 0) ≡ true → isRange n f c ≡ false
+unfolding isRange
+range-first n (pos f) c e = absurd (let l = ltb-true f 0 e in omega arith)
+range-first n (negsuc f) (pos zero) e = refl
+range-first n (negsuc f) (pos (suc c)) e = refl
+range-first n (negsuc f) (negsuc c) e = refl
+
+pub range-count : (n : ℕ) (f c : ℤ) → ltZ c (pos 1) ≡ true → isRange n f c ≡ false
+unfolding isRange
+range-count n (pos f) (pos zero) e = refl
+range-count n (pos f) (pos (suc c)) e = absurd (let l = ltb-true (suc c) 1 e in omega arith)
+range-count n (pos f) (negsuc c) e = refl
+range-count n (negsuc f) (pos zero) e = refl
+range-count n (negsuc f) (pos (suc c)) e = refl
+range-count n (negsuc f) (negsuc c) e = refl
+
+module _ (n : ℕ) where
+  pub range-beyond : (f c : ℤ) → ltZ f (pos 0) ≡ false → ltZ c (pos 1) ≡ false → n < natAbs f → isRange n f c ≡ false
+  unfolding isRange
+  range-beyond (pos f) (pos zero) e h l = refl
+  range-beyond (pos f) (pos (suc c)) e h l = lt-leb (f + suc c) n (omega arith)
+  range-beyond (pos f) (negsuc c) e h l = refl
+  range-beyond (negsuc f) c e h l = let z : _≡_ {A = ℕ} 0 1 = cc in absurd (omega (arith, z))
+
+  pub range-within : (f c : ℤ) → ltZ f (pos 0) ≡ false → ltZ c (pos 1) ≡ false → natAbs f ≤ n → isRange n f c ≡ leb (natAbs c) (n - natAbs f)
+  unfolding isRange
+  range-within (pos f) (pos zero) e h l = absurd (let m = ltb-false zero 1 h in omega arith)
+  range-within (pos f) (pos (suc c)) e h l = go (leb (suc c) (n - f)) refl
+    where
+      go : (v : Bool) → leb (suc c) (n - f) ≡ v → leb (f + suc c) n ≡ leb (suc c) (n - f)
+      go true o = rw o (le-leb (f + suc c) n (let m = leb-true (suc c) (n - f) o in omega arith))
+      go false o = rw o (lt-leb (f + suc c) n (let m = leb-false (suc c) (n - f) o in omega arith))
+  range-within (pos f) (negsuc c) e h l = let z : _≡_ {A = ℕ} 0 1 = cc in absurd (omega (arith, z))
+  range-within (negsuc f) c e h l = let z : _≡_ {A = ℕ} 0 1 = cc in absurd (omega (arith, z))
+
+-- ---- a number that is not negative, as a `usize`
+
+pub natural-cast : (z : ℤ) → SFits w64 z → z ≡ pos (natAbs z) → T (nonNeg (toZ w64 (ofZ w64 z))) × Fits w64 (natAbs (toZ w64 (ofZ w64 z)))
+natural-cast z f e = rw (toZ-ofZ f) (go z f e)
+  where
+    go : (y : ℤ) → SFits w64 y → y ≡ pos (natAbs y) → T (nonNeg y) × Fits w64 (natAbs y)
+    go (pos n) k o = (tt, fits-natAbs tt k)
+    go (negsuc n) k o = let q : _≡_ {A = ℕ} 0 1 = cc in absurd (omega (arith, q))
