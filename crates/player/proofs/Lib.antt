@@ -1,4 +1,5 @@
 -- Theorems on exact samples, and claims by computation.
+pub mod Mosts
 pub mod Numbers
 pub mod Factors
 pub mod Samples
