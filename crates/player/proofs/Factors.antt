@@ -85,7 +85,7 @@ unfolding factor
 multiple-factor a zero h = absurd (omega arith)
 multiple-factor a (suc d) h = next-turn (suc d) (a * suc d) (suc d) (ne-eqb (suc d) 0 (λ q. omega arith)) ∙ rw (mul-mod-left a (suc d)) (last-turn d (suc d) 0 refl)
 
-natAbs-multiple : (z : ℤ) (d : ℕ) → natAbs (z *ℤ pos d) ≡ natAbs z * d
+pub natAbs-multiple : (z : ℤ) (d : ℕ) → natAbs (z *ℤ pos d) ≡ natAbs z * d
 natAbs-multiple (pos n) d = refl
 natAbs-multiple (negsuc n) d = negated (suc n * d)
   where

@@ -1,6 +1,7 @@
 // Plays a movement's and a figure's tables.
 mod counts;
 mod fraction;
+mod line;
 mod number;
 
 pub use counts::FigureCounts;
