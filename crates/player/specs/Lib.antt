@@ -3,3 +3,4 @@ pub mod Samples
 pub mod Faces
 pub mod Columns
 pub mod Lookups
+pub mod Answers
