@@ -45,5 +45,12 @@ module _ (v w : ℤ) (x y : ℕ) (hv : natAbs v ≤ 9999999999999) (hw : natAbs 
   pub second-fits : SFits w64 (w *ℤ pos y)
   second-fits = size-fits (w *ℤ pos y) (let s = second-size in omega arith)
 
+  pub sum-small : natAbs (v *ℤ pos x +ℤ w *ℤ pos y) < 2 ^ 63
+  sum-small = let s = first-size in let t = second-size in let u = sum-size (v *ℤ pos x) (w *ℤ pos y) in omega arith
+
   pub sum-fits : SFits w64 (v *ℤ pos x +ℤ w *ℤ pos y)
-  sum-fits = size-fits (v *ℤ pos x +ℤ w *ℤ pos y) (let s = first-size in let t = second-size in let u = sum-size (v *ℤ pos x) (w *ℤ pos y) in omega arith)
+  sum-fits = size-fits (v *ℤ pos x +ℤ w *ℤ pos y) sum-small
+
+  -- by the bits of the values and of the sum
+  pub sum-bits : (r : ℤ) → SFits w64 v → SFits w64 w → r ≡ toZ w64 (ofZ w64 v) *ℤ pos x +ℤ toZ w64 (ofZ w64 w) *ℤ pos y → toZ w64 (ofZ w64 r) ≡ v *ℤ pos x +ℤ w *ℤ pos y
+  sum-bits r fv fw e = ap (λ (s : ℤ). toZ w64 (ofZ w64 s)) (e ∙ ap (λ (s : ℤ). s *ℤ pos x +ℤ toZ w64 (ofZ w64 w) *ℤ pos y) (toZ-ofZ fv) ∙ ap (λ (s : ℤ). v *ℤ pos x +ℤ s *ℤ pos y) (toZ-ofZ fw)) ∙ toZ-ofZ sum-fits
