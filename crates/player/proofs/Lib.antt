@@ -2,6 +2,7 @@
 pub mod Mosts
 pub mod Numbers
 pub mod Factors
+pub mod Passes
 pub mod Terms
 pub mod Sizes
 pub mod Samples

@@ -3,4 +3,5 @@ pub mod Samples
 pub mod Faces
 pub mod Columns
 pub mod Lookups
+pub mod Pass
 pub mod Answers
