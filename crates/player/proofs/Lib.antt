@@ -2,6 +2,8 @@
 pub mod Mosts
 pub mod Numbers
 pub mod Factors
+pub mod Follows
+pub mod Stepping
 pub mod Passes
 pub mod Terms
 pub mod Sizes

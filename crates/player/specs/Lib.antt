@@ -4,4 +4,5 @@ pub mod Faces
 pub mod Columns
 pub mod Lookups
 pub mod Pass
+pub mod Passing
 pub mod Answers

@@ -3,6 +3,7 @@ mod counts;
 mod fraction;
 mod line;
 mod number;
+mod pass;
 
 pub use counts::FigureCounts;
 pub use counts::MovementCounts;

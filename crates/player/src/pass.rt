@@ -1,8 +1,3 @@
-// One step of a pass over a channel's keys: crates/player/src/pass.rt, once `step` is proved (`follows` is: its proof and laws lie beside this file).
-// Left for `step`: with k the last key and n the next one, `mayFollow` false gives none (`passFrom`, `thenFrom` by computation), true gives
-// `thenFrom` of the next state, where `keyOf` is n and `stateOf` is `decided` (known; g at most `at`; the line). Then the loop over the rows,
-// whose answer is `passOver`, and `pass-is` (proofs/Passes.antt) makes it `sampleIn`.
-
 // A channel's keys in one pass.
 ghost use mathlib.Core.Path.{_≡_};
 ghost use mathlib.Core.List.{List, [], _∷_};
