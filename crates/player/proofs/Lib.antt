@@ -4,6 +4,7 @@ pub mod Numbers
 pub mod Factors
 pub mod Follows
 pub mod Stepping
+pub mod Walked
 pub mod Passes
 pub mod Terms
 pub mod Sizes

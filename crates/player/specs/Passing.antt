@@ -3,12 +3,13 @@ use mathlib.Core.Path.{_≡_}
 use mathlib.Core.List.{List, [], _∷_}
 use mathlib.Core.Bool.{Bool, true, false}
 use mathlib.Core.Option.{Option, none, some}
-use Prim.Native.Nat.{ℕ, _≤_, _<_}
+use Prim.Native.Nat.{ℕ, _*_, _≤_, _<_}
+use lib.ListN.{length}
 use lib.IntN.{ℤ, pos, natAbs}
 use Rattle.tra4_text.specs.Movement.{Key}
 use Rattle.player.specs.declared.pass.Pass.{Pass}
 use Rattle.player.specs.Fractions.{Fraction}
-use Rattle.player.specs.Pass.{passFrom}
+use Rattle.player.specs.Pass.{orLast, passFrom}
 
 -- the last key
 unfoldable pub keyOf : Pass → Key
@@ -36,3 +37,16 @@ pub record Ready (p : Pass) (total : ℤ) (at : ℕ) : Type 0 where
   pub last : p .before < 32767
   pub value : natAbs (p .value) ≤ 9999999999999
   pub open-yet : p .known ≡ false → p .before ≤ at
+
+-- what the pass answers at its end
+unfoldable pub finished : Pass → Option Fraction
+finished p = ifFine (p .fine) (some (orLast (stateOf p) (keyOf p)))
+
+-- rows of two numbers, at least one, under a sound total
+pub record KeyRows (keys : List ℤ) (count : ℕ) (total : ℤ) : Type 0 where
+  pub rows : length keys ≡ count * 2
+  pub some-row : 0 < count
+  pub most : count ≤ 4096
+  pub positive : total ≡ pos (natAbs total)
+  pub above : 0 < natAbs total
+  pub frames : natAbs total ≤ 32767

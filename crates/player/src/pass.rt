@@ -6,8 +6,9 @@ ghost use mathlib.Core.Bool.{true};
 ghost use lib.IntN.{ℤ, pos};
 ghost use Rattle.tra4_text.specs.Movement.{Key};
 ghost use Rattle.tra4_text.specs.Rules.{keyFine};
-ghost use Rattle.player.specs.Pass.{passFrom};
-ghost use Rattle.player.specs.Passing.{keyOf, stateOf, Ready, thenFrom};
+ghost use Rattle.player.specs.Pass.{passFrom, passOver};
+ghost use Rattle.player.specs.Columns.{rowsAt};
+ghost use Rattle.player.specs.Passing.{keyOf, stateOf, Ready, thenFrom, finished, KeyRows};
 use crate::line::line;
 use crate::number::is_float;
 
@@ -70,4 +71,36 @@ pub(crate) fn step(p: Pass, f: i64, v: i64, total: i64, at: usize) -> Pass
     next.numerator = r.numerator;
     next.denominator = r.denominator;
     next
+}
+// All keys of a channel, in rows of two numbers.
+pub(crate) fn pass_over(keys: &[i64], count: usize, total: i64, at: usize) -> Pass
+    requires { ⌜ KeyRows (now keys) count total ⌝ }
+    ensures { λ r. ⌜ finished r ≡ passOver total at (rowsAt 2 (now (keys .entry)) 0 count) ⌝ }
+{
+    let first = keys[1];
+    let mut p = Pass {
+        fine: true,
+        before: 0,
+        value: first,
+        known: false,
+        numerator: 0,
+        denominator: 1,
+    };
+    if keys[0] != 0 {
+        p.fine = false;
+        return p;
+    }
+    if !is_float(first) {
+        p.fine = false;
+        return p;
+    }
+    let mut i = 1;
+    while i < count {
+        p = step(p, keys[i * 2], keys[i * 2 + 1], total, at);
+        if !p.fine {
+            return p;
+        }
+        i += 1;
+    }
+    p
 }
