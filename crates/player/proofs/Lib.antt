@@ -11,3 +11,4 @@ pub mod Sizes
 pub mod Samples
 pub mod Between
 pub mod Examples
+pub mod Sampled

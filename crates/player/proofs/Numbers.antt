@@ -1,6 +1,6 @@
 -- What the code's tests on an `i64` say of the definitions' tests, by the number's sign.
 use mathlib.Core.Path.{_≡_, refl, ap, sym, _∙_}
-use mathlib.Core.Bool.{Bool, true, false, cond, _&&_}
+use mathlib.Core.Bool.{Bool, true, false, cond, _&&_, true≢false}
 use Prim.Native.Nat.{ℕ, zero, suc, _+_, _-_, _≤_, _<_}
 use native.Mathlib.Omega.{arith}
 use borrow.Author.Tests.{ltb-true, ltb-false, leb-true, leb-false, le-leb, lt-leb}
@@ -39,6 +39,18 @@ module _ (at : ℕ) where
   unfolding isAsked totalFault isClear
   asked-fine (pos n) e h = rw (le-leb 1 n (let l = ltb-false n 1 e in omega arith), le-leb n 32767 (ltb-false 32767 n h))
   asked-fine (negsuc n) e h = let z : _≡_ {A = ℕ} 0 1 = cc in absurd (omega (arith, z))
+
+  pub asked-total : (z : ℤ) → isAsked z at ≡ true → (z ≡ pos (natAbs z)) × (0 < natAbs z) × (natAbs z ≤ 32767)
+  asked-total z h = go (ltZ z (pos 1)) (ltZ (pos 32767) z) refl refl
+    where
+      sizes : (y : ℤ) → ltZ y (pos 1) ≡ false → ltZ (pos 32767) y ≡ false → (y ≡ pos (natAbs y)) × (0 < natAbs y) × (natAbs y ≤ 32767)
+      sizes (pos n) e f = (refl, (let l = ltb-false n 1 e in omega arith), ltb-false 32767 n f)
+      sizes (negsuc n) e f = let z : _≡_ {A = ℕ} 0 1 = cc in absurd (omega (arith, z))
+
+      go : (u v : Bool) → ltZ z (pos 1) ≡ u → ltZ (pos 32767) z ≡ v → (z ≡ pos (natAbs z)) × (0 < natAbs z) × (natAbs z ≤ 32767)
+      go true v e f = absurd (true≢false (sym h ∙ asked-low z e))
+      go false true e f = absurd (true≢false (sym h ∙ asked-high z e f))
+      go false false e f = sizes z e f
 
 -- ---- a range
 

@@ -4,6 +4,9 @@ mod fraction;
 mod line;
 mod number;
 mod pass;
+mod sampling;
 
 pub use counts::FigureCounts;
 pub use counts::MovementCounts;
+pub use sampling::Sampled;
+pub use sampling::sample;
