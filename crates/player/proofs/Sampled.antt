@@ -12,6 +12,7 @@ use lib.IntN.{ℤ, pos, negsuc, natAbs}
 use lib.ListN.{length, getD, take, drop, length-take, length-drop}
 use lib.Seq.{drop-drop}
 use Rattle.tra4_text.specs.Movement.{Key}
+use Rattle.lexer.proofs.Numerals.{and-true}
 use Rattle.lexer.specs.Faults.{Fault, clear, fault}
 use Rattle.chunks.specs.Rules.{tooMany}
 use Rattle.tra4_text.specs.Rules.{mosts, framesFault, keyFine}
@@ -61,10 +62,6 @@ part-rows w i j m (suc n) table h =
     rw (part-row w i j m table (omega arith), part-rows w i (j + w) m n table (omega arith), e)
 
 -- ---- what a table that holds a movement has
-
-and-true : (a b : Bool) → (a && b) ≡ true → (a ≡ true) × (b ≡ true)
-and-true true b e = (refl, e)
-and-true false b e = absurd (false≢true e)
 
 clear-true : (f : Fault) → isClear f ≡ true → f ≡ clear
 unfolding isClear

@@ -9,12 +9,11 @@ use Rattle.player.specs.declared.sampling.Sampled.the-variants.{Refused,
 unfoldable pub ratio : Ratio → Fraction
 ratio r = record { numerator = r .numerator; denominator = r .denominator }
 
--- none is refusal 21
-unfoldable pub sampled : Sampled → Option Fraction
-sampled Refused = none
-sampled (Value n d) = some (record { numerator = n; denominator = d })
+-- 01's number of an answer, with its values: 21, or 0
+unfoldable pub numbered : {A : Type 0} → Option A → ℕ × Option A
+numbered none = (21, none)
+numbered (some a) = (0, some a)
 
--- 01's number of an answer
-unfoldable pub numberOf : {A : Type 0} → Option A → ℕ
-numberOf none = 21
-numberOf (some a) = 0
+unfoldable pub sampled : Sampled → ℕ × Option Fraction
+sampled Refused = (21, none)
+sampled (Value n d) = (0, some (record { numerator = n; denominator = d }))

@@ -1,7 +1,7 @@
 // A channel's value at a frame.
 ghost use mathlib.Core.Path.{_≡_};
 ghost use Rattle.player.specs.Lookups.{sampleIn};
-ghost use Rattle.player.specs.Answers.{sampled};
+ghost use Rattle.player.specs.Answers.{numbered, sampled};
 use crate::counts::MovementCounts;
 use crate::counts::holds_movement;
 use crate::number::is_asked;
@@ -15,7 +15,7 @@ pub enum Sampled {
 }
 
 pub fn sample(table: &[i64], n: MovementCounts, bone: usize, channel: usize, at: usize) -> Sampled
-    ensures { λ r. ⌜ sampled r ≡ sampleIn n (now (table .entry)) bone channel at ⌝ }
+    ensures { λ r. ⌜ sampled r ≡ numbered (sampleIn n (now (table .entry)) bone channel at) ⌝ }
 {
     let bones = n.bones;
     let rows = n.keys;

@@ -15,7 +15,7 @@ use Rattle.player.specs.Columns.{numberAt, keysBegin, holdsMovement}
 use Rattle.player.specs.Lookups.{isAsked, isRange, pairAt, channelKeys, sampleIn}
 use Rattle.player.specs.Pass.{passOver}
 use Rattle.player.specs.Passing.{finished}
-use Rattle.player.specs.Answers.{sampled}
+use Rattle.player.specs.Answers.{numbered, sampled}
 use Rattle.player.proofs.Numbers.{natural-cast}
 use Rattle.player.proofs.Sampled.{keys-part, rows-part, movement-room, range-facts, part-rows, not-held, no-bone, no-channel, not-asked, no-range, played, at-fault, by-line, by-last}
 use Rattle.player.proofs.sampling.sample.Statement.{statement}
@@ -60,16 +60,16 @@ holds-movement-requires : tie.Need-holds-movement-requires
 holds-movement-requires c κs = search needs
 
 returns : tie.Need-returns
-unfolding sampled
-returns c = not-held _ _ _ _ _ (sym (c .before .holds-movement .ensures) ∙ not-true _ (c .if1 .taken))
+unfolding numbered sampled
+returns c = ap numbered (not-held _ _ _ _ _ (sym (c .before .holds-movement .ensures) ∙ not-true _ (c .if1 .taken)))
 
 returns-2 : tie.Need-returns-2
-unfolding sampled
-returns-2 c = no-bone _ _ _ _ _ (held (c .before)) (c .if2 .taken)
+unfolding numbered sampled
+returns-2 c = ap numbered (no-bone _ _ _ _ _ (held (c .before)) (c .if2 .taken))
 
 returns-3 : tie.Need-returns-3
-unfolding sampled
-returns-3 c = no-channel _ _ _ _ _ (held (c .before .before)) (row (c .before)) (c .if3 .taken)
+unfolding numbered sampled
+returns-3 c = ap numbered (no-channel _ _ _ _ _ (held (c .before .before)) (row (c .before)) (c .if3 .taken))
 
 shared-slice-copy-out-total : tie.Need-shared-slice-copy-out-total
 shared-slice-copy-out-total c = (let h = room (c .before .before) in omega arith)
@@ -78,10 +78,10 @@ is-asked-requires : tie.Need-is-asked-requires
 is-asked-requires c κs = search needs
 
 returns-4 : tie.Need-returns-4
-unfolding sampled numberAt
+unfolding numbered sampled numberAt
 returns-4 c =
     let a = c .before .before .before .before .before .before .before .args in
-    not-asked _ _ _ _ _ (held (c .before .before .before .before .before)) (row (c .before .before .before .before)) (known (c .before .before .before)) (sym (c .before .is-asked .ensures ∙ ap (λ (z : ℤ). isAsked z (a .at)) (toZ-ofZ {w = w64} {z = getD (now (a .table)) 0 (pos 0)} (record { sfits = c .before .before .total .given }))) ∙ not-true _ (c .if4 .taken))
+    ap numbered (not-asked _ _ _ _ _ (held (c .before .before .before .before .before)) (row (c .before .before .before .before)) (known (c .before .before .before)) (sym (c .before .is-asked .ensures ∙ ap (λ (z : ℤ). isAsked z (a .at)) (toZ-ofZ {w = w64} {z = getD (now (a .table)) 0 (pos 0)} (record { sfits = c .before .before .total .given }))) ∙ not-true _ (c .if4 .taken)))
 
 mul-pair : tie.Need-mul-pair
 mul-pair c =
@@ -151,8 +151,8 @@ unranged e =
     (rw (toZ-ofZ {w = w64} {z = getD (now (a .table)) (5 + a .bone * 22 + a .channel * 2) (pos 0)} (record { sfits = e .before .before .before .first .given }), toZ-ofZ {w = w64} {z = getD (now (a .table)) (5 + a .bone * 22 + a .channel * 2 + 1) (pos 0)} (record { sfits = e .before .before .keys .given })) at (sym (e .before .is-range .ensures))) ∙ not-true _ (e .if5 .taken)
 
 returns-5 : tie.Need-returns-5
-unfolding sampled numberAt pairAt
-returns-5 c = no-range _ _ _ _ _ (held (c .before .before .before .before .before .before .before .before .before)) (row (c .before .before .before .before .before .before .before .before)) (known (c .before .before .before .before .before .before .before)) (asked (c .before .before .before .before)) (unranged c)
+unfolding numbered sampled numberAt pairAt
+returns-5 c = ap numbered (no-range _ _ _ _ _ (held (c .before .before .before .before .before .before .before .before .before)) (row (c .before .before .before .before .before .before .before .before)) (known (c .before .before .before .before .before .before .before)) (asked (c .before .before .before .before)) (unranged c))
 
 mul-from : tie.Need-mul-from
 mul-from c = (let h = room (c .before .before .before .before .before .before .before .before .before) in record { fits = omega arith })
@@ -230,20 +230,20 @@ passed m =
     ∙ played (a .n) (now (a .table)) (a .bone) (a .channel) (a .at) (held (e .before .before .before .before .before .before .before .before .before)) (row (e .before .before .before .before .before .before .before .before)) (known (e .before .before .before .before .before .before .before)) (asked (e .before .before .before .before)) (ranged e)
 
 returns-6 : tie.Need-returns-6
-unfolding sampled
-returns-6 c = at-fault _ (not-true _ (c .if6 .taken)) ∙ passed (c .before .before)
+unfolding numbered sampled
+returns-6 c = ap numbered (at-fault _ (not-true _ (c .if6 .taken)) ∙ passed (c .before .before))
 
 returns-7 : tie.Need-returns-7
-unfolding sampled
+unfolding numbered sampled
 returns-7 c =
     let m = c .before .before .before .before in
-    rw (toZ-ofZ {w = w64} {z = m .pass-over .result .numerator} (record { sfits = c .struct-told .given .1 .1 .1 .1 .0 .1 })) (by-line _ (not-false _ (c .before .before .if6 .left)) (c .before .if7 .taken) ∙ passed m)
+    rw (toZ-ofZ {w = w64} {z = m .pass-over .result .numerator} (record { sfits = c .struct-told .given .1 .1 .1 .1 .0 .1 })) (ap numbered (by-line _ (not-false _ (c .before .before .if6 .left)) (c .before .if7 .taken) ∙ passed m))
 
 returns-8 : tie.Need-returns-8
-unfolding sampled
+unfolding numbered sampled
 returns-8 c =
     let m = c .before .before .before .before in
-    rw (toZ-ofZ {w = w64} {z = m .pass-over .result .value} (record { sfits = c .struct-told2 .given .1 .1 .0 .1 })) (by-last _ (not-false _ (c .before .before .if6 .left)) (c .before .if7 .left) ∙ passed m)
+    rw (toZ-ofZ {w = w64} {z = m .pass-over .result .value} (record { sfits = c .struct-told2 .given .1 .1 .0 .1 })) (ap numbered (by-last _ (not-false _ (c .before .before .if6 .left)) (c .before .if7 .left) ∙ passed m))
 
 pub sample-spec : {M : Type 1} → statement M
 sample-spec =
