@@ -7,7 +7,7 @@ use lib.Dec.{leb, ltb, eqb}
 use lib.IntN.{ℤ, pos, negsuc, natAbs}
 use lib.ListN.{length, getD, take, drop}
 use Rattle.lexer.specs.Faults.{Fault, clear}
-use Rattle.bac6_text.specs.Rules.{isRow, isNone}
+use Rattle.bac6_text.specs.Rules.{isRow, isNone, sameNumber}
 use Rattle.references.specs.Index.{isIndex}
 use Rattle.tra4_text.specs.Movement.{Key, Pattern, groupOf}
 use Rattle.tra4_text.specs.Rules.{totalFault, framesFault, keyFine, patternsFault}
@@ -71,11 +71,7 @@ module _ (n : MovementCounts) (table : List ℤ) where
 -- ---- a face's row: material, size, four vertices, four uvs, group
 
 unfoldable pub sizeFine : ℤ → Bool
-sizeFine z = eqbZ z 3 || eqbZ z 4
-  where
-    eqbZ : ℤ → ℕ → Bool
-    eqbZ (pos n) m = eqb n m
-    eqbZ (negsuc n) m = false
+sizeFine z = sameNumber z (pos 3) || sameNumber z (pos 4)
 
 -- the used corners are rows of a list of n, and the unused -1
 unfoldable pub cornersFine : ℕ → ℕ → List ℤ → Bool
