@@ -12,3 +12,6 @@ pub mod Samples
 pub mod Between
 pub mod Examples
 pub mod Sampled
+pub mod PatternLines
+pub mod Flagged
+pub mod FlagRows

@@ -5,4 +5,5 @@ pub mod Columns
 pub mod Lookups
 pub mod Pass
 pub mod Passing
+pub mod Flags
 pub mod Answers
