@@ -15,3 +15,6 @@ pub mod Sampled
 pub mod FaceRows
 pub mod Indices
 pub mod CornerTests
+pub mod PatternLines
+pub mod Flagged
+pub mod FlagRows

@@ -2,6 +2,7 @@
 mod corners;
 mod counts;
 mod face;
+mod flags;
 mod fraction;
 mod line;
 mod number;
@@ -13,5 +14,6 @@ pub use corners::Cornered;
 pub use corners::corner;
 pub use counts::FigureCounts;
 pub use counts::MovementCounts;
+pub use flags::Visibility;
 pub use sampling::Sampled;
 pub use sampling::sample;
