@@ -1,0 +1,2 @@
+-- Sample from a movement's text.
+pub mod Laid
