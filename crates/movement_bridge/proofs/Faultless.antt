@@ -1,5 +1,5 @@
 -- What the rules that are kept say of one channel and of a value: its frames are sound from any row on, and its values are in range; by induction on the lists.
-use mathlib.Core.Path.{_≡_, refl, sym, _∙_}
+use mathlib.Core.Path.{_≡_, refl}
 use mathlib.Core.List.{List, [], _∷_, _++_}
 use mathlib.Core.Bool.{Bool, true, false}
 use mathlib.Core.Option.{Option, none, some}
@@ -8,7 +8,7 @@ use native.Mathlib.Omega.{arith}
 use borrow.Author.Tests.{leb-true, le-leb, lt-ltb}
 use lib.IntN.{ℤ, pos, negsuc, natAbs}
 use lib.ListN.{length, getD}
-use Rattle.lexer.specs.Faults.{Fault, clear, fault}
+use Rattle.lexer.specs.Faults.{clear, fault}
 use Rattle.lexer.specs.Numbers.{FLOAT, inForm}
 use Rattle.chunks.proofs.Given.{Every}
 use Rattle.chunks.proofs.Rules.{or-first, or-second}

@@ -1,59 +1,40 @@
 -- Sample from a movement's text: on the table that reading leaves it is the sample of the channel as the text writes it, never 21; the channel's keys are a part of all key rows.
 use mathlib.Core.Path.{_≡_, refl, ap, subst, _∙_}
 use mathlib.Core.List.{List, [], _∷_, _++_}
-use mathlib.Core.Bool.{Bool, true, false, _&&_}
-use mathlib.Core.Option.{Option, none, some}
-use Prim.Native.Nat.{ℕ, zero, suc, _+_, _*_, _≤_, _<_}
+use mathlib.Core.Bool.{true}
+use mathlib.Core.Option.{none, some}
+use Prim.Native.Nat.{ℕ, suc, _+_, _*_, _≤_, _<_}
 use native.Mathlib.Omega.{arith}
 use borrow.Author.Tests.{lt-ltb}
 use lib.IntN.{ℤ, pos, natAbs}
-use lib.ListN.{length, getD, drop, length-append}
+use lib.ListN.{length, drop, length-append}
 use Rattle.lexer.specs.Faults.{clear}
 use Rattle.chunks.specs.Outcomes.{accepted}
 use Rattle.chunks.proofs.Given.{Every}
-use Rattle.chunks.proofs.Widths.{Wide}
 use Rattle.tra4_text.specs.Movement.{Key, Channel, Bone, Movement}
 use Rattle.tra4_text.specs.Rules.{allKeys, channelsOf, keyRows, framesFault, keyFine, keysFault, movementFault}
-use Rattle.tra4_text.specs.Layout.{boneRows, layoutOf}
+use Rattle.tra4_text.specs.Layout.{layoutOf}
 use Rattle.tra4_text.specs.Answer.{movementAnswer, movementTable}
-use Rattle.tra4_text.proofs.Whole.{WholeChannel, WholeBone, WholeMovement}
-use Rattle.tra4_text.proofs.Layouts.{keys-append, keys-wide, rows-wide, rows-count}
+use Rattle.tra4_text.proofs.Whole.{WholeChannel, WholeBone, WholeMovement, wide-keys}
+use Rattle.tra4_text.proofs.Layouts.{keys-append, keys-wide}
 use Rattle.tra4.specs.Answers.{answerOf}
 use Rattle.player.specs.declared.counts.MovementCounts.{MovementCounts}
 use Rattle.player.specs.Samples.{sampleOf}
 use Rattle.player.specs.Columns.{numberAt, rowsAt, isClear, keysBegin, holdsMovement}
 use Rattle.player.specs.Lookups.{onlyIf, isAsked, isRange, valuesFine, pairAt, channelKeys, canSample, sampleIn}
 use Rattle.movement_bridge.specs.Counts.{countsIn, channelOf}
-use Rattle.movement_bridge.proofs.Laid.{Laid, laid-part, rows-laid, number-laid}
+use Rattle.movement_bridge.proofs.Laid.{Laid, laid-part, rows-laid}
+use Rattle.movement_bridge.proofs.Each.{every-append, every-first, every-last}
 use Rattle.movement_bridge.proofs.Channels.{Found, in-rows}
 use Rattle.movement_bridge.proofs.Faultless.{one-clear, range-within, values-fine}
-use Rattle.movement_bridge.proofs.Tables.{countsRead, bones-laid, keys-laid, keys-clear, whole-read, clean-read, table-read, movement-holds, total-stands, frame-asked}
+use Rattle.movement_bridge.proofs.Tables.{countsRead, bone-number, keys-laid, keys-clear, whole-read, clean-read, table-read, movement-holds, total-stands, frame-asked}
 
 -- ---- what holds of each channel
-
-every-append : {A : Type 0} (P : A → Type 0) (a b : List A) → Every P a → Every P b → Every P (a ++ b)
-every-append P [] b h k = k
-every-append P (x ∷ a) b h k = (h .0, every-append P a b (h .1) k)
-
-every-first : {A : Type 0} (P : A → Type 0) (a b : List A) → Every P (a ++ b) → Every P a
-every-first P [] b h = tt
-every-first P (x ∷ a) b h = (h .0, every-first P a b (h .1))
-
-every-last : {A : Type 0} (P : A → Type 0) (a b : List A) → Every P (a ++ b) → Every P b
-every-last P [] b h = h
-every-last P (x ∷ a) b h = every-last P a b (h .1)
 
 channels-whole : (bs : List Bone) → Every WholeBone bs → Every WholeChannel (channelsOf bs)
 unfolding channelsOf
 channels-whole [] h = tt
 channels-whole (b ∷ bs) h = every-append WholeChannel (b .channels) (channelsOf bs) (h .0 .whole) (channels-whole bs (h .1))
-
-wide-keys : (cs : List Channel) → Every WholeChannel cs → Wide 2 (allKeys cs)
-wide-keys cs h = keys-wide cs (each cs h)
-  where
-    each : (ds : List Channel) → Every WholeChannel ds → Every (Wide 2) ds
-    each [] h = tt
-    each (d ∷ ds) h = (h .0 .wide, each ds (h .1))
 
 -- ---- a channel that is found stands among the key rows
 
@@ -73,11 +54,6 @@ sample-is n t bone channel at first total c held row known is asked f l range ro
 
 -- ---- a channel whose pair is found in the table
 
-pair-stands : (m : Movement) (w : WholeMovement m) (t rest : List ℤ) → t ≡ layoutOf m ++ rest → (bone j i : ℕ) → bone < length (m .bones) → j < 22 → i ≡ 3 + bone * 22 + j → numberAt t i ≡ getD (getD (boneRows 0 (m .bones)) bone []) j (pos 0)
-pair-stands m w t rest e bone j i h k o =
-    ap (λ (x : ℕ). numberAt t x) o
-    ∙ number-laid 22 (boneRows 0 (m .bones)) (rows-wide 0 (m .bones) (w .bones)) (bones-laid m w t rest e) bone j (omega (arith, rows-count 0 (m .bones))) k
-
 module _ (m : Movement) (w : WholeMovement m) (clean : movementFault m ≡ clear) (t rest : List ℤ) (e : t ≡ layoutOf m ++ rest) (c : Channel) (f n : ℤ) (s : Found (channelsOf (m .bones)) 0 c f n) where
   rows-split : keyRows m ≡ allKeys (s .before) ++ (c ++ allKeys (s .behind))
   unfolding keyRows
@@ -92,7 +68,7 @@ module _ (m : Movement) (w : WholeMovement m) (clean : movementFault m ≡ clear
   keys-stand : rowsAt 2 t (keysBegin (countsRead m) + length (allKeys (s .before)) * 2) (length c) ≡ c
   keys-stand =
       let all : Laid (allKeys (s .before) ++ (c ++ allKeys (s .behind))) (keysBegin (countsRead m)) t = subst (λ (ks : List Key). Laid ks (keysBegin (countsRead m)) t) rows-split (keys-laid m w t rest e) in
-      rows-laid 2 c (whole-one .wide) (laid-part 2 (allKeys (s .before)) c (allKeys (s .behind)) (wide-keys (s .before) (every-first WholeChannel (s .before) (c ∷ s .behind) whole-split)) all)
+      rows-laid 2 c (whole-one .wide) (laid-part 2 (allKeys (s .before)) c (allKeys (s .behind)) (keys-wide (s .before) (wide-keys (s .before) (every-first WholeChannel (s .before) (c ∷ s .behind) whole-split))) all)
 
   keys-range : isRange (countsRead m .keys) (pos (length (allKeys (s .before)))) (pos (length c)) ≡ true
   unfolding countsIn answerOf keyRows
@@ -122,5 +98,5 @@ sample-from-text text table m e bone channel at h k l =
     let g = table-read text table m e in
     found-sampled m w (clean-read text table m e) t r g _ _ _ (in-rows 0 (m .bones) bone channel (channel * 2) (w .bones) h k refl) bone channel at
     (movement-holds text table m e) h k (total-stands text table m e) (frame-asked text table m e at l)
-    (pair-stands m w t r g bone (suc (suc (channel * 2))) _ h (omega arith) (omega arith))
-    (pair-stands m w t r g bone (suc (suc (suc (channel * 2)))) _ h (omega arith) (omega arith))
+    (bone-number m w t r g bone (suc (suc (channel * 2))) _ h (omega arith) (omega arith))
+    (bone-number m w t r g bone (suc (suc (suc (channel * 2)))) _ h (omega arith) (omega arith))

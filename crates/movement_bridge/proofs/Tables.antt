@@ -1,18 +1,17 @@
 -- The table of a movement that is taken: where its lists stand in it, and that its numbers are sound; from what a taken text says.
-use mathlib.Core.Path.{_≡_, refl, ap, sym, _∙_}
+use mathlib.Core.Path.{_≡_, refl, ap, _∙_}
 use mathlib.Core.List.{List, [], _∷_, _++_, append-assoc}
-use mathlib.Core.Bool.{Bool, true, false, _&&_}
+use mathlib.Core.Bool.{true}
 use Prim.Native.Nat.{ℕ, _+_, _*_, _≤_, _<_}
 use native.Mathlib.Omega.{arith}
 use borrow.Author.Tests.{le-leb}
-use lib.Dec.{leb}
 use lib.IntN.{ℤ, pos, natAbs}
 use lib.ListN.{length, getD, drop, length-append}
 use Rattle.lexer.specs.Faults.{clear, tra}
 use Rattle.lexer.specs.Tokens.{lex}
 use Rattle.chunks.specs.Into.{flat}
 use Rattle.chunks.specs.Rules.{tooMany, orElse}
-use Rattle.chunks.specs.Outcomes.{Outcome, accepted, fitted, laid}
+use Rattle.chunks.specs.Outcomes.{Outcome, accepted, laid}
 use Rattle.chunks.proofs.Given.{Every}
 use Rattle.chunks.proofs.Rules.{or-first, or-second}
 use Rattle.chunks.proofs.Widths.{Wide, flat-length}
@@ -29,7 +28,7 @@ use Rattle.player.specs.declared.counts.MovementCounts.{MovementCounts}
 use Rattle.player.specs.Columns.{numberAt, rowsAt, isClear, keysBegin, patternsBegin, movementEnd, holdsMovement}
 use Rattle.player.specs.Lookups.{isAsked}
 use Rattle.movement_bridge.specs.Counts.{countsIn}
-use Rattle.movement_bridge.proofs.Laid.{Laid, rows-laid}
+use Rattle.movement_bridge.proofs.Laid.{Laid, rows-laid, number-laid}
 use Rattle.movement_bridge.proofs.Taken.{Taken, taken}
 use Rattle.movement_bridge.proofs.Faultless.{asked-below, flags-in-row}
 
@@ -72,6 +71,12 @@ module _ (m : Movement) (w : WholeMovement m) (t rest : List ℤ) (e : t ≡ lay
         here = e ∙ bones-here lead (flat (boneRows 0 (m .bones))) (flat (keyRows m)) (flat (m .patterns)) rest;
         begins = refl;
       }
+
+  -- a number of a bone's row
+  pub bone-number : (bone j i : ℕ) → bone < length (m .bones) → j < 22 → i ≡ 3 + bone * 22 + j → numberAt t i ≡ getD (getD (boneRows 0 (m .bones)) bone []) j (pos 0)
+  bone-number bone j i h k o =
+      ap (λ (x : ℕ). numberAt t x) o
+      ∙ number-laid 22 (boneRows 0 (m .bones)) (rows-wide 0 (m .bones) (w .bones)) bones-laid bone j (omega (arith, rows-count 0 (m .bones))) k
 
   pub keys-laid : Laid (keyRows m) (keysBegin (countsRead m)) t
   unfolding layoutOf nameNumbers keysBegin countsIn answerOf

@@ -98,7 +98,7 @@ channels-whole ms gs l e =
     let w = fields-fit (λ _. WholeChannel) channelKinds (all-give 0 channelNames) ms gs l e in
     all-stand 0 channelNames gs (w .0) (w .1) (ten-fields ms gs l e ∙ sym ten-names)
 
-wide-keys : (cs : List Channel) → Every WholeChannel cs → Every (Wide 2) cs
+pub wide-keys : (cs : List Channel) → Every WholeChannel cs → Every (Wide 2) cs
 wide-keys [] h = tt
 wide-keys (c ∷ cs) h = (h .0 .wide, wide-keys cs (h .1))
 
