@@ -22,7 +22,8 @@ use Rattle.bac6_text.proofs.Rows.{face-rows-wide, face-rows-length}
 use Rattle.player.specs.declared.counts.FigureCounts.{FigureCounts}
 use Rattle.player.specs.Faces.{rowAt, uvAt, cornerOf}
 use Rattle.player.specs.Columns.{isClear, figureEnd, holdsFigure}
-use Rattle.player.specs.Lookups.{onlyIf, allFloat, isRowOrNone, faceAt, ownerAt, faceFine, pointAt, uvRow, uvFine, uvIn, canCorner, cornerIn}
+use Rattle.references.specs.Index.{isIndex}
+use Rattle.player.specs.Lookups.{onlyIf, allFloat, faceAt, ownerAt, faceFine, pointAt, uvRow, uvFine, uvIn, canCorner, cornerIn}
 use Rattle.movement_bridge.proofs.Laid.{row-laid}
 use Rattle.figure_bridge.specs.Rows.{noFace, faceOf, groupedFaceOf}
 use Rattle.figure_bridge.proofs.Sound.{every-at, counts-sound, parents-sound, faces-sound}
@@ -34,7 +35,7 @@ use Rattle.figure_bridge.proofs.FaceRows.{cornerAt, row-material, row-s
 -- ---- a corner, where every test passes
 
 module _ (n : FigureCounts) (t : List ℤ) (face k : ℕ) (g : ℤ) (f : Face) where
-  corner-by : faceAt n t face ≡ faceRow g f → holdsFigure n t ≡ true → face < n .faces → faceFine n t (faceRow g f) ≡ true → k < f .size → k < 4 → allFloat (pointAt n t (cornerAt (f .vertices) k)) ≡ true → isRowOrNone (n .bones) (ownerAt n t (cornerAt (f .vertices) k)) ≡ true → uvFine n t (cornerAt (f .uvs) k) ≡ true → cornerIn n t face k ≡ some (record { position = pointAt n t (cornerAt (f .vertices) k); owner = ownerAt n t (cornerAt (f .vertices) k); uv = uvIn n t (cornerAt (f .uvs) k); material = f .material })
+  corner-by : faceAt n t face ≡ faceRow g f → holdsFigure n t ≡ true → face < n .faces → faceFine n (faceRow g f) ≡ true → k < f .size → k < 4 → allFloat (pointAt n t (cornerAt (f .vertices) k)) ≡ true → isIndex (n .bones) (ownerAt n t (cornerAt (f .vertices) k)) ≡ true → uvFine n t (cornerAt (f .uvs) k) ≡ true → cornerIn n t face k ≡ some (record { position = pointAt n t (cornerAt (f .vertices) k); owner = ownerAt n t (cornerAt (f .vertices) k); uv = uvIn n t (cornerAt (f .uvs) k); material = f .material })
   unfolding cornerIn canCorner onlyIf
   corner-by row held below fine used four float owner uv =
       rw (row, row-vertex g f k four, row-uv g f k four, row-material g f, row-size g f, held, lt-ltb face (n .faces) below, fine, lt-ltb k (f .size) used, float, owner, uv)
@@ -121,7 +122,7 @@ module _ (f : Figure) (w : WholeFigure f) (c : figureFault f ≡ clear) (rest : 
           (face-stands face below)
           figure-holds
           below
-          (face-fine (counts f) table (groupNumber (groupedFaceOf f face .1)) this face-whole face-sound (group-known f face below))
+          (face-fine (counts f) (groupNumber (groupedFaceOf f face .1)) this face-whole face-sound (group-known f face below))
           used
           (below-four this face-whole k used)
           (rw (point-stands (cornerAt (this .vertices) k) vertex-row) (rows-float (f .points) (cornerAt (this .vertices) k) (w .point-floats) vertex-row))

@@ -14,7 +14,8 @@ use Rattle.bac6_text.specs.Rules.{isRow, isNone, all}
 use Rattle.bac6_text.specs.Layout.{corners, faceRow}
 use Rattle.bac6_text.proofs.Whole.{WholeFace}
 use Rattle.player.specs.declared.counts.FigureCounts.{FigureCounts}
-use Rattle.player.specs.Lookups.{isRowOrNone, sizeFine, cornersFine, allNone, faceFine}
+use Rattle.references.specs.Index.{isIndex}
+use Rattle.player.specs.Lookups.{sizeFine, cornersFine, allNone, faceFine}
 
 -- a corner's number, -1 where there is none
 abbrev pub cornerAt : List ℤ → ℕ → ℤ
@@ -120,7 +121,7 @@ module _ (f : Face) (w : WholeFace f) where
   uv-corners = rw (w .uvs) (w .sizes)
 
   pub size-fine : sizeFine (pos (f .size)) ≡ true
-  unfolding sizeFine
+  unfolding sizeFine bac6.sameNumber
   size-fine = ⊎-elim (λ (e : f .size ≡ 3). rw e) (λ (e : f .size ≡ 4). rw e) (w .sizes)
 
   pub below-four : (k : ℕ) → k < f .size → k < 4
@@ -149,7 +150,7 @@ module _ (m p u : ℕ) (f : Face) (h : bac6.faceFine m p u f ≡ true) where
   uvs-sound = front-sound .1
 
 -- the row passes the lookup's test
-pub face-fine : (n : FigureCounts) (table : List ℤ) (g : ℤ) (f : Face) → WholeFace f → bac6.faceFine (n .materials) (n .points) (n .uvs) f ≡ true → isRowOrNone (n .groups) g ≡ true → faceFine n table (faceRow g f) ≡ true
+pub face-fine : (n : FigureCounts) (g : ℤ) (f : Face) → WholeFace f → bac6.faceFine (n .materials) (n .points) (n .uvs) f ≡ true → isIndex (n .groups) g ≡ true → faceFine n (faceRow g f) ≡ true
 unfolding faceFine
-face-fine n table g f w h k =
+face-fine n g f w h k =
     rw (row-material g f, row-size g f, row-vertices g f, row-uvs g f, row-group g f, k, size-fine f w, vertices-fine f w (n .points), uvs-fine f w (n .uvs), none-used (f .uvs) (uv-corners f w), material-sound (n .materials) (n .points) (n .uvs) f h, vertices-sound (n .materials) (n .points) (n .uvs) f h, uvs-sound (n .materials) (n .points) (n .uvs) f h)

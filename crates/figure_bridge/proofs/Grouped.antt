@@ -13,7 +13,7 @@ use Rattle.bac6_text.specs.Figure.{Face, Group, Figure}
 use Rattle.bac6_text.specs.Rules.{groupFaces, facesOf, isRow, isNone}
 use Rattle.bac6_text.specs.Layout.{faceRow, groupRows, faceRows}
 use Rattle.player.specs.Faces.{inGroup, inGroups, groupedFaces}
-use Rattle.player.specs.Lookups.{isRowOrNone}
+use Rattle.references.specs.Index.{isIndex}
 use Rattle.figure_bridge.specs.Rows.{noFace, faceOf, groupedFaceOf}
 use Rattle.figure_bridge.proofs.Sound.{every-at}
 
@@ -70,19 +70,19 @@ grouped-rows f = map-append rowOf (inGroup none (f .polygons)) (inGroups 0 (f .g
 -- ---- their groups are rows
 
 abbrev Known : ℕ → Grouped → Type 0
-Known n p = isRowOrNone n (groupNumber (p .1)) ≡ true
+Known n p = isIndex n (groupNumber (p .1)) ≡ true
 
 known-append : (n : ℕ) (a b : List Grouped) → Every (Known n) a → Every (Known n) b → Every (Known n) (a ++ b)
 known-append n [] b h k = k
 known-append n (p ∷ a) b h k = (h .0, known-append n a b (h .1) k)
 
-in-group-known : (n : ℕ) (g : Option ℕ) (fs : List Face) → isRowOrNone n (groupNumber g) ≡ true → Every (Known n) (inGroup g fs)
+in-group-known : (n : ℕ) (g : Option ℕ) (fs : List Face) → isIndex n (groupNumber g) ≡ true → Every (Known n) (inGroup g fs)
 unfolding inGroup
 in-group-known n g [] h = tt
 in-group-known n g (f ∷ fs) h = (h, in-group-known n g fs h)
 
-number-known : (n i : ℕ) → i < n → isRowOrNone n (groupNumber (some i)) ≡ true
-unfolding isRowOrNone groupNumber isNone isRow
+number-known : (n i : ℕ) → i < n → isIndex n (groupNumber (some i)) ≡ true
+unfolding isIndex groupNumber isNone isRow
 number-known n i h = lt-ltb i n h
 
 in-groups-known : (n i : ℕ) (gs : List Group) → i + length gs ≤ n → Every (Known n) (inGroups i gs)
@@ -91,7 +91,7 @@ in-groups-known n i [] h = tt
 in-groups-known n i (g ∷ gs) h = known-append n (inGroup (some i) (g .faces)) (inGroups (suc i) gs) (in-group-known n (some i) (g .faces) (number-known n i (omega arith))) (in-groups-known n (suc i) gs (omega arith))
 
 grouped-known : (f : Figure) → Every (Known (length (f .groups))) (groupedFaces f)
-unfolding groupedFaces isRowOrNone groupNumber isNone
+unfolding groupedFaces isIndex groupNumber isNone
 grouped-known f = known-append (length (f .groups)) (inGroup none (f .polygons)) (inGroups 0 (f .groups)) (in-group-known (length (f .groups)) none (f .polygons) refl) (in-groups-known (length (f .groups)) 0 (f .groups) (omega arith))
 
 -- ---- the row of a face
@@ -118,6 +118,6 @@ module _ (f : Figure) (face : ℕ) (h : face < length (facesOf f)) where
       ∙ at-any (map rowOf (groupedFaces f)) face [] (rowOf (noFace, none)) (rw (length-map (groupedFaces f) rowOf) (omega arith))
       ∙ List·getD-map rowOf (groupedFaces f) face (noFace, none)
 
-  pub group-known : isRowOrNone (length (f .groups)) (groupNumber (groupedFaceOf f face .1)) ≡ true
+  pub group-known : isIndex (length (f .groups)) (groupNumber (groupedFaceOf f face .1)) ≡ true
   unfolding groupedFaceOf
   group-known = let e = grouped-length f in every-at (Known (length (f .groups))) (groupedFaces f) face (noFace, none) (grouped-known f) (omega arith)

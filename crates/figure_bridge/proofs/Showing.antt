@@ -20,7 +20,8 @@ use Rattle.player.specs.declared.counts.FigureCounts.{FigureCounts}
 use Rattle.player.specs.declared.counts.MovementCounts.{MovementCounts}
 use Rattle.player.specs.Faces.{allOwned, groupShown, shownOf}
 use Rattle.player.specs.Columns.{numberAt, isClear, holdsFigure, holdsMovement}
-use Rattle.player.specs.Lookups.{onlyIf, isRowOrNone, isAsked, sizeFine, cornersFine, faceAt, ownerAt, ownersFine, ownedCorners, patternRows, linesFine, patternsFine, canShow, groupFlag, shownIn}
+use Rattle.references.specs.Index.{isIndex}
+use Rattle.player.specs.Lookups.{onlyIf, isAsked, sizeFine, cornersFine, faceAt, ownerAt, ownersFine, ownedCorners, patternRows, linesFine, patternsFine, canShow, groupFlag, shownIn}
 use Rattle.figure_bridge.specs.Rows.{groupedFaceOf, hasNoGroup, groupsKnown}
 use Rattle.figure_bridge.proofs.Tests.{owner-known}
 use Rattle.figure_bridge.proofs.Parts.{counts}
@@ -31,7 +32,7 @@ use Rattle.figure_bridge.proofs.Corners.{figure-holds, face-stands, own
 -- ---- where every test passes but that of the patterns
 
 module _ (n : FigureCounts) (t : List ℤ) (m : MovementCounts) (moves : List ℤ) (face at : ℕ) (g : ℤ) (f : Face) where
-  shown-by : faceAt n t face ≡ faceRow g f → holdsFigure n t ≡ true → holdsMovement m moves ≡ true → face < n .faces → isAsked (numberAt moves 0) at ≡ true → sizeFine (pos (f .size)) ≡ true → cornersFine (n .points) (f .size) (corners 4 (f .vertices)) ≡ true → ownersFine n t (f .size) (corners 4 (f .vertices)) ≡ true → isRowOrNone (n .groups) g ≡ true → shownIn n t m moves face at ≡ onlyIf (isNone g || patternsFine n t m moves) (ownedCorners n t (f .size) (corners 4 (f .vertices)) && groupFlag n t m moves g at)
+  shown-by : faceAt n t face ≡ faceRow g f → holdsFigure n t ≡ true → holdsMovement m moves ≡ true → face < n .faces → isAsked (numberAt moves 0) at ≡ true → sizeFine (pos (f .size)) ≡ true → cornersFine (n .points) (f .size) (corners 4 (f .vertices)) ≡ true → ownersFine n t (f .size) (corners 4 (f .vertices)) ≡ true → isIndex (n .groups) g ≡ true → shownIn n t m moves face at ≡ onlyIf (isNone g || patternsFine n t m moves) (ownedCorners n t (f .size) (corners 4 (f .vertices)) && groupFlag n t m moves g at)
   unfolding shownIn canShow
   shown-by row held moving below asked size vertices owners group =
       rw (row, row-size g f, row-vertices g f, row-group g f, held, moving, lt-ltb face (n .faces) below, asked, size, vertices, owners, group)
@@ -42,7 +43,7 @@ module _ (n : FigureCounts) (t : List ℤ) (m : MovementCounts) (moves : List �
   abbrev known : List Pattern → Bool
   known ps = all (λ (p : Pattern). isRow (n .groups) (groupOf p)) ps
 
-  lines-known : (ps : List Pattern) → Every (λ p. isRow 2 (getD p 2 (pos 0)) ≡ true) ps → linesFine n t m moves ps ≡ known ps
+  lines-known : (ps : List Pattern) → Every (λ p. isRow 2 (getD p 2 (pos 0)) ≡ true) ps → linesFine (n .groups) ps ≡ known ps
   unfolding linesFine all
   lines-known [] h = refl
   lines-known (p ∷ ps) h = rw (h .0, lines-known ps (h .1)) (go (isRow (n .groups) (groupOf p)) (known ps))

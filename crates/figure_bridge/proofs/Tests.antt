@@ -13,7 +13,8 @@ use Rattle.lexer.proofs.Numerals.{and-true}
 use Rattle.bac6_text.specs.Figure.{Bone}
 use Rattle.bac6_text.specs.Rules.{isRow, isNone, all, member, ownerFrom, ownerOf}
 use Rattle.bac6_text.proofs.Forms.{AllIn}
-use Rattle.player.specs.Lookups.{allFloat, isRowOrNone}
+use Rattle.references.specs.Index.{isIndex}
+use Rattle.player.specs.Lookups.{allFloat}
 use Rattle.movement_bridge.proofs.Faultless.{float-in-form}
 
 pub row-natural : (n : ℕ) (z : ℤ) → isRow n z ≡ true → pos (natAbs z) ≡ z
@@ -45,15 +46,15 @@ all-float (z ∷ zs) h = rw (float-in-form z (h .0), all-float zs (h .1))
 
 -- ---- owners
 
-owner-from : (n row : ℕ) (z : ℤ) (bs : List Bone) → row + length bs ≤ n → isRowOrNone n (ownerFrom row z bs) ≡ true
-unfolding ownerFrom isRowOrNone isNone isRow
+owner-from : (n row : ℕ) (z : ℤ) (bs : List Bone) → row + length bs ≤ n → isIndex n (ownerFrom row z bs) ≡ true
+unfolding ownerFrom isIndex isNone isRow
 owner-from n row z [] h = refl
 owner-from n row z (b ∷ bs) h = go (member z (b .vertices)) refl (owner-from n (suc row) z bs (omega arith))
   where
-    go : (v : Bool) → member z (b .vertices) ≡ v → isRowOrNone n (ownerFrom (suc row) z bs) ≡ true → isRowOrNone n (ownerFrom row z (b ∷ bs)) ≡ true
+    go : (v : Bool) → member z (b .vertices) ≡ v → isIndex n (ownerFrom (suc row) z bs) ≡ true → isIndex n (ownerFrom row z (b ∷ bs)) ≡ true
     go true e ih = rw (e, ownerFrom) (lt-ltb row n (omega arith))
     go false e ih = rw (e, ownerFrom) ih
 
-pub owner-known : (bs : List Bone) (z : ℤ) → isRowOrNone (length bs) (ownerOf bs z) ≡ true
+pub owner-known : (bs : List Bone) (z : ℤ) → isIndex (length bs) (ownerOf bs z) ≡ true
 unfolding ownerOf
 owner-known bs z = owner-from (length bs) 0 z bs (omega arith)

@@ -18,3 +18,5 @@ pub mod CornerTests
 pub mod PatternLines
 pub mod Flagged
 pub mod FlagRows
+pub mod OwnedCorners
+pub mod ShownTests

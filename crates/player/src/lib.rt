@@ -6,9 +6,11 @@ mod flags;
 mod fraction;
 mod line;
 mod number;
+mod owning;
 mod pass;
 mod point;
 mod sampling;
+mod showing;
 
 pub use corners::Cornered;
 pub use corners::corner;
@@ -17,3 +19,4 @@ pub use counts::MovementCounts;
 pub use flags::Visibility;
 pub use sampling::Sampled;
 pub use sampling::sample;
+pub use showing::shown;
