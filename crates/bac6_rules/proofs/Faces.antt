@@ -16,7 +16,7 @@ use Rattle.bac6_text.specs.Layout.{corners, faceRow}
 use Rattle.bac6_text.proofs.Rows.{length-corners}
 use Rattle.bac6_text.specs.Rules.{isRow, isNone, sameNumber, all, faceFine}
 use Rattle.bac6_rules.specs.Rows.{faceSize, faceVertices, faceUvs, faceRowFine}
-use Rattle.references.proofs.Numbers.{and3}
+use Rattle.lexer.proofs.Tests.{and3}
 
 -- ---- the corners of a row
 

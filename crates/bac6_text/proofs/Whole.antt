@@ -17,7 +17,7 @@ use Rattle.chunks.proofs.Widths.{Wide}
 use Rattle.bac6_text.specs.Figure.{Bone, Face, Group, Figure}
 use Rattle.bac6_text.specs.Grammar.{BoneField, several, boneKinds, boneOf, numbersIn, bone, faceOf, faceBy, face, group, material, materialKinds, orZero, figure}
 use Rattle.bac6_text.specs.Rules.{groupFaces, facesOf}
-use Rattle.bac6_text.proofs.Forms.{AllIn, row-in}
+use Rattle.chunks.proofs.Ranges.{AllIn, row-in}
 
 -- ---- materials
 

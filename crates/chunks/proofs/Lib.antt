@@ -27,3 +27,4 @@ pub mod Vocabulary
 pub mod Widths
 pub mod Within
 pub mod Outcomes
+pub mod Ranges

@@ -16,7 +16,7 @@ use Rattle.bac6_text.specs.Figure.{Face, Figure}
 use Rattle.bac6_text.specs.Rules as bac6
 use Rattle.bac6_text.specs.Rules.{facesOf, countsOf, ownerOf, isRow, isNone, all, figureFault}
 use Rattle.bac6_text.specs.Layout.{layoutOf, faceRow, faceRows}
-use Rattle.bac6_text.proofs.Forms.{AllIn}
+use Rattle.chunks.proofs.Ranges.{AllIn}
 use Rattle.bac6_text.proofs.Whole.{WholeFace, WholeFigure, faces-whole}
 use Rattle.bac6_text.proofs.Rows.{face-rows-wide, face-rows-length}
 use Rattle.player.specs.declared.counts.FigureCounts.{FigureCounts}

@@ -12,7 +12,7 @@ use Rattle.lexer.specs.Numbers.{FLOAT}
 use Rattle.lexer.proofs.Numerals.{and-true}
 use Rattle.bac6_text.specs.Figure.{Bone}
 use Rattle.bac6_text.specs.Rules.{isRow, isNone, all, member, ownerFrom, ownerOf}
-use Rattle.bac6_text.proofs.Forms.{AllIn}
+use Rattle.chunks.proofs.Ranges.{AllIn}
 use Rattle.references.specs.Index.{isIndex}
 use Rattle.player.specs.Lookups.{allFloat}
 use Rattle.movement_bridge.proofs.Faultless.{float-in-form}

@@ -6,3 +6,4 @@ pub mod Spans
 pub mod Scanning
 pub mod Numerals
 pub mod Signed
+pub mod Tests

@@ -14,25 +14,13 @@ use mir.Val.{SFits, ofZ}
 use Rattle.bac6_text.specs.Rules.{isRow}
 use Rattle.lexer.proofs.Numerals.{and-true}
 use Rattle.lexer.proofs.Signed.{from-zero}
+use Rattle.lexer.proofs.Tests.{most-above}
 use Rattle.tra4_text.specs.Movement.{frameOf, groupOf}
 use Rattle.tra4_text.specs.Rules.{isFrame, neverFalls, patternFine}
 use Rattle.player.specs.Faces.{applies, flagOf}
 use Rattle.player.specs.Flags.{lineFine, nextFlag}
 
 -- ---- order
-
-le-not-lt : (a b : ℕ) → leb a b ≡ not (ltb b a)
-le-not-lt a b = go (ltb b a) refl
-  where
-    go : (v : Bool) → ltb b a ≡ v → leb a b ≡ not (ltb b a)
-    go true e = rw e (lt-leb a b (ltb-true b a e))
-    go false e = rw e (le-leb a b (ltb-false b a e))
-
-most-above : (a b : ℤ) → leZ a b ≡ not (ltZ b a)
-most-above (pos a) (pos b) = le-not-lt a b
-most-above (pos a) (negsuc b) = refl
-most-above (negsuc a) (pos b) = refl
-most-above (negsuc a) (negsuc b) = le-not-lt b a
 
 not-not : (b : Bool) → not (not b) ≡ b
 not-not true = refl

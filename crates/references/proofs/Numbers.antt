@@ -14,36 +14,6 @@ use Rattle.lexer.proofs.Signed.{below-zero, from-zero}
 use Rattle.bac6_text.specs.Rules.{isRow, isNone}
 use Rattle.references.specs.Index.{isIndex}
 
--- ---- a number from its bits
-
-pub negative : (z : ℤ) → SFits w64 z → ltZ (toZ w64 (ofZ w64 z)) (pos 0) ≡ true → z ≡ negsuc (mag z)
-negative z f e = below-zero z (ap (λ (y : ℤ). ltZ y (pos 0)) (sym (toZ-ofZ f)) ∙ e)
-
-pub natural : (z : ℤ) → SFits w64 z → ltZ (toZ w64 (ofZ w64 z)) (pos 0) ≡ false → z ≡ pos (natAbs z)
-natural z f e = from-zero z (ap (λ (y : ℤ). ltZ y (pos 0)) (sym (toZ-ofZ f)) ∙ e)
-
--- what a call of a test says, of the number that was passed
-pub tested : (t : ℤ → Bool) (z : ℤ) {r : Bool} → SFits w64 z → r ≡ t (toZ w64 (ofZ w64 z)) → r ≡ t z
-tested t z f e = e ∙ ap t (toZ-ofZ f)
-
--- a test `if !r` that was taken, or left, before others
-pub failed : (rest : Bool) {r t : Bool} → r ≡ t → not r ≡ true → (t && rest) ≡ false
-failed rest {r} e n = rw (sym e ∙ not-true r n)
-
-pub passed : (rest : Bool) {r t : Bool} → r ≡ t → not r ≡ false → (t && rest) ≡ rest
-passed rest {r} e n = rw (sym e ∙ not-false r n)
-
--- a test `if r` that was taken, or left, before another
-pub either : (rest : Bool) {r t : Bool} → r ≡ t → r ≡ true → (t || rest) ≡ true
-either rest e n = rw (sym e ∙ n)
-
-pub other : (rest : Bool) {r t : Bool} → r ≡ t → r ≡ false → (t || rest) ≡ rest
-other rest e n = rw (sym e ∙ n)
-
-pub and3 : (a b c : Bool) → (a && b && c) ≡ (a && (b && c))
-and3 true b c = refl
-and3 false b c = refl
-
 -- -1 by its bits
 pub none-bits : (z : ℤ) → SFits w64 z → eqb (ofZ w64 z) 18446744073709551615 ≡ isNone z
 unfolding isNone

@@ -9,7 +9,7 @@ use lib.Signed.{ltZ}
 use Rattle.lexer.specs.Faults.{clear, fault}
 use Rattle.chunks.specs.Rules.{tooMany}
 use Rattle.tra4_text.specs.Rules.{totalFault}
-use Rattle.tra4_rules.proofs.Numbers.{most-above}
+use Rattle.lexer.proofs.Tests.{most-above}
 
 module _ (i n m : ℕ) (ns ms : List ℕ) where
   pub count-within : n ≤ m → tooMany i (n ∷ ns) (m ∷ ms) ≡ tooMany (suc i) ns ms

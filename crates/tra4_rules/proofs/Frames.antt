@@ -23,7 +23,7 @@ use Rattle.tra4_rules.specs.declared.frame.Timed.the-variants.{Key, Patt
 use Rattle.tra4_rules.specs.Rows.{rowsOf}
 use Rattle.tra4_rules.specs.Frames.{widthOf, numberOf, rowFine, beforeOf, follows, frameFits}
 use Rattle.tra4_rules.proofs.Tables.{rows-more, rows-short, row-part, part-rest}
-use Rattle.tra4_rules.proofs.Numbers.{most-above}
+use Rattle.lexer.proofs.Tests.{most-above}
 
 -- ---- one frame
 

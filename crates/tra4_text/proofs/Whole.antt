@@ -19,7 +19,7 @@ use Rattle.chunks.proofs.FieldCounts.{fields-in-length}
 use Rattle.chunks.proofs.FieldFits.{AllGive, AllFit, fields-fit}
 use Rattle.tra4_text.specs.Movement.{Key, Channel, Bone, Pattern, Movement}
 use Rattle.tra4_text.specs.Grammar.{repeatedIn, repeated, repeated⁺, key, channel, channelNames, channelKinds, keysIn, bone, truth, pattern, movement}
-use Rattle.tra4_text.proofs.Ranges.{InForm, row-in-form, choice-below, some-stand}
+use Rattle.chunks.proofs.Ranges.{InForm, row-in-form, choice-below, some-stand}
 
 -- a key's value is in FLOAT's range
 abbrev pub FloatValue : Key → Type 0

@@ -14,7 +14,7 @@ use native.Mathlib.Omega.{arith}
 use borrow.Author.Tests.{not-true, not-false}
 use Rattle.bac6_text.specs.Rules.{isNone}
 use Rattle.references.specs.Index.{isIndex}
-use Rattle.references.proofs.Numbers.{tested}
+use Rattle.lexer.proofs.Tests.{tested}
 use Rattle.player.specs.Lookups.{allFloat, faceFine, ownerAt, pointAt, uvRow}
 use Rattle.player.specs.Answers.{numbered, cornered}
 use Rattle.player.proofs.Numbers.{natural-cast}

@@ -11,7 +11,7 @@ use borrow.Author.Tests.{not-true, not-false}
 use Rattle.bac6_text.specs.Rules.{isRow}
 use Rattle.references.specs.Index.{isIndex}
 use Rattle.player.specs.Lookups.{sizeFine, cornersFine, allNone}
-use Rattle.references.proofs.Numbers.{tested}
+use Rattle.lexer.proofs.Tests.{tested}
 use Rattle.player.proofs.Numbers.{natural-cast}
 use Rattle.player.proofs.FaceRows.{size-is, no-material, no-size, no-vertices, no-uvs, by-group}
 use borrow.Author.Needs.{needs}

@@ -7,7 +7,7 @@ use borrow.Author.Needs.{needs}
 use mir.Facts.{toZ-ofZ}
 use Rattle.bac6_text.specs.Rules.{isRow}
 use Rattle.player.specs.Flags.{lineFine}
-use Rattle.references.proofs.Numbers.{tested, failed, passed}
+use Rattle.lexer.proofs.Tests.{tested, failed, passed}
 use Rattle.player.proofs.PatternLines.{line-negative, line-late, line-falls, line-is}
 use Rattle.player.proofs.flags.line_fine.Statement.{statement}
 use Rattle.player.proofs.flags.line_fine.Tie as tie

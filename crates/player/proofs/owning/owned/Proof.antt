@@ -14,7 +14,7 @@ use borrow.Author.Needs.{needs}
 use borrow.Author.Tests.{not-true, not-false}
 use Rattle.bac6_text.specs.Rules.{isNone}
 use Rattle.references.specs.Index.{isIndex}
-use Rattle.references.proofs.Numbers.{tested}
+use Rattle.lexer.proofs.Tests.{tested}
 use Rattle.player.specs.Lookups.{ownerAt}
 use Rattle.player.specs.Rows.{ownedIn}
 use Rattle.player.specs.Answers.{visible}

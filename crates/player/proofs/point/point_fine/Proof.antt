@@ -2,7 +2,7 @@
 use mathlib.Core.Path.{_≡_, sym, _∙_}
 use Rattle.references.specs.Index.{isIndex}
 use Rattle.player.specs.Lookups.{isFloat}
-use Rattle.references.proofs.Numbers.{tested, failed, passed}
+use Rattle.lexer.proofs.Tests.{tested, failed, passed}
 use Rattle.player.proofs.FaceRows.{point-tests}
 use borrow.Author.Needs.{needs}
 use Rattle.player.proofs.point.point_fine.Statement.{statement}

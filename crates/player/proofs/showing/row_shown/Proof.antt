@@ -13,7 +13,8 @@ use mir.Facts.{toZ-ofZ}
 use borrow.Author.Tests.{not-true, not-false}
 use Rattle.bac6_text.specs.Rules.{isNone}
 use Rattle.references.specs.Index.{isIndex}
-use Rattle.references.proofs.Numbers.{tested, index-row}
+use Rattle.lexer.proofs.Tests.{tested}
+use Rattle.references.proofs.Numbers.{index-row}
 use Rattle.player.specs.Rows.{bothShown}
 use Rattle.player.specs.Answers.{visible}
 use Rattle.player.proofs.Numbers.{natural-cast}

@@ -1,7 +1,8 @@
 -- `is_index` is the definition, by its two parts.
 use mathlib.Core.Path.{sym, _∙_}
 use Rattle.bac6_text.specs.Rules.{isRow, isNone}
-use Rattle.references.proofs.Numbers.{tested, index-none, index-row}
+use Rattle.lexer.proofs.Tests.{tested}
+use Rattle.references.proofs.Numbers.{index-none, index-row}
 use borrow.Author.Needs.{needs}
 use Rattle.references.proofs.number.is_index.Statement.{statement}
 use Rattle.references.proofs.number.is_index.Tie as tie

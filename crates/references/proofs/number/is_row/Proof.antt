@@ -1,7 +1,8 @@
 -- `is_row` is the definition: a number below zero is no row, and any other is compared as it stands.
 use mathlib.Core.Path.{sym}
 use mir.Facts.{toZ-ofZ, fits-natAbs}
-use Rattle.references.proofs.Numbers.{negative, natural, negative-row, natural-row}
+use Rattle.lexer.proofs.Tests.{negative, natural}
+use Rattle.references.proofs.Numbers.{negative-row, natural-row}
 use Rattle.references.proofs.number.is_row.Statement.{statement}
 use Rattle.references.proofs.number.is_row.Tie as tie
 

@@ -12,13 +12,16 @@ use Rattle.lexer.specs.Bytes.{bytes}
 use Rattle.lexer.specs.Tokens.{Token, opening, closing, ending, quoted, plain, isKeyword}
 use Rattle.lexer.specs.Numbers.{Number, value, beyond, wrong, Form, INT, numberOf, inForm}
 use Rattle.lexer.proofs.Numerals.{number-range}
-use Rattle.chunks.specs.Readers.{Reader, pure, tokenOf, rest, numberIn, numberAt, number, numbers, cells, openedOf, rowOf, oneFrom, oneOf, many, many⁺}
+use Rattle.chunks.specs.Readers.{Reader, pure, tokenOf, rest, numberIn, numberAt, number, numbers, cells, openedOf, rowOf, row, oneFrom, oneOf, many, many⁺}
 use Rattle.chunks.proofs.Many.{stop-not}
 use Rattle.chunks.proofs.Given.{Gives, Every, any-gives, pure-gives, bind-gives, then-gives, closed-gives, numbers-give}
 
 -- in a form's range
 abbrev pub InForm : Form → ℤ → Type 0
 InForm f z = inForm f z ≡ true
+
+abbrev pub AllIn : Form → List ℤ → Type 0
+AllIn f zs = Every (InForm f) zs
 
 -- ---- numbers
 
@@ -63,6 +66,11 @@ module _ (lead : ℕ) (f : Form) (n : ℕ) where
   pub row-in-form : (k : List ℕ) → Gives Last (rowOf k lead f n)
   unfolding rowOf
   row-in-form k = then-gives Last (openedOf k) (closed-gives Last cells-in-form)
+
+-- rows all of one form
+pub row-in : (k : String) (f : Form) (n : ℕ) → Gives (AllIn f) (row k f n)
+unfolding row
+row-in k f n = row-in-form 0 f n (bytes k)
 
 -- ---- a choice of words
 
