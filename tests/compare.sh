@@ -1,12 +1,13 @@
 #!/usr/bin/env bash
-# The listings against the independent reader: the papers' samples, sound and damaged texts, and the time.
+# The listings and the samples against the independent reader and player: the papers' samples, sound and damaged texts, and the time.
 # It runs once the programs are built. It needs cargo and rustc, and no network.
 set -eu
 cd "$(dirname "$0")/.."
 
 figures=${LISTING:-target/bin/listing}
 movements=${MOVEMENT_LISTING:-target/bin/movement_listing}
-for program in "$figures" "$movements"; do
+samples=${SAMPLES:-target/bin/samples}
+for program in "$figures" "$movements" "$samples"; do
     [ -x "$program" ] || { echo "$program is not there to run"; exit 1; }
 done
 
@@ -22,3 +23,9 @@ compare_kind() { # PROGRAM KIND
 }
 compare_kind "$figures" figures
 compare_kind "$movements" movements
+
+# At every frame.
+"$programs/compare" --play "$samples" samples-movements
+"$programs/compare" --play "$samples" sound-movements 3 200
+"$programs/compare" --play "$samples" damaged-movements 4 300
+"$programs/measure" "$samples" play

@@ -1,7 +1,8 @@
-//! Another program's listings, compared with the listings of this reader.
+//! What another program prints of texts, compared with what this reader and
+//! player say of them.
 
 use crate::generate::{text, Kind};
-use crate::listing::{figure_listing, movement_listing};
+use crate::listing::{figure_listing, movement_listing, sample_listing};
 use std::collections::BTreeMap;
 use std::error::Error;
 use std::io::{self, ErrorKind, Write};
@@ -12,6 +13,15 @@ use std::thread;
 
 /// How many programs run at a time.
 const THREADS: usize = 2;
+
+/// What is printed of a text.
+#[derive(Clone, Copy, Debug, PartialEq, Eq)]
+pub enum Content {
+    /// The rows of its table.
+    Listing,
+    /// Every sample of a movement.
+    Samples,
+}
 
 /// The texts that a comparison goes over.
 pub enum Texts {
@@ -82,12 +92,12 @@ impl Texts {
         }
     }
 
-    /// What this reader prints of a text.
-    pub fn listing(&self, text: &[u8]) -> String {
-        if self.is_figure() {
-            figure_listing(text)
-        } else {
-            movement_listing(text)
+    /// What this reader and player print of a text.
+    pub fn printed(&self, content: Content, text: &[u8]) -> String {
+        match content {
+            Content::Samples => sample_listing(text),
+            Content::Listing if self.is_figure() => figure_listing(text),
+            Content::Listing => movement_listing(text),
         }
     }
 }
@@ -118,15 +128,18 @@ pub fn output(program: &Path, text: &[u8]) -> io::Result<Vec<u8>> {
     Ok(output.stdout)
 }
 
-/// How many texts were accepted, and how many refused with each number.
+/// How many texts were accepted, how many refused with each number, and how
+/// many lines were compared.
 #[derive(Clone, Debug, Default, PartialEq, Eq)]
 pub struct Tally {
     pub accepted: u64,
     pub refused: BTreeMap<u8, u64>,
+    pub lines: u64,
 }
 
 impl Tally {
     fn count(&mut self, listing: &str) {
+        self.lines += listing.bytes().filter(|&byte| byte == b'\n').count() as u64;
         let mut words = listing.split(['\t', '\n']);
         let refused = words.next() == Some("refused");
         match words.next().and_then(|word| word.parse().ok()) {
@@ -137,6 +150,7 @@ impl Tally {
 
     fn add(&mut self, other: Tally) {
         self.accepted += other.accepted;
+        self.lines += other.lines;
         for (number, count) in other.refused {
             *self.refused.entry(number).or_default() += count;
         }
@@ -157,7 +171,7 @@ pub struct Difference {
 }
 
 /// Runs the program on every text, up to the first difference.
-pub fn compare(program: &Path, texts: &Texts) -> Result<Tally, Box<Difference>> {
+pub fn compare(program: &Path, texts: &Texts, content: Content) -> Result<Tally, Box<Difference>> {
     let next = AtomicU64::new(0);
     let stopped = AtomicBool::new(false);
     let work = || {
@@ -167,7 +181,7 @@ pub fn compare(program: &Path, texts: &Texts) -> Result<Tally, Box<Difference>> 
             if index >= texts.count() {
                 break;
             }
-            if let Err(difference) = compare_one(program, texts, index, &mut tally) {
+            if let Err(difference) = compare_one(program, texts, content, index, &mut tally) {
                 stopped.store(true, Ordering::Relaxed);
                 return Err(difference);
             }
@@ -199,11 +213,12 @@ pub fn compare(program: &Path, texts: &Texts) -> Result<Tally, Box<Difference>> 
 fn compare_one(
     program: &Path,
     texts: &Texts,
+    content: Content,
     index: u64,
     tally: &mut Tally,
 ) -> Result<(), Box<Difference>> {
     let text = texts.text(index);
-    let expected = texts.listing(&text);
+    let expected = texts.printed(content, &text);
     let found = output(program, &text);
     if matches!(&found, Ok(found) if found == expected.as_bytes()) {
         tally.count(&expected);

@@ -9,6 +9,7 @@ use std::process::{Command, Output};
 
 const FIGURE: &str = env!("CARGO_BIN_EXE_figure_listing");
 const MOVEMENT: &str = env!("CARGO_BIN_EXE_movement_listing");
+const PLAY: &str = env!("CARGO_BIN_EXE_play");
 
 /// A directory of a test's own, to run in.
 fn directory(name: &str) -> PathBuf {
@@ -17,16 +18,17 @@ fn directory(name: &str) -> PathBuf {
     path
 }
 
-/// A program that alters what `figure_listing` prints.
+/// A program that alters what `figure_listing` or `play` prints.
 fn wrong(name: &str) -> String {
     let path = Path::new(env!("CARGO_MANIFEST_DIR")).join("tests/wrong");
     path.join(name).to_str().unwrap().into()
 }
 
 fn compare(test: &str, arguments: &[&str]) -> Output {
+    let plays = arguments.first() == Some(&"--play");
     Command::new(env!("CARGO_BIN_EXE_compare"))
         .args(arguments)
-        .env("LISTING", FIGURE)
+        .env("LISTING", if plays { PLAY } else { FIGURE })
         .current_dir(directory(test))
         .output()
         .unwrap()
@@ -71,6 +73,39 @@ fn this_reader_agrees_on_the_samples() {
     let line = agrees(&[MOVEMENT, "samples-movements"]);
     let counts = "6 agreed, 3 accepted, 3 refused with 5";
     assert_eq!(line, format!("samples-movements: {counts}\n"));
+}
+
+#[test]
+fn this_player_agrees_with_itself() {
+    let line = agrees(&["--play", PLAY, "samples-movements"]);
+    // Ten channels of 11, 11 and 45 frames, and a line for each refusal.
+    let counts = "6 agreed, 3 accepted, 3 refused with 5; played, 673 lines";
+    assert_eq!(line, format!("samples-movements: {counts}\n"));
+    let line = agrees(&["--play", PLAY, "sound-movements", "1", "20"]);
+    assert!(
+        line.contains(": 20 agreed, 20 accepted; played, "),
+        "{line}"
+    );
+    let line = agrees(&["--play", PLAY, "damaged-movements", "1", "60"]);
+    assert!(line.contains(" refused with 5"), "{line}");
+}
+
+/// A player right at frame 0 that repeats it, one that says 21 throughout,
+/// and one that rounds.
+#[test]
+fn a_wrong_player_differs() {
+    let line_of = |name: &str| {
+        let program = wrong(name);
+        let report = differs(name, &["--play", &program, "samples-movements"]);
+        let sample = "sample mended/sample01.tra\n";
+        assert!(report.contains(sample), "{report}");
+        let lines = report.lines().filter(|line| line.starts_with("found: "));
+        lines.collect::<Vec<_>>().join("")
+    };
+    let at = |part: &str| format!("found:    {}\\n", part.replace(' ', "\\t"));
+    assert_eq!(line_of("frame_0_repeated"), at("sample 0 9 1 0 1"));
+    assert_eq!(line_of("refused_throughout"), at("refused 21 0"));
+    assert_eq!(line_of("fraction_rounded"), at("sample 0 9 4 75134540 1"));
 }
 
 #[test]
@@ -130,6 +165,9 @@ fn a_comparison_of_nothing_is_an_error() {
         &[FIGURE, "sound-figures", "1"],
         &[FIGURE, "unknown", "1", "1"],
         &[FIGURE, "samples"],
+        &["--play", PLAY, "sound-figures", "1", "1"],
+        &["--play", PLAY, "samples-figures"],
+        &["--play"],
         &[],
     ] {
         assert!(!compare("nothing", arguments).status.success());
@@ -157,7 +195,8 @@ fn measure_prints_a_ratio() {
             .output()
             .unwrap()
     };
-    for (program, kind) in [(FIGURE, "figures"), (MOVEMENT, "movements")] {
+    let kinds = [(FIGURE, "figures"), (MOVEMENT, "movements"), (PLAY, "play")];
+    for (program, kind) in kinds {
         let output = measure(program, kind);
         assert!(output.status.success());
         assert!(printed(&output).contains(" ms, ratio "));
@@ -166,5 +205,6 @@ fn measure_prints_a_ratio() {
     let dropped = measure(&wrong("last_line_dropped"), "figures");
     assert!(!dropped.status.success());
     assert!(!measure(FIGURE, "movements").status.success());
+    assert!(!measure(MOVEMENT, "play").status.success());
     assert!(!measure(FIGURE, "others").status.success());
 }

@@ -1,31 +1,41 @@
-//! Compares what a program prints with the listings of this reader.
+//! Compares what a program prints with what this reader and player say.
 //!
 //! `compare PROGRAM KIND SEED COUNT` runs the program on COUNT texts, one at
 //! a time on its standard input; KIND is as for `generate`.
 //! `compare PROGRAM KIND` does so with the papers' samples; KIND is
 //! samples-figures or samples-movements.
+//! With `--play` before PROGRAM it is every sample of a movement, in place of
+//! the listing.
 //! At the first difference it prints both lines, keeps the text in a file
 //! under target/ and fails.
 
-use independent::compare::{compare, first_line, Difference, Tally, Texts};
+use independent::compare::{compare, first_line, Content, Difference, Tally, Texts};
 use std::error::Error;
 use std::path::{Path, PathBuf};
 use std::process::ExitCode;
 
-const USAGE: &str = "compare PROGRAM KIND SEED COUNT | compare PROGRAM samples-KIND";
+const USAGE: &str =
+    "compare [--play] PROGRAM KIND SEED COUNT | compare [--play] PROGRAM samples-KIND";
 const KEPT: &str = "target/compare";
 
 fn main() -> Result<ExitCode, Box<dyn Error>> {
     let arguments: Vec<String> = std::env::args().skip(1).collect();
     let words: Vec<&str> = arguments.iter().map(String::as_str).collect();
-    let (program, kind, texts) = match words[..] {
+    let (content, words) = match &words[..] {
+        ["--play", words @ ..] => (Content::Samples, words),
+        words => (Content::Listing, words),
+    };
+    let (program, kind, texts) = match *words {
         [program, kind, seed, count] => (program, kind, Texts::generated(kind, seed, count)?),
         [program, kind] => (program, kind, Texts::samples(kind)?),
         _ => return Err(USAGE.into()),
     };
-    match compare(Path::new(program), &texts) {
+    if content == Content::Samples && texts.is_figure() {
+        return Err("only movements have samples to play".into());
+    }
+    match compare(Path::new(program), &texts, content) {
         Ok(tally) => {
-            println!("{}: {}", title(kind, &texts), summary(&tally));
+            println!("{}: {}", title(kind, &texts), summary(&tally, content));
             Ok(ExitCode::SUCCESS)
         }
         Err(difference) => {
@@ -43,10 +53,13 @@ fn title(kind: &str, texts: &Texts) -> String {
     }
 }
 
-fn summary(tally: &Tally) -> String {
+fn summary(tally: &Tally, content: Content) -> String {
     let mut summary = format!("{} agreed, {} accepted", tally.total(), tally.accepted);
     for (number, count) in &tally.refused {
         summary.push_str(&format!(", {count} refused with {number}"));
+    }
+    if content == Content::Samples {
+        summary.push_str(&format!("; played, {} lines", tally.lines));
     }
     summary
 }
