@@ -2,7 +2,7 @@
 //! player say of them.
 
 use crate::generate::{text, Kind};
-use crate::listing::{figure_listing, movement_listing, sample_listing};
+use crate::listing::{corner_listing, figure_listing, movement_listing, sample_listing};
 use std::collections::BTreeMap;
 use std::error::Error;
 use std::io::{self, ErrorKind, Write};
@@ -19,8 +19,8 @@ const THREADS: usize = 2;
 pub enum Content {
     /// The rows of its table.
     Listing,
-    /// Every sample of a movement.
-    Samples,
+    /// Every corner of a figure, or every sample of a movement.
+    Played,
 }
 
 /// The texts that a comparison goes over.
@@ -94,10 +94,11 @@ impl Texts {
 
     /// What this reader and player print of a text.
     pub fn printed(&self, content: Content, text: &[u8]) -> String {
-        match content {
-            Content::Samples => sample_listing(text),
-            Content::Listing if self.is_figure() => figure_listing(text),
-            Content::Listing => movement_listing(text),
+        match (content, self.is_figure()) {
+            (Content::Listing, true) => figure_listing(text),
+            (Content::Listing, false) => movement_listing(text),
+            (Content::Played, true) => corner_listing(text),
+            (Content::Played, false) => sample_listing(text),
         }
     }
 }

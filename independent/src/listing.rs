@@ -140,3 +140,24 @@ pub fn sample_listing(text: &[u8]) -> String {
     }
     listing
 }
+
+/// Every corner of a figure's faces, or its refusal.
+pub fn corner_listing(text: &[u8]) -> String {
+    let figure = match figure::read(text, limits::FIGURE_ROOM) {
+        Ok(figure) => figure,
+        Err(refusal) => return refused(refusal),
+    };
+    let mut listing = String::new();
+    for face in 0..figure.faces.len() as i64 {
+        for number in 0..4 {
+            if let Some(corner) = play::corner(&figure, face, number) {
+                let mut numbers = vec![face, number];
+                numbers.extend(corner.position);
+                numbers.extend([corner.owner, corner.material]);
+                numbers.extend(corner.uv.into_iter().flatten());
+                listing.push_str(&line("corner", &numbers));
+            }
+        }
+    }
+    listing
+}

@@ -10,6 +10,7 @@ use std::process::{Command, Output};
 const FIGURE: &str = env!("CARGO_BIN_EXE_figure_listing");
 const MOVEMENT: &str = env!("CARGO_BIN_EXE_movement_listing");
 const PLAY: &str = env!("CARGO_BIN_EXE_play");
+const CORNERS: &str = env!("CARGO_BIN_EXE_corners");
 
 /// A directory of a test's own, to run in.
 fn directory(name: &str) -> PathBuf {
@@ -18,17 +19,21 @@ fn directory(name: &str) -> PathBuf {
     path
 }
 
-/// A program that alters what `figure_listing` or `play` prints.
+/// A program that alters what `figure_listing`, `play` or `corners` prints.
 fn wrong(name: &str) -> String {
     let path = Path::new(env!("CARGO_MANIFEST_DIR")).join("tests/wrong");
     path.join(name).to_str().unwrap().into()
 }
 
 fn compare(test: &str, arguments: &[&str]) -> Output {
-    let plays = arguments.first() == Some(&"--play");
+    let listing = match arguments {
+        ["--play", _, kind, ..] if kind.ends_with("movements") => PLAY,
+        ["--play", ..] => CORNERS,
+        _ => FIGURE,
+    };
     Command::new(env!("CARGO_BIN_EXE_compare"))
         .args(arguments)
-        .env("LISTING", if plays { PLAY } else { FIGURE })
+        .env("LISTING", listing)
         .current_dir(directory(test))
         .output()
         .unwrap()
@@ -90,6 +95,19 @@ fn this_player_agrees_with_itself() {
     assert!(line.contains(" refused with 5"), "{line}");
 }
 
+#[test]
+fn the_corners_agree_with_themselves() {
+    let line = agrees(&["--play", CORNERS, "samples-figures"]);
+    // Four corners of one face and of three, and a line for each refusal.
+    let counts = "4 agreed, 2 accepted, 2 refused with 5; played, 18 lines";
+    assert_eq!(line, format!("samples-figures: {counts}\n"));
+    let line = agrees(&["--play", CORNERS, "sound-figures", "1", "20"]);
+    assert!(
+        line.contains(": 20 agreed, 20 accepted; played, "),
+        "{line}"
+    );
+}
+
 /// A player right at frame 0 that repeats it, one that says 21 throughout,
 /// and one that rounds.
 #[test]
@@ -106,6 +124,17 @@ fn a_wrong_player_differs() {
     assert_eq!(line_of("frame_0_repeated"), at("sample 0 9 1 0 1"));
     assert_eq!(line_of("refused_throughout"), at("refused 21 0"));
     assert_eq!(line_of("fraction_rounded"), at("sample 0 9 4 75134540 1"));
+}
+
+/// Corners without their owners.
+#[test]
+fn wrong_corners_differ() {
+    let program = wrong("owner_missing");
+    let report = differs("owner", &["--play", &program, "samples-figures"]);
+    assert!(
+        report.contains("sample mended/sample01.bac\nline 1\n"),
+        "{report}"
+    );
 }
 
 #[test]
@@ -165,8 +194,6 @@ fn a_comparison_of_nothing_is_an_error() {
         &[FIGURE, "sound-figures", "1"],
         &[FIGURE, "unknown", "1", "1"],
         &[FIGURE, "samples"],
-        &["--play", PLAY, "sound-figures", "1", "1"],
-        &["--play", PLAY, "samples-figures"],
         &["--play"],
         &[],
     ] {
@@ -206,5 +233,6 @@ fn measure_prints_a_ratio() {
     assert!(!dropped.status.success());
     assert!(!measure(FIGURE, "movements").status.success());
     assert!(!measure(MOVEMENT, "play").status.success());
+    assert!(!measure(FIGURE, "corners").status.success());
     assert!(!measure(FIGURE, "others").status.success());
 }

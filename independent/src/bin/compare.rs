@@ -4,8 +4,8 @@
 //! a time on its standard input; KIND is as for `generate`.
 //! `compare PROGRAM KIND` does so with the papers' samples; KIND is
 //! samples-figures or samples-movements.
-//! With `--play` before PROGRAM it is every sample of a movement, in place of
-//! the listing.
+//! With `--play` before PROGRAM it is every corner of a figure or every sample
+//! of a movement, in place of the listing.
 //! At the first difference it prints both lines, keeps the text in a file
 //! under target/ and fails.
 
@@ -22,7 +22,7 @@ fn main() -> Result<ExitCode, Box<dyn Error>> {
     let arguments: Vec<String> = std::env::args().skip(1).collect();
     let words: Vec<&str> = arguments.iter().map(String::as_str).collect();
     let (content, words) = match &words[..] {
-        ["--play", words @ ..] => (Content::Samples, words),
+        ["--play", words @ ..] => (Content::Played, words),
         words => (Content::Listing, words),
     };
     let (program, kind, texts) = match *words {
@@ -30,9 +30,6 @@ fn main() -> Result<ExitCode, Box<dyn Error>> {
         [program, kind] => (program, kind, Texts::samples(kind)?),
         _ => return Err(USAGE.into()),
     };
-    if content == Content::Samples && texts.is_figure() {
-        return Err("only movements have samples to play".into());
-    }
     match compare(Path::new(program), &texts, content) {
         Ok(tally) => {
             println!("{}: {}", title(kind, &texts), summary(&tally, content));
@@ -58,7 +55,7 @@ fn summary(tally: &Tally, content: Content) -> String {
     for (number, count) in &tally.refused {
         summary.push_str(&format!(", {count} refused with {number}"));
     }
-    if content == Content::Samples {
+    if content == Content::Played {
         summary.push_str(&format!("; played, {} lines", tally.lines));
     }
     summary

@@ -1,7 +1,8 @@
 //! `measure PROGRAM KIND` feeds the same large texts to a program and to this
 //! reader's own, in turn, and prints the times of all their runs, each from
-//! start to end, and the ratio of the two. KIND is figures, movements or play;
-//! with play the programs print every sample of movements of few frames.
+//! start to end, and the ratio of the two. KIND is figures, movements, corners
+//! or play: with corners the programs print every corner of the figures, with
+//! play every sample of movements of few frames.
 
 use independent::compare::output;
 use independent::generate::rng::Rng;
@@ -19,8 +20,9 @@ fn main() -> Result<(), Box<dyn Error>> {
     let (program, kind, own_name, times_each) = match words[..] {
         [program, kind @ "figures"] => (program, kind, "figure_listing", 20),
         [program, kind @ "movements"] => (program, kind, "movement_listing", 20),
+        [program, kind @ "corners"] => (program, kind, "corners", 10),
         [program, kind @ "play"] => (program, kind, "play", 2),
-        _ => return Err("measure PROGRAM figures | movements | play".into()),
+        _ => return Err("measure PROGRAM figures | movements | corners | play".into()),
     };
     let own = std::env::current_exe()?.with_file_name(own_name);
     let mut times = [Duration::ZERO; 2];
@@ -38,16 +40,24 @@ fn main() -> Result<(), Box<dyn Error>> {
     println!(
         "{} runs on {TEXTS} large {}: {program} {program_time:.0} ms, {own_name} {own_time:.0} ms, ratio {:.2}",
         TEXTS * times_each,
-        if kind == "play" { "movements played" } else { kind },
+        title(kind),
         program_time / own_time
     );
     Ok(())
 }
 
+fn title(kind: &str) -> &str {
+    match kind {
+        "corners" => "figures, every corner",
+        "play" => "movements, every sample",
+        _ => kind,
+    }
+}
+
 fn large(kind: &str, index: u64) -> Vec<u8> {
     let mut rng = Rng::new(SEED, index);
     match kind {
-        "figures" => figure_limits::full(&mut rng).text(&mut rng),
+        "figures" | "corners" => figure_limits::full(&mut rng).text(&mut rng),
         "play" => movement::short(&mut rng).text(&mut rng),
         _ => movement::full(&mut rng).text(&mut rng),
     }
