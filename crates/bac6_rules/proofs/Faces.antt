@@ -15,7 +15,7 @@ use Rattle.bac6_text.specs.Figure.{Face}
 use Rattle.bac6_text.specs.Layout.{corners, faceRow}
 use Rattle.bac6_text.specs.Rules.{isRow, isNone, sameNumber, all, faceFine}
 use Rattle.bac6_rules.specs.Rows.{faceSize, faceVertices, faceUvs, faceRowFine}
-use Rattle.bac6_rules.proofs.Numbers.{and3}
+use Rattle.references.proofs.Numbers.{and3}
 
 -- ---- the corners of a row
 

@@ -1,5 +1,4 @@
 -- Laws that belong to no one function.
-pub mod Numbers
 pub mod Tables
 pub mod Materials
 pub mod Faces

@@ -13,7 +13,7 @@ use mir.Val.{SFits, toZ, ofZ}
 use mir.Facts.{toZ-ofZ}
 use Rattle.bac6_text.specs.Rules.{isRow, isNone}
 use Rattle.bac6_rules.specs.Claims.{isFree, afterClaim}
-use Rattle.bac6_rules.proofs.Numbers.{and3}
+use Rattle.references.proofs.Numbers.{and3}
 
 -- a row is a natural number below the count
 pub row-natural : (n : ℕ) (z : ℤ) → isRow n z ≡ true → z ≡ pos (natAbs z)

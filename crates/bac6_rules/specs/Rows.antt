@@ -12,10 +12,6 @@ unfoldable pub rowsOf : ℕ → ℕ → List ℤ → List (List ℤ)
 rowsOf w zero t = []
 rowsOf w (suc n) t = elim (leb w (length t)) [ true ↦ take w t ∷ rowsOf w n (drop w t) | false ↦ [] ]
 
--- none, or a row of a list of n rows
-unfoldable pub isIndex : ℕ → ℤ → Bool
-isIndex n z = isNone z || isRow n z
-
 -- how many corners a face has: 4, or else 3
 unfoldable pub faceSize : List ℤ → ℕ
 faceSize f = elim (sameNumber (getD f 1 (pos 0)) (pos 4)) [ true ↦ 4 | false ↦ 3 ]

@@ -4,9 +4,9 @@ ghost use lib.ListN.{length};
 ghost use Rattle.lexer.specs.Answers.{refusal};
 ghost use Rattle.bac6_text.specs.Rules.{isRow, isNone, all, firstBad};
 ghost use Rattle.bac6_rules.specs.Rows.{rowsOf, faceRowFine, faceVertices, faceUvs};
-use crate::number::is_none;
-use crate::number::is_row;
 use lexer::Checked;
+use references::is_none;
+use references::is_row;
 
 // A vertex number and a uv number count separate lists.
 pub struct VertexRow(pub i64);

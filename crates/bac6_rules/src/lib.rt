@@ -3,7 +3,6 @@ mod bone;
 mod count;
 mod face;
 mod material;
-mod number;
 mod order;
 mod owner;
 
@@ -16,10 +15,6 @@ pub use face::is_uv;
 pub use face::is_vertex;
 pub use face::no_uv;
 pub use material::material_fault;
-pub use number::is_index;
-pub use number::is_level;
-pub use number::is_none;
-pub use number::is_row;
 pub use order::Counts;
 pub use order::first_fault;
 pub use owner::claim;

@@ -2,11 +2,10 @@
 ghost use mathlib.Core.Path.{_≡_};
 ghost use lib.ListN.{length};
 ghost use Rattle.lexer.specs.Answers.{refusal};
-ghost use Rattle.bac6_text.specs.Rules.{materialFine, firstBad};
+ghost use Rattle.bac6_text.specs.Rules.{isLevel, materialFine, firstBad};
 ghost use Rattle.bac6_rules.specs.Rows.{rowsOf};
-use crate::number::is_index;
-use crate::number::is_level;
 use lexer::Checked;
+use references::is_index;
 
 // The first of `count` rows of 9 that breaks the rule; a row that is not whole is not looked at.
 pub fn material_fault(table: &[i64], count: usize, textures: usize, colours: usize) -> Checked
@@ -48,4 +47,14 @@ fn is_fine(m: &[i64], textures: usize, colours: usize) -> bool
         return false;
     }
     is_level(m[8])
+}
+
+// A level in millionths, 0 to 1.
+fn is_level(z: i64) -> bool
+    ensures { λ r. ⌜ r ≡ isLevel z ⌝ }
+{
+    if z < 0 {
+        return false;
+    }
+    z <= 1000000
 }

@@ -12,3 +12,6 @@ pub mod Samples
 pub mod Between
 pub mod Examples
 pub mod Sampled
+pub mod FaceRows
+pub mod Indices
+pub mod CornerTests

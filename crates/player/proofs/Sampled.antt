@@ -24,7 +24,7 @@ use Rattle.player.specs.Columns.{numberAt, numbersAt, rowsAt, isClear, k
 use Rattle.player.specs.Lookups.{onlyIf, isAsked, isRange, valuesFine, pairAt, channelKeys, canSample, sampleIn}
 use Rattle.player.specs.Pass.{orLast, passOver}
 use Rattle.player.specs.Passing.{KeyRows, keyOf, knownAs, stateOf, ifFine, finished}
-use Rattle.player.proofs.Mosts.{movement-within}
+use Rattle.player.proofs.Mosts.{clear-true, movement-within}
 use Rattle.player.proofs.Numbers.{asked-total}
 use Rattle.player.proofs.Passes.{pass-is}
 
@@ -62,11 +62,6 @@ part-rows w i j m (suc n) table h =
     rw (part-row w i j m table (omega arith), part-rows w i (j + w) m n table (omega arith), e)
 
 -- ---- what a table that holds a movement has
-
-clear-true : (f : Fault) → isClear f ≡ true → f ≡ clear
-unfolding isClear
-clear-true clear e = refl
-clear-true (fault n p) e = absurd (false≢true e)
 
 pub movement-room : (n : MovementCounts) (table : List ℤ) → holdsMovement n table ≡ true → (n .bones ≤ 128) × (n .keys ≤ 4096) × (n .patterns ≤ 256) × (3 + n .bones * 22 + n .keys * 2 + n .patterns * 3 ≤ length table)
 unfolding holdsMovement mosts movementEnd patternsBegin keysBegin

@@ -25,7 +25,7 @@ use Rattle.player.specs.Passing.{keyOf, knownAs, stateOf, ifFine, thenFr
 
 -- ---- the rows left
 
-two-at : (keys : List ℤ) (j : ℕ) → j + 1 < length keys → numbersAt keys j 2 ≡ getD keys j (pos 0) ∷ getD keys (j + 1) (pos 0) ∷ []
+pub two-at : (keys : List ℤ) (j : ℕ) → j + 1 < length keys → numbersAt keys j 2 ≡ getD keys j (pos 0) ∷ getD keys (j + 1) (pos 0) ∷ []
 unfolding numbersAt
 two-at keys j h =
     let e : j + 1 ≡ suc j = omega arith in

@@ -1,10 +1,14 @@
 -- What the structs of the code mean.
+use mathlib.Core.List.{[], _∷_}
 use mathlib.Core.Option.{Option, none, some}
 use Prim.Native.Nat.{ℕ}
 use Rattle.player.specs.Fractions.{Fraction}
+use Rattle.player.specs.Faces.{CornerOf}
 use Rattle.player.specs.declared.fraction.Ratio.{Ratio}
+use Rattle.player.specs.declared.corners.Cornered.{Cornered}
+use Rattle.player.specs.declared.corners.Cornered.the-variants as corners
 use Rattle.player.specs.declared.sampling.Sampled.{Sampled}
-use Rattle.player.specs.declared.sampling.Sampled.the-variants.{Refused, Value}
+use Rattle.player.specs.declared.sampling.Sampled.the-variants as sampling
 
 unfoldable pub ratio : Ratio → Fraction
 ratio r = record { numerator = r .numerator; denominator = r .denominator }
@@ -15,5 +19,10 @@ numbered none = (21, none)
 numbered (some a) = (0, some a)
 
 unfoldable pub sampled : Sampled → ℕ × Option Fraction
-sampled Refused = (21, none)
-sampled (Value n d) = (0, some (record { numerator = n; denominator = d }))
+sampled sampling.Refused = (21, none)
+sampled (sampling.Value n d) = (0, some (record { numerator = n; denominator = d }))
+
+unfoldable pub cornered : Cornered → ℕ × Option CornerOf
+cornered corners.Refused = (21, none)
+cornered (corners.Plain x y z o m) = (0, some (record { position = x ∷ y ∷ z ∷ []; owner = o; uv = none; material = m }))
+cornered (corners.Textured x y z o m u v) = (0, some (record { position = x ∷ y ∷ z ∷ []; owner = o; uv = some (u ∷ v ∷ []); material = m }))

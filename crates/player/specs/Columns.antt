@@ -1,7 +1,7 @@
 -- Where 01's lists and columns stand in a table, by its counts, and what tables a lookup takes.
 use mathlib.Core.List.{List, [], _∷_}
 use mathlib.Core.Bool.{Bool, true, false, _&&_}
-use Prim.Native.Nat.{ℕ, zero, suc, _+_, _*_}
+use Prim.Native.Nat.{ℕ, zero, suc, _+_, _*_, _≤_}
 use lib.Dec.{leb}
 use lib.IntN.{ℤ, pos}
 use lib.ListN.{length, getD, take, drop}
@@ -63,7 +63,12 @@ module _ (n : FigureCounts) where
   unfoldable pub figureEnd : ℕ
   figureEnd = facesBegin + n .faces * 11 + n .groups * 2
 
+  abbrev pub figureLists : List ℕ
+  figureLists = n .textures ∷ n .colours ∷ n .materials ∷ n .points ∷ n .normals ∷ n .bones ∷ n .uvs ∷ n .faces ∷ n .groups ∷ []
+
   unfoldable pub holdsFigure : List ℤ → Bool
-  holdsFigure table =
-      isClear (tooMany 0 (n .textures ∷ n .colours ∷ n .materials ∷ n .points ∷ n .normals ∷ n .bones ∷ n .uvs ∷ n .faces ∷ n .groups ∷ []) bac6.mosts)
-      && leb figureEnd (length table)
+  holdsFigure table = isClear (tooMany 0 figureLists bac6.mosts) && leb figureEnd (length table)
+
+  -- the same as bounds
+  abbrev pub WithinMosts : Type 0
+  WithinMosts = (n .textures ≤ 16) × (n .colours ≤ 256) × (n .materials ≤ 64) × (n .points ≤ 2048) × (n .normals ≤ 2048) × (n .bones ≤ 128) × (n .uvs ≤ 4096) × (n .faces ≤ 1024) × (n .groups ≤ 32)

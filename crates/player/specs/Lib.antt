@@ -3,6 +3,7 @@ pub mod Samples
 pub mod Faces
 pub mod Columns
 pub mod Lookups
+pub mod Rows
 pub mod Pass
 pub mod Passing
 pub mod Answers

@@ -7,7 +7,8 @@ use lib.Dec.{leb, ltb, eqb}
 use lib.IntN.{ℤ, pos, negsuc, natAbs}
 use lib.ListN.{length, getD, take, drop}
 use Rattle.lexer.specs.Faults.{Fault, clear}
-use Rattle.bac6_text.specs.Rules.{isRow, isNone}
+use Rattle.bac6_text.specs.Rules.{isRow, isNone, sameNumber}
+use Rattle.references.specs.Index.{isIndex}
 use Rattle.tra4_text.specs.Movement.{Key, Pattern, groupOf}
 use Rattle.tra4_text.specs.Rules.{totalFault, framesFault, keyFine, patternsFault}
 use Rattle.player.specs.declared.counts.MovementCounts.{MovementCounts}
@@ -28,10 +29,6 @@ isFloat z = leb (natAbs z) 9999999999999
 unfoldable pub allFloat : List ℤ → Bool
 allFloat [] = true
 allFloat (z ∷ zs) = isFloat z && allFloat zs
-
--- none, or a row of a list of n
-unfoldable pub isRowOrNone : ℕ → ℤ → Bool
-isRowOrNone n z = isNone z || isRow n z
 
 -- ---- Sample
 
@@ -74,11 +71,7 @@ module _ (n : MovementCounts) (table : List ℤ) where
 -- ---- a face's row: material, size, four vertices, four uvs, group
 
 unfoldable pub sizeFine : ℤ → Bool
-sizeFine z = eqbZ z 3 || eqbZ z 4
-  where
-    eqbZ : ℤ → ℕ → Bool
-    eqbZ (pos n) m = eqb n m
-    eqbZ (negsuc n) m = false
+sizeFine z = sameNumber z (pos 3) || sameNumber z (pos 4)
 
 -- the used corners are rows of a list of n, and the unused -1
 unfoldable pub cornersFine : ℕ → ℕ → List ℤ → Bool
@@ -90,6 +83,20 @@ unfoldable pub allNone : List ℤ → Bool
 allNone [] = true
 allNone (z ∷ zs) = isNone z && allNone zs
 
+-- a pattern's group is a row of a list of n, and its flag 0 or 1
+unfoldable pub linesFine : ℕ → List Pattern → Bool
+linesFine n [] = true
+linesFine n (p ∷ ps) = isRow n (groupOf p) && isRow 2 (getD p 2 (pos 0)) && linesFine n ps
+
+-- material, size, vertices, uvs and group
+unfoldable pub faceFine : FigureCounts → List ℤ → Bool
+faceFine n row =
+    isRow (n .materials) (getD row 0 (pos 0))
+    && sizeFine (getD row 1 (pos 0))
+    && cornersFine (n .points) (natAbs (getD row 1 (pos 0))) (take 4 (drop 2 row))
+    && (allNone (take 4 (drop 6 row)) || cornersFine (n .uvs) (natAbs (getD row 1 (pos 0))) (take 4 (drop 6 row)))
+    && isIndex (n .groups) (getD row 10 (pos 0))
+
 module _ (n : FigureCounts) (table : List ℤ) where
   unfoldable pub faceAt : ℕ → List ℤ
   faceAt face = numbersAt table (facesBegin n + face * 11) 11
@@ -98,14 +105,6 @@ module _ (n : FigureCounts) (table : List ℤ) where
   ownerAt v = numberAt table (ownersBegin n + natAbs v)
 
   -- ---- Corner
-
-  unfoldable pub faceFine : List ℤ → Bool
-  faceFine row =
-      isRow (n .materials) (getD row 0 (pos 0))
-      && sizeFine (getD row 1 (pos 0))
-      && cornersFine (n .points) (natAbs (getD row 1 (pos 0))) (take 4 (drop 2 row))
-      && (allNone (take 4 (drop 6 row)) || cornersFine (n .uvs) (natAbs (getD row 1 (pos 0))) (take 4 (drop 6 row)))
-      && isRowOrNone (n .groups) (getD row 10 (pos 0))
 
   unfoldable pub pointAt : ℤ → List ℤ
   pointAt v = numbersAt table (pointsBegin n + natAbs v * 3) 3
@@ -123,10 +122,10 @@ module _ (n : FigureCounts) (table : List ℤ) where
   canCorner face k =
       holdsFigure n table
       && ltb face (n .faces)
-      && faceFine (faceAt face)
+      && faceFine n (faceAt face)
       && ltb k (natAbs (getD (faceAt face) 1 (pos 0)))
       && allFloat (pointAt (getD (faceAt face) (2 + k) (pos 0)))
-      && isRowOrNone (n .bones) (ownerAt (getD (faceAt face) (2 + k) (pos 0)))
+      && isIndex (n .bones) (ownerAt (getD (faceAt face) (2 + k) (pos 0)))
       && uvFine (getD (faceAt face) (6 + k) (pos 0))
 
   unfoldable pub cornerIn : ℕ → ℕ → Option CornerOf
@@ -144,7 +143,7 @@ module _ (n : FigureCounts) (table : List ℤ) where
   unfoldable pub ownersFine : ℕ → List ℤ → Bool
   ownersFine zero vs = true
   ownersFine (suc used) [] = true
-  ownersFine (suc used) (v ∷ vs) = isRowOrNone (n .bones) (ownerAt v) && ownersFine used vs
+  ownersFine (suc used) (v ∷ vs) = isIndex (n .bones) (ownerAt v) && ownersFine used vs
 
   unfoldable pub ownedCorners : ℕ → List ℤ → Bool
   ownedCorners zero vs = true
@@ -155,13 +154,8 @@ module _ (n : FigureCounts) (table : List ℤ) where
     unfoldable pub patternRows : List Pattern
     patternRows = rowsAt 3 moves (patternsBegin m) (m .patterns)
 
-    -- a pattern's group is a row, and its flag 0 or 1
-    unfoldable pub linesFine : List Pattern → Bool
-    linesFine [] = true
-    linesFine (p ∷ ps) = isRow (n .groups) (groupOf p) && isRow 2 (getD p 2 (pos 0)) && linesFine ps
-
     unfoldable pub patternsFine : Bool
-    patternsFine = isClear (patternsFault (numberAt moves 0) patternRows) && linesFine patternRows
+    patternsFine = isClear (patternsFault (numberAt moves 0) patternRows) && linesFine (n .groups) patternRows
 
     unfoldable pub canShow : ℕ → ℕ → Bool
     canShow face at =
@@ -172,7 +166,7 @@ module _ (n : FigureCounts) (table : List ℤ) where
         && sizeFine (getD (faceAt face) 1 (pos 0))
         && cornersFine (n .points) (natAbs (getD (faceAt face) 1 (pos 0))) (take 4 (drop 2 (faceAt face)))
         && ownersFine (natAbs (getD (faceAt face) 1 (pos 0))) (take 4 (drop 2 (faceAt face)))
-        && isRowOrNone (n .groups) (getD (faceAt face) 10 (pos 0))
+        && isIndex (n .groups) (getD (faceAt face) 10 (pos 0))
         && (isNone (getD (faceAt face) 10 (pos 0)) || patternsFine)
 
     unfoldable pub groupFlag : ℤ → ℕ → Bool

@@ -5,7 +5,7 @@ use denote.Ref.{now}
 use lib.ListN.{getD}
 use lib.IntN.{pos}
 use Rattle.bac6_text.specs.Rules.{isRow}
-use Rattle.bac6_rules.proofs.Numbers.{tested, passed, failed, either, other}
+use Rattle.references.proofs.Numbers.{tested, passed, failed, either, other}
 use Rattle.bac6_rules.proofs.Faces.{face-tests}
 use Rattle.bac6_rules.proofs.face.is_fine.Statement.{statement}
 use Rattle.bac6_rules.proofs.face.is_fine.Tie as tie

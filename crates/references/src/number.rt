@@ -1,7 +1,7 @@
-// What a number of a table may stand for.
+// What a number that refers to a row may be.
 ghost use mathlib.Core.Path.{_≡_};
-ghost use Rattle.bac6_text.specs.Rules.{isRow, isNone, isLevel};
-ghost use Rattle.bac6_rules.specs.Rows.{isIndex};
+ghost use Rattle.bac6_text.specs.Rules.{isRow, isNone};
+ghost use Rattle.references.specs.Index.{isIndex};
 
 // A row of a list of `n` rows.
 pub fn is_row(n: usize, z: i64) -> bool
@@ -13,20 +13,11 @@ pub fn is_row(n: usize, z: i64) -> bool
     (z as usize) < n
 }
 
+// No row.
 pub fn is_none(z: i64) -> bool
     ensures { λ r. ⌜ r ≡ isNone z ⌝ }
 {
     z == -1
-}
-
-// A level in millionths, 0 to 1.
-pub fn is_level(z: i64) -> bool
-    ensures { λ r. ⌜ r ≡ isLevel z ⌝ }
-{
-    if z < 0 {
-        return false;
-    }
-    z <= 1000000
 }
 
 // None, or a row of a list of `n` rows.

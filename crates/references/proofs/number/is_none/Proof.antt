@@ -1,7 +1,7 @@
 -- `is_none` is the definition, by the bits of -1.
-use Rattle.bac6_rules.proofs.Numbers.{none-bits}
-use Rattle.bac6_rules.proofs.number.is_none.Statement.{statement}
-use Rattle.bac6_rules.proofs.number.is_none.Tie as tie
+use Rattle.references.proofs.Numbers.{none-bits}
+use Rattle.references.proofs.number.is_none.Statement.{statement}
+use Rattle.references.proofs.number.is_none.Tie as tie
 
 returns : tie.Need-returns
 returns c = none-bits _ (c .fits .z)

@@ -1,9 +1,10 @@
 -- `is_level` is the definition: a number below zero is no level, and any other is compared as it stands.
 use mathlib.Core.Path.{sym}
 use mir.Facts.{toZ-ofZ}
-use Rattle.bac6_rules.proofs.Numbers.{negative, natural, negative-level, natural-level}
-use Rattle.bac6_rules.proofs.number.is_level.Statement.{statement}
-use Rattle.bac6_rules.proofs.number.is_level.Tie as tie
+use Rattle.references.proofs.Numbers.{negative, natural}
+use Rattle.bac6_rules.proofs.Materials.{negative-level, natural-level}
+use Rattle.bac6_rules.proofs.material.is_level.Statement.{statement}
+use Rattle.bac6_rules.proofs.material.is_level.Tie as tie
 
 returns : tie.Need-returns
 returns c = sym (negative-level _ (negative _ (c .before .fits .z) (c .if1 .taken)))

@@ -1,10 +1,10 @@
 -- `is_index` is the definition, by its two parts.
 use mathlib.Core.Path.{sym, _∙_}
 use Rattle.bac6_text.specs.Rules.{isRow, isNone}
-use Rattle.bac6_rules.proofs.Numbers.{tested, index-none, index-row}
+use Rattle.references.proofs.Numbers.{tested, index-none, index-row}
 use borrow.Author.Needs.{needs}
-use Rattle.bac6_rules.proofs.number.is_index.Statement.{statement}
-use Rattle.bac6_rules.proofs.number.is_index.Tie as tie
+use Rattle.references.proofs.number.is_index.Statement.{statement}
+use Rattle.references.proofs.number.is_index.Tie as tie
 
 is-none-requires : tie.Need-is-none-requires
 is-none-requires c κs = search needs

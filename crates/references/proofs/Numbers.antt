@@ -6,13 +6,13 @@ use native.Mathlib.Omega.{arith}
 use borrow.Author.Tests.{ne-eqb, not-true, not-false}
 use lib.Dec.{eqb, ltb}
 use lib.IntN.{ℤ, pos, negsuc, natAbs, pos-ne-negsuc}
-use lib.Signed.{mag, ltZ, leZ}
+use lib.Signed.{mag, ltZ}
 use mir.Syntax.{w64}
 use mir.Val.{SFits, toZ, ofZ}
 use mir.Facts.{toZ-ofZ}
 use Rattle.lexer.proofs.Signed.{below-zero, from-zero}
-use Rattle.bac6_text.specs.Rules.{isRow, isNone, isLevel}
-use Rattle.bac6_rules.specs.Rows.{isIndex}
+use Rattle.bac6_text.specs.Rules.{isRow, isNone}
+use Rattle.references.specs.Index.{isIndex}
 
 -- ---- a number from its bits
 
@@ -63,15 +63,6 @@ pub natural-row : (n : ℕ) (z : ℤ) → z ≡ pos (natAbs z) → isRow n z ≡
 unfolding isRow
 natural-row n (pos k) e = refl
 natural-row n (negsuc k) e = absurd (pos-ne-negsuc _ _ (sym e))
-
-pub negative-level : (z : ℤ) → z ≡ negsuc (mag z) → isLevel z ≡ false
-unfolding isLevel
-negative-level z e = rw e
-
-pub natural-level : (z : ℤ) → z ≡ pos (natAbs z) → isLevel z ≡ leZ z (pos 1000000)
-unfolding isLevel
-natural-level (pos k) e = refl
-natural-level (negsuc k) e = absurd (pos-ne-negsuc _ _ (sym e))
 
 -- ---- none, or a row
 

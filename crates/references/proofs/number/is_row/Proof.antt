@@ -1,9 +1,9 @@
 -- `is_row` is the definition: a number below zero is no row, and any other is compared as it stands.
 use mathlib.Core.Path.{sym}
 use mir.Facts.{toZ-ofZ, fits-natAbs}
-use Rattle.bac6_rules.proofs.Numbers.{negative, natural, negative-row, natural-row}
-use Rattle.bac6_rules.proofs.number.is_row.Statement.{statement}
-use Rattle.bac6_rules.proofs.number.is_row.Tie as tie
+use Rattle.references.proofs.Numbers.{negative, natural, negative-row, natural-row}
+use Rattle.references.proofs.number.is_row.Statement.{statement}
+use Rattle.references.proofs.number.is_row.Tie as tie
 
 returns : tie.Need-returns
 returns c = sym (negative-row _ _ (negative _ (c .before .fits .z) (c .if1 .taken)))
