@@ -1,2 +1,4 @@
 -- Laws that belong to no one function.
-pub mod Lines
+pub mod Turns
+pub mod SampleLines
+pub mod CornerLines

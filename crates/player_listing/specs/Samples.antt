@@ -1,7 +1,7 @@
 -- A sample as text: a line of fields, or the fraction as document 01 writes it.
 use mathlib.Core.List.{List, [], _∷_}
 use mathlib.Core.Option.{Option, none, some}
-use Prim.Native.Nat.{ℕ, zero, suc}
+use Prim.Native.Nat.{ℕ}
 use lib.IntN.{ℤ, pos}
 use Rattle.lexer.specs.Bytes.{bytes}
 use Rattle.report.specs.Text.{numeral, line}
@@ -10,6 +10,7 @@ use Rattle.player.specs.Fractions.{Fraction}
 use Rattle.player.specs.Lookups.{sampleIn}
 use Rattle.player.specs.Answers.{numbered}
 use Rattle.player.specs.declared.counts.MovementCounts.{MovementCounts}
+use Rattle.player_listing.specs.Parts.{linesFrom}
 
 -- a refusal's number and its place, 0
 unfoldable pub refusedLine : ℕ → List ℕ
@@ -22,8 +23,7 @@ sampleLine bone channel at (n, some f) = line (bytes "sample") (shown bone ∷ s
 
 -- the lines of so many frames from a frame on
 unfoldable pub sampleLines : MovementCounts → List ℤ → ℕ → ℕ → ℕ → ℕ → List (List ℕ)
-sampleLines n table bone channel at zero = []
-sampleLines n table bone channel at (suc k) = sampleLine bone channel at (numbered (sampleIn n table bone channel at)) ∷ sampleLines n table bone channel (suc at) k
+sampleLines n table bone channel = linesFrom (λ at. sampleLine bone channel at (numbered (sampleIn n table bone channel at)) ∷ [])
 
 unfoldable pub sampleText : MovementCounts → List ℤ → ℕ → ℕ → ℕ → ℕ → List ℕ
 sampleText n table bone channel at k = textOf (sampleLines n table bone channel at k)

@@ -58,7 +58,7 @@ pub fn list_samples(
 ) -> usize
     ensures lines { λ r. ⌜ output r (now (buf .exit)) ≡ appendedEach (output 0 (now (buf .entry))) (sampleLines n (now (table .entry)) bone channel first (end - first)) ⌝ }
     ensures within { λ r. ⌜ r ≤ length (now (buf .exit)) ⌝ }
-    ensures whole { λ r. ⌜ (112 * (end - first) ≤ length (now (buf .entry)) → take r (now (buf .exit)) ≡ sampleText n (now (table .entry)) bone channel first (end - first)) ⌝ }
+    ensures whole { λ r. ⌜ ((end - first) * 112 ≤ length (now (buf .entry)) → take r (now (buf .exit)) ≡ sampleText n (now (table .entry)) bone channel first (end - first)) ⌝ }
 {
     let mut filled = 0;
     let mut at = first;

@@ -9,7 +9,7 @@ use Rattle.lexer.specs.Bytes.{bytes}
 use Rattle.report.specs.Text.{line}
 use Rattle.report.specs.Output.{output, appended}
 use Rattle.report.proofs.Texts.{held}
-use Rattle.player_listing.proofs.Lines.{refused-put, value-put}
+use Rattle.player_listing.proofs.SampleLines.{refused-put, value-put}
 use borrow.Author.Needs.{needs}
 use Rattle.player_listing.proofs.samples.append_sample.Statement.{statement}
 use Rattle.player_listing.proofs.samples.append_sample.Tie as tie

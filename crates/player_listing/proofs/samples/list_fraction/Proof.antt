@@ -8,7 +8,7 @@ use Rattle.lexer.specs.Bytes.{bytes}
 use Rattle.report.specs.Text.{numeral}
 use Rattle.report.specs.Output.{output, appended}
 use Rattle.report.proofs.Texts.{held}
-use Rattle.player_listing.proofs.Lines.{refused-told, value-told}
+use Rattle.player_listing.proofs.SampleLines.{refused-told, value-told}
 use borrow.Author.Needs.{needs}
 use Rattle.player_listing.proofs.samples.list_fraction.Statement.{statement}
 use Rattle.player_listing.proofs.samples.list_fraction.Tie as tie

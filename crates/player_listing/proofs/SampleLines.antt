@@ -1,11 +1,11 @@
--- How long a sample's line is at most, and the lines of one frame more.
-use mathlib.Core.Path.{_≡_, refl, ap, sym, _∙_}
+-- A sample's line and a fraction's parts, by the answer's two cases; and how long a line is at most.
+use mathlib.Core.Path.{_≡_, ap, _∙_}
 use mathlib.Core.List.{List, [], _∷_}
 use mathlib.Core.Option.{Option, some}
-use Prim.Native.Nat.{ℕ, suc, _+_, _-_, _*_, _≤_, _<_}
+use Prim.Native.Nat.{ℕ, _≤_}
 use native.Mathlib.Omega.{arith}
 use lib.IntN.{ℤ, pos}
-use lib.ListN.{length, take, length-append}
+use lib.ListN.{length, take}
 use mir.Syntax.{w64}
 use mir.Val.{SFits}
 use Rattle.lexer.specs.Bytes.{bytes}
@@ -14,12 +14,11 @@ use Rattle.report.specs.Output.{Output, output, appended}
 use Rattle.report.specs.Lists.{appendedEach, textOf, shown}
 use Rattle.report.proofs.Texts.{AllFit, line-most, shown-fits, each-within, each-whole}
 use Rattle.player.specs.Fractions.{Fraction}
-use Rattle.player.specs.Lookups.{sampleIn}
-use Rattle.player.specs.Answers.{numbered, sampled}
+use Rattle.player.specs.Answers.{sampled}
 use Rattle.player.specs.declared.sampling.Sampled.{Sampled}
 use Rattle.player.specs.declared.sampling.Sampled.the-variants.{Refused, Value}
-use Rattle.player.specs.declared.counts.MovementCounts.{MovementCounts}
-use Rattle.player_listing.specs.Samples.{refusedLine, sampleLine, sampleLines, sampleText, fractionParts, fractionText}
+use Rattle.player_listing.proofs.Turns.{one-line}
+use Rattle.player_listing.specs.Samples.{refusedLine, sampleLine, fractionParts, fractionText}
 
 pub refused-most : (n : ℕ) → length (refusedLine n) ≤ 112
 unfolding refusedLine bytes AllFit
@@ -33,48 +32,6 @@ value-most bone channel at n f fits =
       line-most (bytes "sample") (shown bone ∷ shown channel ∷ shown at ∷ f .numerator ∷ shown (f .denominator) ∷ [])
           (shown-fits bone, (shown-fits channel, (shown-fits at, (fits, (shown-fits (f .denominator), tt))))),
     )
-
-module _ (n : MovementCounts) (table : List ℤ) (bone channel : ℕ) where
-  abbrev lineAt : ℕ → List ℕ
-  lineAt at = sampleLine bone channel at (numbered (sampleIn n table bone channel at))
-
-  abbrev linesFrom : ℕ → ℕ → List (List ℕ)
-  linesFrom at k = sampleLines n table bone channel at k
-
-  -- the lines from a frame before the end on
-  lines-more : (at end : ℕ) → at < end → linesFrom at (end - at) ≡ lineAt at ∷ linesFrom (suc at) (end - suc at)
-  unfolding sampleLines
-  lines-more at end h = let e : end - at ≡ suc (end - suc at) = omega arith in rw e refl
-
-  lines-none : (at end : ℕ) → end ≤ at → linesFrom at (end - at) ≡ []
-  unfolding sampleLines
-  lines-none at end h = let e : end - at ≡ 0 = omega arith in rw e refl
-
-  -- a turn: the line of a frame is put, and those of the next frames are left
-  module _ (at end filled m : ℕ) (buf buf' : List ℕ) (h : at < end) (a : ℕ × Option Fraction) (e : a ≡ numbered (sampleIn n table bone channel at)) where
-    pub line-put : output m buf' ≡ appended (output filled buf) (sampleLine bone channel at a) → appendedEach (output filled buf) (linesFrom at (end - at)) ≡ appendedEach (output m buf') (linesFrom (suc at) (end - suc at))
-    unfolding appendedEach
-    line-put p = rw (lines-more at end h) (ap (λ (o : Output). appendedEach o (linesFrom (suc at) (end - suc at))) (sym (rw e at p)))
-
-    pub line-long : length (sampleLine bone channel at a) ≤ 112 → length (textOf (linesFrom at (end - at))) ≤ 112 + length (textOf (linesFrom (suc at) (end - suc at)))
-    unfolding textOf
-    line-long p =
-        let q : length (lineAt at) ≤ 112 = rw e at p in
-        rw (lines-more at end h) (omega (arith, length-append (lineAt at) (textOf (linesFrom (suc at) (end - suc at)))))
-
-  -- what is said at the end
-  abbrev pub Said : ℕ → ℕ → ℕ → List ℕ → List ℕ → Type 0
-  Said first end m buf buf' =
-      (output m buf' ≡ appendedEach (output 0 buf) (linesFrom first (end - first)))
-      × ((m ≤ length buf') × (112 * (end - first) ≤ length buf → take m buf' ≡ sampleText n table bone channel first (end - first)))
-
-  pub all-put : (first at end m : ℕ) (buf buf' : List ℕ) → end ≤ at → appendedEach (output 0 buf) (linesFrom first (end - first)) ≡ appendedEach (output m buf') (linesFrom at (end - at)) → length (textOf (linesFrom first (end - first))) + 112 * (end - at) ≤ 112 * (end - first) + length (textOf (linesFrom at (end - at))) → Said first end m buf buf'
-  unfolding appendedEach sampleText textOf
-  all-put first at end m buf buf' h e long =
-      let p : output m buf' ≡ appendedEach (output 0 buf) (linesFrom first (end - first)) = sym (rw (lines-none at end h) at e) in
-      let most : length (textOf (linesFrom first (end - first))) + 112 * (end - at) ≤ 112 * (end - first) + length (textOf []) = rw (lines-none at end h) at long in
-      let none : length (textOf []) ≡ 0 = refl in
-      (p, (each-within 0 m buf buf' (linesFrom first (end - first)) p (omega arith), λ fits. each-whole m buf buf' (linesFrom first (end - first)) p (omega arith)))
 
 -- ---- one line, by the answer's two cases
 
@@ -90,6 +47,14 @@ module _ (n bone channel at m : ℕ) (buf buf' : List ℕ) (a : Sampled) where
   pub value-put : (z : ℤ) (d : ℕ) → a ≡ Value z d → SFits w64 z → output m buf' ≡ appended (output n buf) (line (bytes "sample") (shown bone ∷ shown channel ∷ shown at ∷ z ∷ shown d ∷ [])) → Put n bone channel at a m buf buf'
   unfolding sampled sampleLine
   value-put z d e fits p = rw e (p, value-most bone channel at 0 (record { numerator = z; denominator = d }) fits)
+
+  -- the same of the answer that the definition gives
+  pub frame-put : (r : ℕ × Option Fraction) → sampled a ≡ r → Put n bone channel at a m buf buf' → (output m buf' ≡ appendedEach (output n buf) (sampleLine bone channel at r ∷ [])) × (length (textOf (sampleLine bone channel at r ∷ [])) ≤ 112)
+  unfolding appendedEach
+  frame-put r e p =
+      let l = sampleLine bone channel at (sampled a) in
+      let q : (output m buf' ≡ appendedEach (output n buf) (sampleLine bone channel at (sampled a) ∷ [])) × (length (textOf (sampleLine bone channel at (sampled a) ∷ [])) ≤ 112) = (p .0, one-line l 112 (p .1)) in
+      rw e at q
 
 -- ---- a fraction's parts
 
