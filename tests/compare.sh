@@ -1,13 +1,14 @@
 #!/usr/bin/env bash
-# The listings and the samples against the independent reader and player: the papers' samples, sound and damaged texts, and the time.
+# The programs against the independent reader and player: the papers' samples, sound and damaged texts, and the time.
 # It runs once the programs are built. It needs cargo and rustc, and no network.
 set -eu
 cd "$(dirname "$0")/.."
 
 figures=${LISTING:-target/bin/listing}
 movements=${MOVEMENT_LISTING:-target/bin/movement_listing}
+corners=${CORNERS:-target/bin/corners}
 samples=${SAMPLES:-target/bin/samples}
-for program in "$figures" "$movements" "$samples"; do
+for program in "$figures" "$movements" "$corners" "$samples"; do
     [ -x "$program" ] || { echo "$program is not there to run"; exit 1; }
 done
 
@@ -24,8 +25,11 @@ compare_kind() { # PROGRAM KIND
 compare_kind "$figures" figures
 compare_kind "$movements" movements
 
-# At every frame.
-"$programs/compare" --play "$samples" samples-movements
-"$programs/compare" --play "$samples" sound-movements 3 200
-"$programs/compare" --play "$samples" damaged-movements 4 300
-"$programs/measure" "$samples" play
+play_kind() { # PROGRAM KIND MEASURED
+    "$programs/compare" --play "$1" "samples-$2"
+    "$programs/compare" --play "$1" "sound-$2" 3 200
+    "$programs/compare" --play "$1" "damaged-$2" 4 300
+    "$programs/measure" "$1" "$3"
+}
+play_kind "$corners" figures corners
+play_kind "$samples" movements play
