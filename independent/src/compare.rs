@@ -1,8 +1,11 @@
 //! What another program prints of texts, compared with what this reader and
 //! player say of them.
 
-use crate::generate::{text, Kind};
-use crate::listing::{corner_listing, figure_listing, movement_listing, sample_listing};
+use crate::generate::rng::Rng;
+use crate::generate::{pair, text, Kind};
+use crate::listing::{
+    corner_listing, figure_listing, movement_listing, sample_listing, shown_listing,
+};
 use std::collections::BTreeMap;
 use std::error::Error;
 use std::io::{self, ErrorKind, Write};
@@ -23,9 +26,18 @@ pub enum Content {
     Played,
 }
 
+/// What a text holds. Of a pair it is printed whether its faces are shown.
+#[derive(Clone, Copy, Debug, PartialEq, Eq)]
+pub enum Subject {
+    Figure,
+    Movement,
+    Pair,
+}
+
 /// The texts that a comparison goes over.
 pub enum Texts {
     Generated { kind: Kind, seed: u64, count: u64 },
+    Pairs { seed: u64, count: u64 },
     Samples { figures: bool, files: Vec<Sample> },
 }
 
@@ -37,11 +49,14 @@ pub struct Sample {
 impl Texts {
     /// The texts of a kind, a seed and a count; there must be one at least.
     pub fn generated(kind: &str, seed: &str, count: &str) -> Result<Texts, Box<dyn Error>> {
-        let kind = Kind::from_word(kind).ok_or_else(|| format!("no such kind: {kind}"))?;
         let (seed, count) = (seed.parse()?, count.parse()?);
         if count == 0 {
             return Err("no texts to compare".into());
         }
+        if kind == "sound-pairs" {
+            return Ok(Texts::Pairs { seed, count });
+        }
+        let kind = Kind::from_word(kind).ok_or_else(|| format!("no such kind: {kind}"))?;
         Ok(Texts::Generated { kind, seed, count })
     }
 
@@ -73,32 +88,40 @@ impl Texts {
 
     pub fn count(&self) -> u64 {
         match self {
-            Texts::Generated { count, .. } => *count,
+            Texts::Generated { count, .. } | Texts::Pairs { count, .. } => *count,
             Texts::Samples { files, .. } => files.len() as u64,
         }
     }
 
-    pub fn is_figure(&self) -> bool {
-        match self {
+    pub fn subject(&self) -> Subject {
+        let figures = match self {
             Texts::Generated { kind, .. } => kind.is_figure(),
             Texts::Samples { figures, .. } => *figures,
+            Texts::Pairs { .. } => return Subject::Pair,
+        };
+        if figures {
+            Subject::Figure
+        } else {
+            Subject::Movement
         }
     }
 
     pub fn text(&self, index: u64) -> Vec<u8> {
         match self {
             Texts::Generated { kind, seed, .. } => text(*kind, *seed, index),
+            Texts::Pairs { seed, .. } => pair::sound(&mut Rng::new(*seed, index)),
             Texts::Samples { files, .. } => files[index as usize].text.clone(),
         }
     }
 
     /// What this reader and player print of a text.
     pub fn printed(&self, content: Content, text: &[u8]) -> String {
-        match (content, self.is_figure()) {
-            (Content::Listing, true) => figure_listing(text),
-            (Content::Listing, false) => movement_listing(text),
-            (Content::Played, true) => corner_listing(text),
-            (Content::Played, false) => sample_listing(text),
+        match (self.subject(), content) {
+            (Subject::Figure, Content::Listing) => figure_listing(text),
+            (Subject::Figure, Content::Played) => corner_listing(text),
+            (Subject::Movement, Content::Listing) => movement_listing(text),
+            (Subject::Movement, Content::Played) => sample_listing(text),
+            (Subject::Pair, _) => shown_listing(text),
         }
     }
 }

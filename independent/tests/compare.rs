@@ -11,6 +11,7 @@ const FIGURE: &str = env!("CARGO_BIN_EXE_figure_listing");
 const MOVEMENT: &str = env!("CARGO_BIN_EXE_movement_listing");
 const PLAY: &str = env!("CARGO_BIN_EXE_play");
 const CORNERS: &str = env!("CARGO_BIN_EXE_corners");
+const SHOWN: &str = env!("CARGO_BIN_EXE_shown");
 
 /// A directory of a test's own, to run in.
 fn directory(name: &str) -> PathBuf {
@@ -28,6 +29,7 @@ fn wrong(name: &str) -> String {
 fn compare(test: &str, arguments: &[&str]) -> Output {
     let listing = match arguments {
         ["--play", _, kind, ..] if kind.ends_with("movements") => PLAY,
+        ["--play", _, "sound-pairs", ..] => SHOWN,
         ["--play", ..] => CORNERS,
         _ => FIGURE,
     };
@@ -124,6 +126,21 @@ fn a_wrong_player_differs() {
     assert_eq!(line_of("frame_0_repeated"), at("sample 0 9 1 0 1"));
     assert_eq!(line_of("refused_throughout"), at("refused 21 0"));
     assert_eq!(line_of("fraction_rounded"), at("sample 0 9 4 75134540 1"));
+}
+
+/// Pairs of every kind of face: shown and not, of a group and of none.
+#[test]
+fn the_faces_shown_agree_with_themselves() {
+    let line = agrees(&["--play", SHOWN, "sound-pairs", "1", "60"]);
+    assert!(
+        line.contains(": 60 agreed, 60 accepted; played, "),
+        "{line}"
+    );
+    for name in ["shown_throughout", "hidden_throughout"] {
+        let program = wrong(name);
+        let report = differs(name, &["--play", &program, "sound-pairs", "1", "60"]);
+        assert!(report.contains("expected: shown\\t"), "{report}");
+    }
 }
 
 /// Corners without their owners.

@@ -4,7 +4,9 @@ mod common;
 
 use common::{changed, FIGURE, MOVEMENT};
 use independent::generate::{text, Kind};
-use independent::listing::{corner_listing, figure_listing, movement_listing, sample_listing};
+use independent::listing::{
+    corner_listing, figure_listing, movement_listing, sample_listing, shown_listing,
+};
 use independent::many;
 use std::io::Write;
 use std::process::{Command, Output, Stdio};
@@ -33,11 +35,13 @@ fn one_text_and_many() {
     let movement = env!("CARGO_BIN_EXE_movement_listing");
     let play = env!("CARGO_BIN_EXE_play");
     let corners = env!("CARGO_BIN_EXE_corners");
-    let programs: [(&str, fn(&[u8]) -> String); 4] = [
+    let shown = env!("CARGO_BIN_EXE_shown");
+    let programs: [(&str, fn(&[u8]) -> String); 5] = [
         (figure, figure_listing),
         (movement, movement_listing),
         (play, sample_listing),
         (corners, corner_listing),
+        (shown, shown_listing),
     ];
     for (program, listing) in programs {
         let texts = [FIGURE.as_bytes(), MOVEMENT.as_bytes(), b"", b"\xff"];
@@ -92,6 +96,31 @@ fn corners_prints_every_corner() {
         "corner\t0\t3\t0\t0\t0\t0\t0\t500000\t1000000\n",
     ];
     assert_eq!(output(program, &[], text.as_bytes()), expected.concat());
+}
+
+/// Two faces with bones at every corner, one of a group with two lines.
+#[test]
+fn shown_prints_every_face_and_frame() {
+    let figure = changed(
+        FIGURE,
+        "(i3 0 1 2)(i3 -1 -1 -1))))",
+        "(i3 0 1 1)(i3 -1 -1 -1)))(DynamicPolygons(group(face 0(i3 0 1 0)(i3 -1 -1 -1)))))",
+    );
+    let movement = changed(MOVEMENT, "totalFrame 11", "totalFrame 7");
+    let movement = changed(&movement, "(kgf 4 1 false)", "(kgf 4 0 false)");
+    let text = many::pair(figure.as_bytes(), movement.as_bytes());
+    let lines = |face: i64, flags: [i64; 7]| -> String {
+        let flags = flags.iter().enumerate();
+        flags
+            .map(|(frame, flag)| format!("shown\t{face}\t{frame}\t{flag}\n"))
+            .collect()
+    };
+    let expected = lines(0, [1; 7]) + &lines(1, [1, 1, 1, 1, 0, 0, 0]);
+    let program = env!("CARGO_BIN_EXE_shown");
+    assert_eq!(output(program, &[], &text), expected);
+    let text = many::pair(figure.as_bytes(), MOVEMENT.as_bytes());
+    assert_eq!(output(program, &[], &text), "refused\t20\t1\n");
+    assert_eq!(output(program, &[], b"no record"), "refused\t2\t0\n");
 }
 
 #[test]

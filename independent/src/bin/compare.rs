@@ -1,7 +1,7 @@
 //! Compares what a program prints with what this reader and player say.
 //!
 //! `compare PROGRAM KIND SEED COUNT` runs the program on COUNT texts, one at
-//! a time on its standard input; KIND is as for `generate`.
+//! a time on its standard input; KIND is as for `generate`, or sound-pairs.
 //! `compare PROGRAM KIND` does so with the papers' samples; KIND is
 //! samples-figures or samples-movements.
 //! With `--play` before PROGRAM it is every corner of a figure or every sample
@@ -9,7 +9,7 @@
 //! At the first difference it prints both lines, keeps the text in a file
 //! under target/ and fails.
 
-use independent::compare::{compare, first_line, Content, Difference, Tally, Texts};
+use independent::compare::{compare, first_line, Content, Difference, Subject, Tally, Texts};
 use std::error::Error;
 use std::path::{Path, PathBuf};
 use std::process::ExitCode;
@@ -45,7 +45,9 @@ fn main() -> Result<ExitCode, Box<dyn Error>> {
 
 fn title(kind: &str, texts: &Texts) -> String {
     match texts {
-        Texts::Generated { seed, .. } => format!("{kind}, seed {seed}"),
+        Texts::Generated { seed, .. } | Texts::Pairs { seed, .. } => {
+            format!("{kind}, seed {seed}")
+        }
         Texts::Samples { .. } => kind.to_string(),
     }
 }
@@ -88,10 +90,16 @@ fn shown(line: Option<&[u8]>) -> String {
 
 /// Writes the text to a file and gives its path.
 fn keep(kind: &str, texts: &Texts, difference: &Difference) -> std::io::Result<PathBuf> {
-    let ending = if texts.is_figure() { "bac" } else { "tra" };
+    let ending = match texts.subject() {
+        Subject::Figure => "bac",
+        Subject::Movement => "tra",
+        Subject::Pair => "pair",
+    };
     let index = difference.index;
     let name = match texts {
-        Texts::Generated { seed, .. } => format!("{kind}-{seed}-{index}.{ending}"),
+        Texts::Generated { seed, .. } | Texts::Pairs { seed, .. } => {
+            format!("{kind}-{seed}-{index}.{ending}")
+        }
         Texts::Samples { .. } => format!("{kind}-{index}.{ending}"),
     };
     std::fs::create_dir_all(KEPT)?;
