@@ -19,8 +19,8 @@ use Rattle.chunks.proofs.Chains.{overlay-whole}
 use Rattle.bac6_layout.proofs.Layouts.{layout-lists}
 use Rattle.bac6_rules.proofs.Claims.{owners-length}
 use Rattle.chunks.proofs.Widths.{Wide, flat-length}
-use Rattle.bac6_rules.proofs.Laid.{face-rows-wide, face-rows-length, bones-wide, bones-count}
-use Rattle.bac6.proofs.Whole.{WholeFigure}
+use Rattle.bac6_text.proofs.Rows.{face-rows-wide, face-rows-length, bones-wide, bones-count}
+use Rattle.bac6_text.proofs.Whole.{WholeFigure}
 
 -- ---- the most rows of each list
 

@@ -16,15 +16,15 @@ use Rattle.bac6_text.specs.Layout.{nameNumbers, boneRow, boneRows, ownersFrom, 
 use Rattle.bac6_rules.specs.Claims.{claimedBones}
 use Rattle.bac6_rules.specs.Order.{figureCounts, BonesLeft}
 use Rattle.bac6_rules.proofs.Claims.{owners-length, claims-owners}
-use Rattle.bac6_rules.proofs.Laid.{face-rows-wide, face-rows-length, bones-wide, bones-count, flags-count}
-use Rattle.bac6_rules.proofs.Placing.{whole-length}
+use Rattle.bac6_text.proofs.Rows.{face-rows-wide, face-rows-length, bones-wide, bones-count, flags-count}
+use Rattle.bac6_text.proofs.Parents.{whole-length}
 use Rattle.chunks.proofs.Rules.{or-first, or-second}
 use Rattle.bac6_rules.proofs.Orders.{bones-left}
 use Rattle.bac6_layout.proofs.Layouts.{layout-lists}
 use Rattle.bac6.specs.declared.shape.Parsed.{Parsed}
 use Rattle.bac6.specs.Answers.{Fits, totalOf, partsOf, parsedCounts}
 use Rattle.bac6.proofs.Parses.{values}
-use Rattle.bac6.proofs.Whole.{WholeFigure, faces-whole}
+use Rattle.bac6_text.proofs.Whole.{WholeFigure, faces-whole}
 use Rattle.bac6.proofs.Bounds.{Within, bounds, groups-wide, groups-count, total}
 use Rattle.bac6.proofs.Rules.{unclaimed-parts, bones-held}
 use Rattle.chunks.proofs.Widths.{rows-part, rows-room, part-is, room-is}

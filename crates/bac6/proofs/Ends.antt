@@ -19,7 +19,7 @@ use Rattle.bac6.specs.declared.shape.Parsed.{Parsed}
 use Rattle.bac6.specs.Parse.{figureInto}
 use Rattle.bac6.specs.Answers.{Blank, Fits, refusedWith, answerOf, parsedCounts, countsAnswer, totalOf, downAnswer, downTable, partsOf, rulesFault, checkedAnswer, checkedTable}
 use Rattle.bac6.proofs.Parses.{Found, parsed-found, parsed-refused}
-use Rattle.bac6.proofs.Whole.{WholeFigure, figure-whole}
+use Rattle.bac6_text.proofs.Whole.{WholeFigure, figure-whole}
 use Rattle.bac6.proofs.FigureName.{name-within}
 use Rattle.bac6.proofs.Taken.{parsedAs, name-is, textures-are, colours-are, materials-are, points-are, normals-are, bones-are, uvs-are, faces-are, groups-are, rules-are}
 use Rattle.bac6.proofs.Down.{parts-are, total-is, fits-are}

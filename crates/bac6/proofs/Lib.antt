@@ -1,5 +1,4 @@
 -- Laws that belong to no one function.
-pub mod Whole
 pub mod Parses
 pub mod Bounds
 pub mod Rules

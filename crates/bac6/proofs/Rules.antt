@@ -16,9 +16,9 @@ use Rattle.bac6_rules.specs.Claims.{claimedBones}
 use Rattle.bac6_rules.specs.Order.{figureCounts, tablesFault, BonesLeft}
 use Rattle.bac6_rules.proofs.Claims.{unclaimed, claims-fault, claims-owners}
 use Rattle.chunks.proofs.Widths.{Wide}
-use Rattle.bac6_rules.proofs.Laid.{face-rows-wide, face-rows-length, bones-wide, bones-count}
+use Rattle.bac6_text.proofs.Rows.{face-rows-wide, face-rows-length, bones-wide, bones-count}
 use Rattle.bac6_rules.proofs.Orders.{tables-within, tables-laid, bones-left}
-use Rattle.bac6.proofs.Whole.{WholeFigure, faces-whole}
+use Rattle.bac6_text.proofs.Whole.{WholeFigure, faces-whole}
 use Rattle.bac6.proofs.Bounds.{Within, bounds, bones-rows}
 use Rattle.chunks.proofs.Widths.{held}
 

@@ -16,7 +16,7 @@ use Rattle.bac6_parse.specs.Lists.{laidRows}
 use Rattle.bac6_parse.specs.Front.{FrontValue, frontValue}
 use Rattle.bac6_rules.specs.Claims.{claimedBones}
 use Rattle.bac6_rules.specs.Order.{figureCounts, tablesFault}
-use Rattle.bac6_rules.proofs.Laid.{face-rows-length}
+use Rattle.bac6_text.proofs.Rows.{face-rows-length}
 use Rattle.bac6_bones.specs.Into.{faultOf}
 use Rattle.bac6_faces.specs.Into.{allRows, tablesOf}
 use Rattle.bac6_faces.proofs.PolygonSteps.{all-rows}
@@ -24,7 +24,7 @@ use Rattle.bac6.specs.declared.shape.Parsed.{Parsed}
 use Rattle.bac6.specs.Answers.{parsedCounts}
 use Rattle.bac6.specs.Parse.{BackValue, backValue, figureInto, frontOf, bonesOf, backOf}
 use Rattle.bac6.proofs.Parses.{values, Found}
-use Rattle.bac6.proofs.Whole.{WholeFigure, figure-whole}
+use Rattle.bac6_text.proofs.Whole.{WholeFigure, figure-whole}
 use Rattle.bac6.proofs.Rules.{rules-same}
 
 -- what parsing answers, with the tables that it leaves

@@ -1,7 +1,6 @@
 -- Laws that belong to no one function.
 pub mod Entries
 pub mod Yielding
-pub mod Whole
 pub mod Fields
 pub mod Values
 pub mod Turns

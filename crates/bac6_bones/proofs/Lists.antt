@@ -38,8 +38,8 @@ use Rattle.bac6_text.specs.Grammar.{BoneField, named, flag, several, boneOf, bo
 use Rattle.bac6_text.specs.Layout.{boneRow}
 use Rattle.bac6_rules.specs.Claims.{claimedOne, claimed, faultAt, afterBone, claimedBone, claimedBones}
 use Rattle.bac6_bones.specs.Into.{boneTail, boneInto, faultOf, boneStep, bonesInto}
-use Rattle.bac6_rules.proofs.Laid.{WholeBone, WholeBones, bone-wide}
-use Rattle.bac6_bones.proofs.Whole.{bone-whole}
+use Rattle.bac6_text.proofs.Whole.{WholeBone, WholeBones, bone-whole}
+use Rattle.bac6_text.proofs.Rows.{bone-wide}
 
 -- ---- a bone takes a token, and begins with (
 

@@ -26,8 +26,7 @@ use Rattle.bac6_text.specs.Grammar.{BoneField, numbersIn, boneOf, boneKinds}
 use Rattle.bac6_text.specs.Layout.{boneRow}
 use Rattle.bac6_rules.specs.Claims.{claimed}
 use Rattle.bac6_bones.specs.Into.{Yields, boneNumbers, boneState, boneTail, boneInto}
-use Rattle.bac6_rules.proofs.Laid.{WholeBone}
-use Rattle.bac6_bones.proofs.Whole.{fields-whole}
+use Rattle.bac6_text.proofs.Whole.{WholeBone, fields-whole}
 use Rattle.bac6_bones.proofs.Values.{three-all}
 use Rattle.bac6_bones.proofs.Fields.{unread-state}
 

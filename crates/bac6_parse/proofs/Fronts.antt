@@ -1,18 +1,17 @@
 -- The front's tables are those of the lists that the grammar reads: each list's reader is replaced by the one that writes to its table.
 use mathlib.Core.Path.{_≡_, refl, ap, sym, _∙_}
-use mathlib.Core.List.{List, [], _∷_, map}
+use mathlib.Core.List.{List, [], _∷_}
 use mathlib.Core.Bool.{Bool, true, false}
 use Prim.Native.Nat.{ℕ, suc, _+_, _*_}
 use Prim.Native.String.{String}
 use native.Mathlib.Omega.{arith}
 use native.Mathlib.Nat.{zero-add}
 use lib.IntN.{ℤ}
-use lib.ListN.{length, length-map}
+use lib.ListN.{length}
 use Rattle.lexer.specs.Bytes.{bytes}
 use Rattle.lexer.specs.Numbers.{Form, INT, FLOAT}
 use Rattle.lexer.specs.Tokens.{Lexeme}
 use Rattle.chunks.specs.Readers.{Name, absent, got, Reader, after, _>>=_, _>>_, pure, close-bracket, head, opened, closed, string, optional, starts, many, many⁺, row}
-use Rattle.chunks.specs.Fields.{unread, fields}
 use Rattle.chunks.specs.Places.{placeOf, optionalName}
 use Rattle.chunks.specs.Branches.{startOf}
 use Rattle.chunks.specs.Into.{flat, rowsInto, someInto}
@@ -20,11 +19,11 @@ use Rattle.chunks.specs.Folds.{fold, folded, stepped, rowStep}
 use Rattle.chunks.proofs.Folds.{fold-rows}
 use Rattle.chunks.specs.Cursors.{overlayAt}
 use Rattle.chunks.proofs.Binds.{after-after, after-when}
-use Rattle.chunks.proofs.Given.{Gives, Every, pure-gives, bind-gives, then-gives, many-gives}
-use Rattle.chunks.proofs.FieldCounts.{fields-in-length}
+use Rattle.chunks.proofs.Given.{Every, many-gives}
 use Rattle.chunks.proofs.Tables.{overlayAt-append, overlayAt-none}
 use Rattle.chunks.proofs.Sequences.{into-then, into-bind, into-end}
-use Rattle.bac6_text.specs.Grammar.{material, materialKinds, orZero}
+use Rattle.bac6_text.specs.Grammar.{material}
+use Rattle.bac6_text.proofs.Whole.{material-wide}
 use Rattle.bac6_parse.specs.Into.{materialsInto}
 use Rattle.bac6_parse.specs.Lists.{laidRows, sectionOf, sectionInto}
 use Rattle.bac6_parse.specs.Front.{FrontValue, frontValue, frontInto, frontThen}
@@ -40,10 +39,6 @@ section-same k w f n t ms = go (starts (bytes k) ms) refl
     go false p = rw (p, optional, startOf, overlayAt-none 0 t)
 
 -- ---- materials
-
-pub material-wide : Gives (λ r. length r ≡ 9) material
-unfolding material fields unread materialKinds
-material-wide = bind-gives (λ fs. length fs ≡ 9) (λ r. length r ≡ 9) (then-gives (λ fs. length fs ≡ 9) (opened "material") (fields-in-length 9 materialKinds (unread materialKinds))) (λ fs h. pure-gives (λ r. length r ≡ 9) (map orZero fs) (length-map fs orZero ∙ h))
 
 materials-value : (t r : List ℤ) (rs : List (List ℤ)) → length r ≡ 9 → Every (λ x. length x ≡ 9) rs → laidRows t (r ∷ rs) ≡ fold (rowStep 9) (rowStep 9 (0, t) r) rs
 unfolding laidRows fold

@@ -17,7 +17,7 @@ use Rattle.bac6_text.specs.Figure.{Bone}
 use Rattle.bac6_text.specs.Rules.{isRow, isNone, sameNumber, member, entriesFine, verticesFault, ownerFrom, ownerOf}
 use Rattle.bac6_text.specs.Layout.{ownersFrom}
 use Rattle.bac6_rules.specs.Claims.{isFree, afterClaim, claimedOne, claimed, faultAt, afterBone, claimedBone, claimedBones}
-use Rattle.bac6_rules.proofs.Placing.{fault-not-clear}
+use Rattle.bac6_text.proofs.Parents.{fault-not-clear}
 use Rattle.bac6_rules.proofs.Owners.{row-below, claim-free, claim-taken}
 
 -- ---- entry by entry

@@ -1,9 +1,9 @@
 -- Rule 13 of one row, test by test; and a face's row is fine where the face is.
-use mathlib.Core.Path.{_≡_, refl, ap, sym, _∙_}
+use mathlib.Core.Path.{_≡_, refl, sym, _∙_}
 use mathlib.Core.List.{List, [], _∷_, _++_, append-assoc}
 use mathlib.Core.Bool.{Bool, true, false, _&&_, _||_}
 use mathlib.Core.Logic.{_⊎_, ⊎-elim}
-use Prim.Native.Nat.{ℕ, zero, suc, _+_, _-_, _^_, _≤_, _<_}
+use Prim.Native.Nat.{ℕ, suc, _+_, _-_, _^_, _≤_, _<_}
 use native.Mathlib.Omega.{arith}
 use borrow.Author.Tests.{eq-eqb, ne-eqb}
 use lib.ListN.{length, take, drop, getD}
@@ -13,6 +13,7 @@ use mir.Syntax.{w64}
 use mir.Val.{SFits, ofZ}
 use Rattle.bac6_text.specs.Figure.{Face}
 use Rattle.bac6_text.specs.Layout.{corners, faceRow}
+use Rattle.bac6_text.proofs.Rows.{length-corners}
 use Rattle.bac6_text.specs.Rules.{isRow, isNone, sameNumber, all, faceFine}
 use Rattle.bac6_rules.specs.Rows.{faceSize, faceVertices, faceUvs, faceRowFine}
 use Rattle.references.proofs.Numbers.{and3}
@@ -92,12 +93,6 @@ module _ (t : ℤ → Bool) where
   four-corners (a ∷ b ∷ c ∷ []) h rest = absurd (omega arith)
   four-corners (a ∷ b ∷ c ∷ d ∷ []) h rest = refl
   four-corners (a ∷ b ∷ c ∷ d ∷ e ∷ zs) h rest = absurd (omega arith)
-
-pub length-corners : (n : ℕ) (zs : List ℤ) → length (corners n zs) ≡ n
-unfolding corners
-length-corners zero zs = refl
-length-corners (suc n) [] = ap suc (length-corners n [])
-length-corners (suc n) (z ∷ zs) = ap suc (length-corners n zs)
 
 module _ (g : ℤ) (f : Face) where
   size-three : f .size ≡ 3 → faceSize (faceRow g f) ≡ 3

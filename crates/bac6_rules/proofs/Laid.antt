@@ -3,25 +3,25 @@
 use mathlib.Core.Path.{_≡_, refl, ap, ap₂, sym, _∙_}
 use mathlib.Core.List.{List, [], _∷_, _++_, map, append-assoc}
 use mathlib.Core.Bool.{Bool, true, false}
-use mathlib.Core.Logic.{_⊎_}
 use Prim.Native.Nat.{ℕ, suc, _+_, _*_}
 use native.Mathlib.Nat.{zero-add, suc-add}
 use native.Mathlib.Omega.{arith}
-use lib.ListN.{length, getD, set, length-append, length-map}
+use lib.ListN.{length, getD, set, length-append}
 use lib.Seq.{take-at, drop-at, getD-at, getD-append-add, set-at, set-append-left}
 use lib.IntN.{ℤ, pos, negsuc}
 use Rattle.lexer.specs.Faults.{clear}
 use Rattle.bac6_text.specs.Figure.{Bone, Face, Group, Figure}
-use Rattle.chunks.proofs.Widths.{Wide, wide-append}
+use Rattle.chunks.proofs.Widths.{Wide}
 use Rattle.chunks.specs.Into.{flat}
-use Rattle.chunks.proofs.Given.{Every}
 use Rattle.bac6_text.specs.Layout.{nameNumbers, boneRow, boneRows, faceRow, groupRows, faceRows}
 use Rattle.bac6_text.specs.Rules.{groupFaces, facesOf, flagsOf, firstBad, faceFine, parentsIn, wholeList, bonesFault}
+use Rattle.bac6_text.proofs.Whole.{WholeFaces, WholeBone, WholeBones}
+use Rattle.bac6_text.proofs.Rows.{nine, nine-length, bone-wide, bones-wide, bones-count, flags-count, face-rows-wide, face-rows-length}
+use Rattle.bac6_text.proofs.Parents.{whole-length}
 use Rattle.bac6_rules.specs.Rows.{rowsOf, faceRowFine}
 use Rattle.bac6_rules.specs.Bones.{rowFlags, flagsIn, parentsFrom, withParents, Settled}
 use Rattle.bac6_rules.proofs.Tables.{rows-more, bad-passed, bad-found}
-use Rattle.bac6_rules.proofs.Faces.{length-corners, face-row-fine}
-use Rattle.bac6_rules.proofs.Placing.{whole-length}
+use Rattle.bac6_rules.proofs.Faces.{face-row-fine}
 use Rattle.bac6_rules.proofs.Whole.{settled-clear}
 
 -- ---- rows of one width
@@ -40,15 +40,6 @@ rows-laid w (r ∷ rs) rest h =
 
 -- ---- faces
 
--- what a face is once it is read: 3 or 4 corners, each with a vertex and a uv
-pub record WholeFace (f : Face) : Type 0 where
-  pub sizes : (f .size ≡ 3) ⊎ (f .size ≡ 4)
-  pub vertices : length (f .vertices) ≡ f .size
-  pub uvs : length (f .uvs) ≡ f .size
-
-abbrev pub WholeFaces : List Face → Type 0
-WholeFaces fs = Every WholeFace fs
-
 whole-left : (a b : List Face) → WholeFaces (a ++ b) → WholeFaces a
 whole-left [] b h = tt
 whole-left (f ∷ a) b h = (h .0, whole-left a b (h .1))
@@ -56,32 +47,6 @@ whole-left (f ∷ a) b h = (h .0, whole-left a b (h .1))
 whole-right : (a b : List Face) → WholeFaces (a ++ b) → WholeFaces b
 whole-right [] b h = h
 whole-right (f ∷ a) b h = whole-right a b (h .1)
-
-face-wide : (g : ℤ) (f : Face) → length (faceRow g f) ≡ 11
-unfolding faceRow
-face-wide g f = rw (length-append, length-append, length-corners 4 (f .vertices), length-corners 4 (f .uvs))
-
-faces-wide : (g : ℤ) (fs : List Face) → Wide 11 (map (faceRow g) fs)
-faces-wide g [] = tt
-faces-wide g (f ∷ fs) = (face-wide g f, faces-wide g fs)
-
-groups-wide : (i : ℕ) (gs : List Group) → Wide 11 (groupRows i gs)
-unfolding groupRows
-groups-wide i [] = tt
-groups-wide i (g ∷ gs) = wide-append 11 (map (faceRow (pos i)) (g .faces)) (groupRows (suc i) gs) (faces-wide (pos i) (g .faces)) (groups-wide (suc i) gs)
-
-groups-length : (i : ℕ) (gs : List Group) → length (groupRows i gs) ≡ length (groupFaces gs)
-unfolding groupRows groupFaces
-groups-length i [] = refl
-groups-length i (g ∷ gs) = length-append (map (faceRow (pos i)) (g .faces)) (groupRows (suc i) gs) ∙ rw (length-map, groups-length (suc i) gs) (sym (length-append (g .faces) (groupFaces gs)))
-
-pub face-rows-wide : (f : Figure) → Wide 11 (faceRows f)
-unfolding faceRows
-face-rows-wide f = wide-append 11 (map (faceRow (negsuc 0)) (f .polygons)) (groupRows 0 (f .groups)) (faces-wide (negsuc 0) (f .polygons)) (groups-wide 0 (f .groups))
-
-pub face-rows-length : (f : Figure) → length (faceRows f) ≡ length (facesOf f)
-unfolding faceRows facesOf
-face-rows-length f = length-append (map (faceRow (negsuc 0)) (f .polygons)) (groupRows 0 (f .groups)) ∙ rw (length-map, groups-length 0 (f .groups)) (sym (length-append (f .polygons) (groupFaces (f .groups))))
 
 module _ (m p u : ℕ) where
   -- faces, and whatever follows them
@@ -110,54 +75,23 @@ module _ (m p u : ℕ) where
 
 -- ---- bones
 
--- what a bone is once it is read: three numbers each
-pub record WholeBone (b : Bone) : Type 0 where
-  pub translate : length (b .translate) ≡ 3
-  pub rotate : length (b .rotate) ≡ 3
-  pub handle : length (b .handle) ≡ 3
-
-abbrev pub WholeBones : List Bone → Type 0
-WholeBones bs = Every WholeBone bs
-
 -- a row: nine numbers, two flags, the parent, the name
 module _ (b : Bone) (w : WholeBone b) where
-  abbrev nine : List ℤ
-  nine = b .translate ++ b .rotate ++ b .handle
-
-  nine-length : length nine ≡ 9
-  nine-length = rw (length-append (b .translate ++ b .rotate) (b .handle), length-append (b .translate) (b .rotate), w .translate, w .rotate, w .handle)
-
-  pub bone-wide : (p : ℤ) → length (boneRow b p) ≡ 14
-  unfolding boneRow nameNumbers
-  bone-wide p = rw (length-append nine (b .child ∷ b .brother ∷ p ∷ nameNumbers (b .name)), nine-length)
-
   bone-flags : (p : ℤ) → rowFlags (boneRow b p) ≡ (b .child, b .brother)
   unfolding rowFlags boneRow
-  bone-flags p = ap₂ (λ (x y : ℤ). (x, y)) (getD-at nine (b .child) _ (pos 0) 9 nine-length) (at 1 10 (rw nine-length))
+  bone-flags p = ap₂ (λ (x y : ℤ). (x, y)) (getD-at (nine b) (b .child) _ (pos 0) 9 (nine-length b w)) (at 1 10 (rw (nine-length b w)))
     where
-      at : (i k : ℕ) → length nine + i ≡ k → getD (nine ++ (b .child ∷ b .brother ∷ p ∷ nameNumbers (b .name))) k (pos 0) ≡ getD (b .child ∷ b .brother ∷ p ∷ nameNumbers (b .name)) i (pos 0)
-      at i k e = rw (← e) (getD-append-add nine _ i (pos 0))
+      at : (i k : ℕ) → length (nine b) + i ≡ k → getD (nine b ++ (b .child ∷ b .brother ∷ p ∷ nameNumbers (b .name))) k (pos 0) ≡ getD (b .child ∷ b .brother ∷ p ∷ nameNumbers (b .name)) i (pos 0)
+      at i k e = rw (← e) (getD-append-add (nine b) _ i (pos 0))
 
   bone-set : (p q : ℤ) → set (boneRow b p) 11 q ≡ boneRow b q
-  bone-set p q = ap (λ (l : List ℤ). set l 11 q) (apart p) ∙ set-at (nine ++ (b .child ∷ b .brother ∷ [])) p (nameNumbers (b .name)) q 11 eleven ∙ sym (apart q)
+  bone-set p q = ap (λ (l : List ℤ). set l 11 q) (apart p) ∙ set-at (nine b ++ (b .child ∷ b .brother ∷ [])) p (nameNumbers (b .name)) q 11 eleven ∙ sym (apart q)
     where
-      apart : (p : ℤ) → boneRow b p ≡ (nine ++ (b .child ∷ b .brother ∷ [])) ++ (p ∷ nameNumbers (b .name))
-      apart p = unfold boneRow in sym (append-assoc nine (b .child ∷ b .brother ∷ []) (p ∷ nameNumbers (b .name)))
+      apart : (p : ℤ) → boneRow b p ≡ (nine b ++ (b .child ∷ b .brother ∷ [])) ++ (p ∷ nameNumbers (b .name))
+      apart p = unfold boneRow in sym (append-assoc (nine b) (b .child ∷ b .brother ∷ []) (p ∷ nameNumbers (b .name)))
 
-      eleven : length (nine ++ (b .child ∷ b .brother ∷ [])) ≡ 11
-      eleven = rw (length-append nine (b .child ∷ b .brother ∷ []), nine-length)
-
-pub bones-wide : (bs : List Bone) (ps : List ℤ) → WholeBones bs → Wide 14 (boneRows bs ps)
-unfolding boneRows
-bones-wide [] ps w = tt
-bones-wide (b ∷ bs) [] w = tt
-bones-wide (b ∷ bs) (p ∷ ps) w = (bone-wide b (w .0) p, bones-wide bs ps (w .1))
-
-pub bones-count : (bs : List Bone) (ps : List ℤ) → length ps ≡ length bs → length (boneRows bs ps) ≡ length bs
-unfolding boneRows
-bones-count [] ps e = refl
-bones-count (b ∷ bs) [] e = absurd (omega arith)
-bones-count (b ∷ bs) (p ∷ ps) e = ap suc (bones-count bs ps (omega arith))
+      eleven : length (nine b ++ (b .child ∷ b .brother ∷ [])) ≡ 11
+      eleven = rw (length-append (nine b) (b .child ∷ b .brother ∷ []), nine-length b w)
 
 bones-flags : (bs : List Bone) (ps : List ℤ) → WholeBones bs → length ps ≡ length bs → map rowFlags (boneRows bs ps) ≡ flagsOf bs
 unfolding boneRows flagsOf
@@ -200,11 +134,6 @@ parents-rows (b ∷ bs) (p ∷ ps) (q ∷ qs) rest w e f =
 pub parents-laid : (bs : List Bone) (ps qs rest : List ℤ) → WholeBones bs → length ps ≡ length bs → length qs ≡ length bs → withParents qs (flat (boneRows bs ps) ++ rest) ≡ flat (boneRows bs qs) ++ rest
 unfolding withParents
 parents-laid bs ps qs rest w e f = parents-rows bs ps qs rest w e f
-
-pub flags-count : (bs : List Bone) → length (flagsOf bs) ≡ length bs
-unfolding flagsOf
-flags-count [] = refl
-flags-count (b ∷ bs) = ap suc (flags-count bs)
 
 -- what `place_bones` leaves of rows that were laid with any parents, where no bone is at fault
 pub bones-laid : (count : ℕ) (bs : List Bone) (ps rest exit : List ℤ) → WholeBones bs → length ps ≡ length bs → bonesFault (flagsOf bs) ≡ clear → Settled count (flat (boneRows bs ps) ++ rest) exit (wholeList (flagsOf bs)) → exit ≡ flat (boneRows bs (parentsIn (wholeList (flagsOf bs)))) ++ rest

@@ -15,7 +15,8 @@ use Rattle.bac6_rules.specs.declared.order.Counts.{Counts}
 use Rattle.bac6_rules.specs.Bones.{flagsIn, Settled}
 use Rattle.bac6_rules.specs.Order.{countsIn, figureCounts, countsFault, laterFault, tablesFault, LeftBy, BonesLeft}
 use Rattle.chunks.proofs.Widths.{Wide}
-use Rattle.bac6_rules.proofs.Laid.{WholeBones, WholeFaces, rows-laid, flags-laid, faces-laid, bones-laid}
+use Rattle.bac6_text.proofs.Whole.{WholeBones, WholeFaces}
+use Rattle.bac6_rules.proofs.Laid.{rows-laid, flags-laid, faces-laid, bones-laid}
 
 -- the rules before the bones', and those after
 pub tables-parts : (n : Counts) (claims : Fault) (ms bs fs : List ℤ) → tablesFault n claims ms bs fs ≡ orElse (countsFault n) (orElse (bonesFault (flagsIn (n .bones) bs)) (laterFault n claims ms fs))

@@ -24,6 +24,9 @@ byte-fits i k e h = record { fits = omega arith }
 pub index-below : (i k : ℕ) (table : List ℤ) → i ≡ k → k < length table → i < length table
 index-below i k table e h = omega arith
 
+pub index-within : (i k : ℕ) (table : List ℤ) → i ≡ k → k ≤ length table → i ≤ length table
+index-within i k table e h = omega arith
+
 -- ---- within a table that holds a figure
 
 module _ (n : FigureCounts) (table : List ℤ) (held : holdsFigure n table ≡ true) where

@@ -15,3 +15,8 @@ pub mod Sampled
 pub mod FaceRows
 pub mod Indices
 pub mod CornerTests
+pub mod PatternLines
+pub mod Flagged
+pub mod FlagRows
+pub mod OwnedCorners
+pub mod ShownTests

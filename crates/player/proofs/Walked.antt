@@ -51,7 +51,7 @@ first-fine (pos t) (pos n) v e h = go (eqb n 0) refl
     go true o = rw (eqb-true n 0 o) (rw (lt-ltb 0 t h))
     go false o = rw o (both-false (leb 0 n && ltb n t))
 
-zero-is : (z : ℤ) → isZero z ≡ true → z ≡ pos 0
+pub zero-is : (z : ℤ) → isZero z ≡ true → z ≡ pos 0
 unfolding isZero
 zero-is (pos n) e = ap pos (eqb-true n 0 e)
 zero-is (negsuc n) e = let z : _≡_ {A = ℕ} 0 1 = cc in absurd (omega (arith, z))

@@ -1,6 +1,7 @@
 -- What the structs of the code mean.
 use mathlib.Core.List.{[], _∷_}
 use mathlib.Core.Option.{Option, none, some}
+use mathlib.Core.Bool.{Bool, true, false}
 use Prim.Native.Nat.{ℕ}
 use Rattle.player.specs.Fractions.{Fraction}
 use Rattle.player.specs.Faces.{CornerOf}
@@ -9,6 +10,8 @@ use Rattle.player.specs.declared.corners.Cornered.{Cornered}
 use Rattle.player.specs.declared.corners.Cornered.the-variants as corners
 use Rattle.player.specs.declared.sampling.Sampled.{Sampled}
 use Rattle.player.specs.declared.sampling.Sampled.the-variants as sampling
+use Rattle.player.specs.declared.flags.Visibility.{Visibility}
+use Rattle.player.specs.declared.flags.Visibility.the-variants as flags
 
 unfoldable pub ratio : Ratio → Fraction
 ratio r = record { numerator = r .numerator; denominator = r .denominator }
@@ -26,3 +29,14 @@ unfoldable pub cornered : Cornered → ℕ × Option CornerOf
 cornered corners.Refused = (21, none)
 cornered (corners.Plain x y z o m) = (0, some (record { position = x ∷ y ∷ z ∷ []; owner = o; uv = none; material = m }))
 cornered (corners.Textured x y z o m u v) = (0, some (record { position = x ∷ y ∷ z ∷ []; owner = o; uv = some (u ∷ v ∷ []); material = m }))
+
+unfoldable pub showed : Visibility → ℕ × Option Bool
+showed flags.Refused = (21, none)
+showed flags.Shown = (0, some true)
+showed flags.Hidden = (0, some false)
+
+-- the same without the number, within the code
+unfoldable pub visible : Visibility → Option Bool
+visible flags.Refused = none
+visible flags.Shown = some true
+visible flags.Hidden = some false

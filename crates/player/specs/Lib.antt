@@ -6,4 +6,5 @@ pub mod Lookups
 pub mod Rows
 pub mod Pass
 pub mod Passing
+pub mod Flags
 pub mod Answers

@@ -1,6 +1,7 @@
 // How many rows each list of a table has.
 ghost use mathlib.Core.Path.{_≡_};
-ghost use Rattle.player.specs.Columns.{holdsMovement, pointsBegin, ownersBegin, uvsBegin, facesBegin, holdsFigure, WithinMosts};
+ghost use Prim.Native.Nat.{_≤_};
+ghost use Rattle.player.specs.Columns.{patternsBegin, holdsMovement, pointsBegin, ownersBegin, uvsBegin, facesBegin, holdsFigure, WithinMosts};
 use lexer::Checked;
 
 pub struct MovementCounts {
@@ -30,6 +31,14 @@ pub(crate) fn holds_movement(table: &[i64], n: MovementCounts) -> bool
         Checked::Refused { number, offset } => false,
         Checked::Clear => 3 + n.bones * 22 + n.keys * 2 + n.patterns * 3 <= table.len(),
     }
+}
+
+// Where the patterns of a movement begin.
+pub(crate) fn patterns_begin(m: MovementCounts) -> usize
+    requires { ⌜ (m .bones ≤ 128) × (m .keys ≤ 4096) ⌝ }
+    ensures { λ r. ⌜ r ≡ patternsBegin m ⌝ }
+{
+    3 + m.bones * 22 + m.keys * 2
 }
 
 // Where the points, the owners, the texture coordinates and the faces of a figure begin.

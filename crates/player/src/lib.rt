@@ -2,16 +2,21 @@
 mod corners;
 mod counts;
 mod face;
+mod flags;
 mod fraction;
 mod line;
 mod number;
+mod owning;
 mod pass;
 mod point;
 mod sampling;
+mod showing;
 
 pub use corners::Cornered;
 pub use corners::corner;
 pub use counts::FigureCounts;
 pub use counts::MovementCounts;
+pub use flags::Visibility;
 pub use sampling::Sampled;
 pub use sampling::sample;
+pub use showing::shown;

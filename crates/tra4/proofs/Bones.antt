@@ -1,10 +1,9 @@
 -- Bones one after another leave their rows and keys at the tables' start, or there are too many keys.
 use mathlib.Core.Path.{_≡_, refl, ap, sym, _∙_}
-use mathlib.Core.List.{List, [], _∷_, _++_, append-assoc}
+use mathlib.Core.List.{List, [], _∷_}
 use mathlib.Core.Bool.{Bool, true, false}
-use mathlib.Core.Option.{Option, none, some}
-use Prim.Native.Nat.{ℕ, zero, suc, _+_, _*_, _≤_, _<_}
-use native.Mathlib.Nat.{add-zero, zero-add}
+use mathlib.Core.Option.{none, some}
+use Prim.Native.Nat.{ℕ, suc, _+_, _*_, _≤_, _<_}
 use native.Mathlib.Omega.{arith}
 use borrow.Author.Tests.{le-leb, lt-leb, leb-true, leb-false}
 use lib.Dec.{leb}
@@ -15,45 +14,18 @@ use Rattle.chunks.specs.Cursors.{overlayAt}
 use Rattle.chunks.specs.Folds.{fold}
 use Rattle.chunks.proofs.Given.{Every}
 use Rattle.chunks.proofs.Tables.{overlayAt-none, overlayAt-append}
-use Rattle.tra4_text.specs.Movement.{Key, Channel, Bone}
+use Rattle.tra4_text.specs.Movement.{Bone}
 use Rattle.tra4_text.specs.Rules.{allKeys, channelsOf}
-use Rattle.tra4_text.specs.Layout.{nameNumbers, keyRanges, boneRow, boneRows}
+use Rattle.tra4_text.specs.Layout.{boneRow, boneRows}
 use Rattle.tra4_bones.specs.Into.{Kept, keyCount, boneKept, boneStep}
-use Rattle.chunks.proofs.Widths.{Wide, wide-append, flat-append, flat-length}
-use Rattle.tra4.proofs.Whole.{WholeBone}
-
--- ---- the keys of channels
-
-pub keys-append : (a b : List Channel) → allKeys (a ++ b) ≡ allKeys a ++ allKeys b
-unfolding allKeys
-keys-append [] b = refl
-keys-append (c ∷ a) b = ap (λ (l : List Key). c ++ l) (keys-append a b) ∙ sym (append-assoc c (allKeys a) (allKeys b))
-
-keys-wide : (cs : List Channel) → Every (Wide 2) cs → Wide 2 (allKeys cs)
-unfolding allKeys
-keys-wide [] h = tt
-keys-wide (c ∷ cs) h = wide-append 2 c (allKeys cs) (h .0) (keys-wide cs (h .1))
-
-pub all-wide : (bs : List Bone) → Every WholeBone bs → Wide 2 (allKeys (channelsOf bs))
-unfolding channelsOf allKeys
-all-wide [] h = tt
-all-wide (b ∷ bs) h = rw (keys-append (b .channels) (channelsOf bs)) (wide-append 2 (allKeys (b .channels)) (allKeys (channelsOf bs)) (keys-wide (b .channels) (h .0 .keys)) (all-wide bs (h .1)))
+use Rattle.chunks.proofs.Widths.{Wide, flat-append, flat-length}
+use Rattle.tra4_text.proofs.Whole.{WholeBone}
+use Rattle.tra4_text.proofs.Layouts.{keys-append, keys-wide, row-length}
 
 -- those of a bone and those of the bones after it
 pub keys-count : (b : Bone) (bs : List Bone) → length (allKeys (channelsOf (b ∷ bs))) ≡ keyCount b + length (allKeys (channelsOf bs))
 unfolding channelsOf keyCount
 keys-count b bs = ap length (keys-append (b .channels) (channelsOf bs)) ∙ length-append (allKeys (b .channels)) (allKeys (channelsOf bs))
-
--- ---- a bone's row
-
-ranges-length : (row : ℕ) (cs : List Channel) → length (keyRanges row cs) ≡ length cs * 2
-unfolding keyRanges
-ranges-length row [] = refl
-ranges-length row (c ∷ cs) = omega (arith, ranges-length (row + length c) cs)
-
-pub row-length : (row : ℕ) (b : Bone) → WholeBone b → length (boneRow row b) ≡ 22
-unfolding boneRow nameNumbers
-row-length row b w = omega (arith, ranges-length row (b .channels), w .ten)
 
 -- ---- one bone
 

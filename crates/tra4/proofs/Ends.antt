@@ -2,25 +2,24 @@
 use mathlib.Core.Path.{_≡_, refl, ap, sym, _∙_}
 use mathlib.Core.List.{List, [], _∷_, _++_}
 use mathlib.Core.Bool.{Bool, true, false}
-use mathlib.Core.Option.{Option, none, some}
+use mathlib.Core.Option.{none, some}
 use Prim.Native.Nat.{ℕ, _+_, _*_, _≤_, _<_}
-use native.Mathlib.Nat.{zero-add}
 use native.Mathlib.Omega.{arith}
 use borrow.Author.Tests.{leb-true, leb-false}
 use lib.Dec.{leb}
 use lib.IntN.{ℤ, pos}
-use lib.ListN.{length, take, drop, length-append}
-use Rattle.lexer.specs.Faults.{Fault, clear, fault}
+use lib.ListN.{length, take}
+use Rattle.lexer.specs.Faults.{clear, fault}
 use Rattle.lexer.specs.Tokens.{lex}
 use Rattle.chunks.specs.Places.{placeOf}
 use Rattle.chunks.specs.Into.{flat}
 use Rattle.chunks.specs.Cursors.{reads, overlayAt}
 use Rattle.chunks.specs.Folds.{fold}
 use Rattle.chunks.specs.Rules.{tooMany}
-use Rattle.chunks.specs.Outcomes.{Outcome, rejected, accepted, shaped, fitted, laid}
+use Rattle.chunks.specs.Outcomes.{rejected, accepted, shaped, fitted, laid}
 use Rattle.chunks.proofs.Rules.{or-first, count-clear}
 use Rattle.chunks.proofs.Given.{Every}
-use Rattle.chunks.proofs.Widths.{Wide, flat-length, held, part-is, room-is}
+use Rattle.chunks.proofs.Widths.{Wide, held, part-is, room-is}
 use Rattle.chunks.proofs.Outcomes.{shape-rejected, rule-rejected, all-taken}
 use Rattle.tra4_text.specs.Movement.{Bone, Movement}
 use Rattle.tra4_text.specs.Grammar.{movement}
@@ -32,10 +31,11 @@ use Rattle.tra4_parse.specs.Parse.{MovementValue, movementValue, movementInto}
 use Rattle.tra4_rules.specs.Order.{tablesFault}
 use Rattle.tra4_rules.proofs.Laid.{Tenfold, inTables, keys-beyond, tables-over, tables-within, tables-laid}
 use Rattle.tra4.specs.Parse.{valueOf}
-use Rattle.tra4.specs.Answers.{refusedWith, answerOf, totalOf, countsAnswer, downAnswer, downTable, partsOf, Fits, keyCount, rulesFault, Blank}
-use Rattle.tra4.proofs.Whole.{WholeBone, WholeMovement, movement-whole}
+use Rattle.tra4.specs.Answers.{answerOf, totalOf, countsAnswer, downAnswer, downTable, partsOf, Fits, keyCount, rulesFault, Blank}
+use Rattle.tra4_text.proofs.Whole.{WholeBone, WholeMovement, movement-whole}
+use Rattle.tra4_text.proofs.Layouts.{all-wide, rows-wide, rows-count, layout-length}
 use Rattle.tra4.proofs.Parses.{Found, parsed-found, parsed-refused}
-use Rattle.tra4.proofs.Bones.{all-wide, row-length, fold-bones, fold-over}
+use Rattle.tra4.proofs.Bones.{fold-bones, fold-over}
 use Rattle.tra4.proofs.MovementName.{name-within}
 use Rattle.tra4.proofs.Settings.{answer-is, table-is}
 
@@ -54,16 +54,6 @@ kept-none : (over : Bool) (rows : List ℤ) (n : ℕ) (keys : List ℤ) → kept
 unfolding kept
 kept-none true rows n keys e = refl
 kept-none false rows n keys e = let z : _≡_ {A = ℕ} 0 1 = cc in absurd (omega (arith, z))
-
-rows-wide : (row : ℕ) (bs : List Bone) → Every WholeBone bs → Wide 22 (boneRows row bs)
-unfolding boneRows
-rows-wide row [] h = tt
-rows-wide row (b ∷ bs) h = (row-length row b (h .0), rows-wide (row + length (allKeys (b .channels))) bs (h .1))
-
-rows-count : (row : ℕ) (bs : List Bone) → length (boneRows row bs) ≡ length bs
-unfolding boneRows
-rows-count row [] = refl
-rows-count row (b ∷ bs) = let h = rows-count (row + length (allKeys (b .channels))) bs in omega arith
 
 tenfold : (bs : List Bone) → Every WholeBone bs → Tenfold bs
 tenfold [] h = tt
@@ -225,9 +215,8 @@ module _ (text : List ℕ) (b k g : List ℤ) (blank : Blank text b k g) (p : Pa
       parts = same-parts _ _ _ _ _ _ _ _ _ _ _ _ (sym frames-are) (sym (ap (λ (x : ℕ × ℕ). x .0) name-is)) (sym (ap (λ (x : ℕ × ℕ). x .1) name-is)) bones-part keys-part patterns-part
 
       total : totalOf p ≡ length (layoutOf read)
-      unfolding totalOf layoutOf nameNumbers
-      total =
-          rw (length-append ((read .totalFrames ∷ nameNumbers (read .name)) ++ flat (boneRows 0 bones) ++ flat (keyRows read)) (flat (read .patterns)), length-append ((read .totalFrames ∷ nameNumbers (read .name)) ++ flat (boneRows 0 bones)) (flat (keyRows read)), length-append (read .totalFrames ∷ nameNumbers (read .name)) (flat (boneRows 0 bones)), flat-length 22 (boneRows 0 bones) (rows-wide 0 bones (whole .bones)), flat-length 2 (keyRows read) keys-two, flat-length 3 (read .patterns) (whole .patterns), bones-held (within .1) .0, keys-held (within .1) .0, patterns-are .0)
+      unfolding totalOf
+      total = rw (layout-length read whole, unfolded (within .1) .0, keys-held (within .1) .0, patterns-are .0)
 
       counts : countsAnswer p ≡ answerOf (accepted read)
       unfolding countsAnswer answerOf

@@ -2,17 +2,15 @@
 use mathlib.Core.Path.{_≡_, refl, ap, sym, _∙_}
 use mathlib.Core.List.{List, [], _∷_, _++_}
 use mathlib.Core.Bool.{Bool, true, false}
-use Prim.Native.Nat.{ℕ, suc, _+_, _*_, min}
-use Prim.Native.String.{String}
+use Prim.Native.Nat.{ℕ, _+_, min}
 use native.Mathlib.Nat.{zero-add}
-use native.Mathlib.Omega.{arith}
 use lib.IntN.{ℤ, pos}
-use lib.ListN.{length, length-append}
+use lib.ListN.{length}
 use Rattle.lexer.specs.Bytes.{bytes, inWord}
 use Rattle.lexer.specs.Numbers.{INT}
 use Rattle.lexer.specs.Tokens.{Lexeme}
 use Rattle.chunks.specs.declared.cursor.Cursor.{Cursor}
-use Rattle.chunks.specs.Readers.{Got, got, Reader, after, _>>=_, _>>_, pure, open-bracket, close-bracket, wordOf, openedOf, opened, closed, numbers, oneOf, trailing, many}
+use Rattle.chunks.specs.Readers.{Got, got, Reader, after, _>>=_, _>>_, pure, open-bracket, close-bracket, wordOf, openedOf, opened, closed, numbers, trailing, many}
 use Rattle.chunks.specs.Words.{words, onto, wordIn}
 use Rattle.chunks.specs.Branches.{lastOf}
 use Rattle.chunks.specs.Cursors.{from, reads, overlayAt}
@@ -22,15 +20,16 @@ use Rattle.chunks.proofs.Steps.{join, seq, from-same}
 use Rattle.chunks.proofs.Binds.{after-after, after-same, after-when, then-assoc}
 use Rattle.chunks.proofs.Branches.{trailing-yes, trailing-no, trailing-map}
 use Rattle.chunks.proofs.Vocabulary.{wordList, one-word}
-use Rattle.chunks.proofs.Tables.{overlayAt-none, overlayAt-append, overlayAt-same}
+use Rattle.chunks.proofs.Tables.{overlayAt-append, overlayAt-same}
 use Rattle.chunks.proofs.Folds.{fold-rows}
-use Rattle.chunks.proofs.Given.{Gives, Every, pure-gives, bind-gives, then-gives, closed-gives, numbers-give, many-gives, trailing-gives}
+use Rattle.chunks.proofs.Given.{Every, numbers-give, many-gives, trailing-gives}
 use Rattle.chunks.proofs.Many.{Keeps, Takes, takes-keeps, pure-keeps, bind-keeps, then-keeps, then-takes, word-takes, opened-takes, closed-keeps, numbers-keeps, one-of-takes}
 use Rattle.tra4_text.specs.Movement.{Pattern}
 use Rattle.tra4_text.specs.Grammar.{truth, pattern}
+use Rattle.tra4_text.proofs.Whole.{pattern-wide}
 use Rattle.tra4_parse.specs.Patterns.{patternTail, patternInto, patternsInto}
 
--- ---- a line begins with (, takes tokens, and is three numbers
+-- ---- a line begins with ( and takes tokens
 
 pub pattern-opens : (ms : List Lexeme) → pattern ms ≡ (open-bracket >> patternTail) ms
 unfolding pattern patternTail opened openedOf
@@ -50,15 +49,6 @@ pattern-keeps = then-keeps (takes-keeps (word-takes (bytes "kgf"))) inside-keeps
 pub pattern-takes : Takes pattern
 unfolding pattern
 pattern-takes = then-takes (opened-takes "kgf") inside-keeps
-
-three : (zs : List ℤ) (z : ℤ) → length zs ≡ 2 → length (zs ++ (z ∷ [])) ≡ 3
-three zs z h = length-append zs (z ∷ []) ∙ omega (arith, h)
-
-pub pattern-wide : Gives (λ r. length r ≡ 3) pattern
-unfolding pattern
-pattern-wide =
-    let P : Pattern → Type 0 = λ r. length r ≡ 3 in
-    then-gives P (opened "kgf") (closed-gives P (bind-gives (λ zs. length zs ≡ 2) P (numbers-give INT 2) (λ zs h. bind-gives (λ _. Unit {0}) P {r = truth} (λ _ _ _ _. tt) (λ z _. pure-gives P (zs ++ (z ∷ [])) (three zs z h)))))
 
 -- ---- a line, number by number
 

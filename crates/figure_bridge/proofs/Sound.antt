@@ -1,0 +1,49 @@
+-- What a figure without fault has: counts within their mosts, a parent for each bone, and faces whose references are rows. One part of the rules each.
+use mathlib.Core.Path.{_≡_, refl, _∙_}
+use mathlib.Core.List.{List, [], _∷_}
+use mathlib.Core.Bool.{Bool, true, false}
+use Prim.Native.Nat.{ℕ, zero, suc, _<_}
+use native.Mathlib.Omega.{arith}
+use lib.ListN.{length, getD}
+use Rattle.lexer.specs.Faults.{clear}
+use Rattle.chunks.specs.Rules.{orElse, tooMany}
+use Rattle.chunks.proofs.Rules.{or-first, or-second}
+use Rattle.chunks.proofs.Given.{Every}
+use Rattle.bac6_text.specs.Figure.{Figure}
+use Rattle.bac6_text.specs.Rules.{facesOf, countsOf, mosts, normalsFault, flagsOf, wholeList, parentsIn, bonesFault, verticesFault, firstBad, materialFine, faceFine, figureFault}
+use Rattle.bac6_text.proofs.Rows.{flags-count}
+use Rattle.bac6_text.proofs.Parents.{whole-length, fault-not-clear}
+
+-- ---- lists
+
+pub every-at : {A : Type 0} (P : A → Type 0) (l : List A) (i : ℕ) (d : A) → Every P l → i < length l → P (getD l i d)
+every-at P [] i d h k = absurd (omega arith)
+every-at P (a ∷ l) zero d h k = h .0
+every-at P (a ∷ l) (suc i) d h k = every-at P l i d (h .1) (omega arith)
+
+-- where no row is bad, each passes the test
+all-pass : {A : Type 0} (n : ℕ) (t : A → Bool) (row : ℕ) (l : List A) → firstBad n t row l ≡ clear → Every (λ a. t a ≡ true) l
+unfolding firstBad
+all-pass n t row [] e = tt
+all-pass n t row (a ∷ l) e = go (t a) refl (all-pass n t (suc row) l)
+  where
+    go : (v : Bool) → t a ≡ v → (firstBad n t (suc row) l ≡ clear → Every (λ a. t a ≡ true) l) → (t a ≡ true) × Every (λ a. t a ≡ true) l
+    go true p ih = (p, ih (rw (p, firstBad) at e))
+    go false p ih = absurd (fault-not-clear n row (rw (p, firstBad) at e))
+
+-- ---- the rules
+
+module _ (f : Figure) (c : figureFault f ≡ clear) where
+  pub counts-sound : tooMany 0 (countsOf f) mosts ≡ clear
+  unfolding figureFault
+  counts-sound = or-first _ _ c
+
+  after-normals : orElse (bonesFault (flagsOf (f .bones))) (orElse (verticesFault (length (f .points)) [] 0 (f .bones)) (orElse (firstBad 12 (materialFine (length (f .textures)) (length (f .colours))) 0 (f .materials)) (firstBad 13 (faceFine (length (f .materials)) (length (f .points)) (length (f .uvs))) 0 (facesOf f)))) ≡ clear
+  unfolding figureFault
+  after-normals = or-second (normalsFault (length (f .points)) (length (f .normals))) _ (or-second (tooMany 0 (countsOf f) mosts) _ c)
+
+  pub parents-sound : length (parentsIn (wholeList (flagsOf (f .bones)))) ≡ length (f .bones)
+  parents-sound = whole-length (flagsOf (f .bones)) (or-first _ _ after-normals) ∙ flags-count (f .bones)
+
+  pub faces-sound : Every (λ face. faceFine (length (f .materials)) (length (f .points)) (length (f .uvs)) face ≡ true) (facesOf f)
+  faces-sound = all-pass 13 (faceFine (length (f .materials)) (length (f .points)) (length (f .uvs))) 0 (facesOf f) (or-second _ _ (or-second _ _ (or-second _ _ after-normals)))

@@ -1,0 +1,77 @@
+-- Corner and Shown from the texts: on the tables that reading leaves they are what the texts' lists say. A text that is taken gives its lists, and no rule is broken.
+use mathlib.Core.Path.{_≡_, refl, ap, _∙_}
+use mathlib.Core.List.{List, _++_}
+use mathlib.Core.Bool.{Bool, true, false, _||_}
+use mathlib.Core.Option.{Option, none, some}
+use Prim.Native.Nat.{ℕ, _<_}
+use lib.IntN.{ℤ, natAbs}
+use lib.ListN.{length, drop}
+use Rattle.lexer.specs.Faults.{bac}
+use Rattle.lexer.specs.Tokens.{lex}
+use Rattle.chunks.specs.Outcomes.{Outcome, accepted, laid}
+use Rattle.bac6_text.specs.Figure.{Figure}
+use Rattle.bac6_text.specs.Grammar.{figure}
+use Rattle.bac6_text.specs.Rules.{facesOf, figureFault}
+use Rattle.bac6_text.specs.Layout.{layoutOf}
+use Rattle.bac6_text.specs.Answer.{figureOutcome, figureAnswer, tableAfter}
+use Rattle.bac6_text.proofs.Whole.{WholeFigure, figure-whole}
+use Rattle.bac6.specs.Answers.{answerOf}
+use Rattle.tra4.specs.Answers as tra4
+use Rattle.tra4_text.specs.Movement.{Movement}
+use Rattle.tra4_text.specs.Answer.{movementAnswer, movementTable}
+use Rattle.player.specs.Faces.{cornerOf, shownOf}
+use Rattle.player.specs.Lookups.{onlyIf, patternRows, cornerIn, shownIn}
+use Rattle.movement_bridge.specs.Counts as movement
+use Rattle.movement_bridge.proofs.Taken.{Taken, taken}
+use Rattle.movement_bridge.proofs.Tables.{movement-holds, total-stands, frame-asked, patterns-stand, patterns-clear, flags-fine}
+use Rattle.figure_bridge.specs.Rows.{countsIn, faceOf, groupedFaceOf, hasNoGroup, groupsKnown}
+use Rattle.figure_bridge.proofs.Parts.{counts}
+use Rattle.figure_bridge.proofs.Corners.{corner-stands}
+use Rattle.figure_bridge.proofs.Showing.{shown-stands}
+
+counts-are : (f : Figure) → countsIn (answerOf (accepted f)) ≡ counts f
+unfolding countsIn answerOf
+counts-are f = refl
+
+module _ (text : List ℕ) (table : List ℤ) (f : Figure) (e : figureAnswer text (length table) ≡ accepted f) where
+  read : Taken figure figureFault layoutOf text (length table) f
+  unfolding figureAnswer figureOutcome
+  read = taken bac figure figureFault layoutOf text (length table) f e
+
+  whole : WholeFigure f
+  whole = figure-whole (lex text) f (read .shape .left) (read .shape .gives)
+
+  table-read : tableAfter text table ≡ layoutOf f ++ drop (length (layoutOf f)) table
+  unfolding tableAfter laid
+  table-read = ap (λ (o : Outcome Figure). laid layoutOf table o) e
+
+  -- ---- Corner
+
+  pub corner-from-text : (face k : ℕ) → face < length (facesOf f) → k < faceOf f face .size → cornerIn (countsIn (answerOf (accepted f))) (tableAfter text table) face k ≡ some (cornerOf f (faceOf f face) k)
+  corner-from-text face k below used = rw (counts-are f, table-read) (corner-stands f whole (read .shape .clean) (drop (length (layoutOf f)) table) face k below used)
+
+  -- ---- Shown
+
+  module _ (movementText : List ℕ) (moves : List ℤ) (m : Movement) (d : movementAnswer movementText (length moves) ≡ accepted m) where
+    abbrev shown : ℕ → ℕ → Option Bool
+    shown face at = shownIn (countsIn (answerOf (accepted f))) (tableAfter text table) (movement.countsIn (tra4.answerOf (accepted m))) (movementTable movementText moves) face at
+
+    module _ (face at : ℕ) (below : face < length (facesOf f)) (frame : at < natAbs (m .totalFrames)) where
+      -- the answer, and 21 exactly where a group face meets a pattern whose group is no row
+      pub shown-or-refused : shown face at ≡ onlyIf (hasNoGroup (groupedFaceOf f face) || groupsKnown f m) (shownOf (f .bones) (m .patterns) (groupedFaceOf f face) at)
+      shown-or-refused =
+          rw (counts-are f, table-read)
+          (shown-stands f whole (read .shape .clean) (drop (length (layoutOf f)) table) face below _ _ m at
+          (movement-holds movementText moves m d)
+          (rw (total-stands movementText moves m d) (frame-asked movementText moves m d at frame))
+          (unfold patternRows in patterns-stand movementText moves m d)
+          (rw (total-stands movementText moves m d) (patterns-clear movementText moves m d))
+          (flags-fine movementText moves m d))
+
+      pub shown-from-text : (hasNoGroup (groupedFaceOf f face) || groupsKnown f m) ≡ true → shown face at ≡ some (shownOf (f .bones) (m .patterns) (groupedFaceOf f face) at)
+      unfolding onlyIf
+      shown-from-text h = shown-or-refused ∙ rw h
+
+      pub shown-without-group : hasNoGroup (groupedFaceOf f face) ≡ false → groupsKnown f m ≡ false → shown face at ≡ none
+      unfolding onlyIf
+      shown-without-group g h = shown-or-refused ∙ rw (g, h)

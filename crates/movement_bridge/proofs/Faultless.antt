@@ -1,0 +1,65 @@
+-- What the rules that are kept say of one channel and of a value: its frames are sound from any row on, and its values are in range; by induction on the lists.
+use mathlib.Core.Path.{_≡_, refl}
+use mathlib.Core.List.{List, [], _∷_, _++_}
+use mathlib.Core.Bool.{Bool, true, false}
+use mathlib.Core.Option.{Option, none, some}
+use Prim.Native.Nat.{ℕ, zero, suc, _+_, _≤_, _<_}
+use native.Mathlib.Omega.{arith}
+use borrow.Author.Tests.{leb-true, le-leb, lt-ltb}
+use lib.IntN.{ℤ, pos, negsuc, natAbs}
+use lib.ListN.{length, getD}
+use Rattle.lexer.specs.Faults.{clear, fault}
+use Rattle.lexer.specs.Numbers.{FLOAT, inForm}
+use Rattle.chunks.proofs.Given.{Every}
+use Rattle.chunks.proofs.Rules.{or-first, or-second}
+use Rattle.bac6_text.specs.Rules.{isRow}
+use Rattle.tra4_text.specs.Movement.{Key, Channel, Pattern, frameOf}
+use Rattle.tra4_text.specs.Rules.{totalFault, framesFault, keyFine, keysFault}
+use Rattle.tra4_text.proofs.Whole.{FloatValue, Flagged}
+use Rattle.player.specs.Columns.{isClear}
+use Rattle.player.specs.Lookups.{isFloat, isAsked, isRange, valuesFine}
+
+-- ---- frames
+
+-- the row that counting begins at does not matter where there is no fault
+pub any-row : (n : ℕ) (fine : Option ℤ → List ℤ → Bool) (before : Option ℤ) (i j : ℕ) (rs : List (List ℤ)) → framesFault n fine before i rs ≡ clear → framesFault n fine before j rs ≡ clear
+unfolding framesFault
+any-row n fine before i j [] e = refl
+any-row n fine before i j (r ∷ rs) e = go (fine before r) refl (any-row n fine (some (frameOf r)) (suc i) (suc j) rs)
+  where
+    go : (v : Bool) → fine before r ≡ v → (framesFault n fine (some (frameOf r)) (suc i) rs ≡ clear → framesFault n fine (some (frameOf r)) (suc j) rs ≡ clear) → framesFault n fine before j (r ∷ rs) ≡ clear
+    go true o ih = rw (o, framesFault) (ih (rw (o, framesFault) at e))
+    go false o ih = let f : fault n i ≡ clear = rw (o, framesFault) at e in let z : _≡_ {A = ℕ} 0 1 = cc in absurd (omega (arith, z))
+
+-- one of the channels
+pub one-clear : (total : ℤ) (row : ℕ) (a : List Channel) (c : Channel) (b : List Channel) → keysFault total row (a ++ (c ∷ b)) ≡ clear → framesFault 15 (keyFine total) none 0 c ≡ clear
+unfolding keysFault
+one-clear total row [] c b e = any-row 15 (keyFine total) none row 0 c (or-first _ _ e)
+one-clear total row (x ∷ a) c b e = one-clear total (row + length x) a c b (or-second _ _ e)
+
+-- a frame below a sound total
+pub asked-below : (total : ℤ) (at : ℕ) → totalFault total ≡ clear → at < natAbs total → isAsked total at ≡ true
+unfolding isAsked isClear
+asked-below total at e h = rw (e, lt-ltb at (natAbs total) h)
+
+-- ---- a range, values and flags
+
+pub range-within : (n f c : ℕ) → 0 < c → f + c ≤ n → isRange n (pos f) (pos c) ≡ true
+unfolding isRange
+range-within n f zero h l = absurd (omega arith)
+range-within n f (suc c) h l = le-leb (f + suc c) n l
+
+pub float-in-form : (z : ℤ) → inForm FLOAT z ≡ true → isFloat z ≡ true
+unfolding inForm isFloat
+float-in-form (pos n) e = e
+float-in-form (negsuc n) e = le-leb (suc n) 9999999999999 (let h = leb-true n 9999999999998 e in omega arith)
+
+pub values-fine : (c : List Key) → Every FloatValue c → valuesFine c ≡ true
+unfolding valuesFine
+values-fine [] h = refl
+values-fine (k ∷ c) h = rw (float-in-form (getD k 1 (pos 0)) (h .0)) (values-fine c (h .1))
+
+pub flags-in-row : (ps : List Pattern) → Every Flagged ps → Every (λ p. isRow 2 (getD p 2 (pos 0)) ≡ true) ps
+unfolding isRow
+flags-in-row [] h = tt
+flags-in-row (p ∷ ps) h = (rw (h .0 .is) (lt-ltb (h .0 .flag) 2 (h .0 .below)), flags-in-row ps (h .1))

@@ -1,0 +1,8 @@
+-- Sample from a movement's text.
+pub mod Laid
+pub mod Each
+pub mod Taken
+pub mod Channels
+pub mod Faultless
+pub mod Tables
+pub mod Sampling

@@ -1,0 +1,1 @@
+// Sample from a movement's text: definitions and theorems, and no code.
