@@ -2,3 +2,4 @@
 pub mod Turns
 pub mod SampleLines
 pub mod CornerLines
+pub mod ShownLines
