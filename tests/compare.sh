@@ -8,7 +8,8 @@ figures=${LISTING:-target/bin/listing}
 movements=${MOVEMENT_LISTING:-target/bin/movement_listing}
 corners=${CORNERS:-target/bin/corners}
 samples=${SAMPLES:-target/bin/samples}
-for program in "$figures" "$movements" "$corners" "$samples"; do
+shown=${SHOWN:-target/bin/shown}
+for program in "$figures" "$movements" "$corners" "$samples" "$shown"; do
     [ -x "$program" ] || { echo "$program is not there to run"; exit 1; }
 done
 
@@ -33,3 +34,4 @@ play_kind() { # PROGRAM KIND MEASURED
 }
 play_kind "$corners" figures corners
 play_kind "$samples" movements play
+"$programs/compare" --play "$shown" sound-pairs 3 200
