@@ -1,12 +1,15 @@
 #!/usr/bin/env bash
-# The listings against the independent reader: the papers' samples, sound and damaged texts, and the time.
+# The programs against the independent reader and player: the papers' samples, sound and damaged texts, and the time.
 # It runs once the programs are built. It needs cargo and rustc, and no network.
 set -eu
 cd "$(dirname "$0")/.."
 
 figures=${LISTING:-target/bin/listing}
 movements=${MOVEMENT_LISTING:-target/bin/movement_listing}
-for program in "$figures" "$movements"; do
+corners=${CORNERS:-target/bin/corners}
+samples=${SAMPLES:-target/bin/samples}
+shown=${SHOWN:-target/bin/shown}
+for program in "$figures" "$movements" "$corners" "$samples" "$shown"; do
     [ -x "$program" ] || { echo "$program is not there to run"; exit 1; }
 done
 
@@ -22,3 +25,13 @@ compare_kind() { # PROGRAM KIND
 }
 compare_kind "$figures" figures
 compare_kind "$movements" movements
+
+play_kind() { # PROGRAM KIND MEASURED
+    "$programs/compare" --play "$1" "samples-$2"
+    "$programs/compare" --play "$1" "sound-$2" 3 200
+    "$programs/compare" --play "$1" "damaged-$2" 4 300
+    "$programs/measure" "$1" "$3"
+}
+play_kind "$corners" figures corners
+play_kind "$samples" movements play
+"$programs/compare" --play "$shown" sound-pairs 3 200

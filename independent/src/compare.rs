@@ -1,7 +1,11 @@
-//! Another program's listings, compared with the listings of this reader.
+//! What another program prints of texts, compared with what this reader and
+//! player say of them.
 
-use crate::generate::{text, Kind};
-use crate::listing::{figure_listing, movement_listing};
+use crate::generate::rng::Rng;
+use crate::generate::{pair, text, Kind};
+use crate::listing::{
+    corner_listing, figure_listing, movement_listing, sample_listing, shown_listing,
+};
 use std::collections::BTreeMap;
 use std::error::Error;
 use std::io::{self, ErrorKind, Write};
@@ -13,9 +17,27 @@ use std::thread;
 /// How many programs run at a time.
 const THREADS: usize = 2;
 
+/// What is printed of a text.
+#[derive(Clone, Copy, Debug, PartialEq, Eq)]
+pub enum Content {
+    /// The rows of its table.
+    Listing,
+    /// Every corner of a figure, or every sample of a movement.
+    Played,
+}
+
+/// What a text holds. Of a pair it is printed whether its faces are shown.
+#[derive(Clone, Copy, Debug, PartialEq, Eq)]
+pub enum Subject {
+    Figure,
+    Movement,
+    Pair,
+}
+
 /// The texts that a comparison goes over.
 pub enum Texts {
     Generated { kind: Kind, seed: u64, count: u64 },
+    Pairs { seed: u64, count: u64 },
     Samples { figures: bool, files: Vec<Sample> },
 }
 
@@ -27,11 +49,14 @@ pub struct Sample {
 impl Texts {
     /// The texts of a kind, a seed and a count; there must be one at least.
     pub fn generated(kind: &str, seed: &str, count: &str) -> Result<Texts, Box<dyn Error>> {
-        let kind = Kind::from_word(kind).ok_or_else(|| format!("no such kind: {kind}"))?;
         let (seed, count) = (seed.parse()?, count.parse()?);
         if count == 0 {
             return Err("no texts to compare".into());
         }
+        if kind == "sound-pairs" {
+            return Ok(Texts::Pairs { seed, count });
+        }
+        let kind = Kind::from_word(kind).ok_or_else(|| format!("no such kind: {kind}"))?;
         Ok(Texts::Generated { kind, seed, count })
     }
 
@@ -63,31 +88,40 @@ impl Texts {
 
     pub fn count(&self) -> u64 {
         match self {
-            Texts::Generated { count, .. } => *count,
+            Texts::Generated { count, .. } | Texts::Pairs { count, .. } => *count,
             Texts::Samples { files, .. } => files.len() as u64,
         }
     }
 
-    pub fn is_figure(&self) -> bool {
-        match self {
+    pub fn subject(&self) -> Subject {
+        let figures = match self {
             Texts::Generated { kind, .. } => kind.is_figure(),
             Texts::Samples { figures, .. } => *figures,
+            Texts::Pairs { .. } => return Subject::Pair,
+        };
+        if figures {
+            Subject::Figure
+        } else {
+            Subject::Movement
         }
     }
 
     pub fn text(&self, index: u64) -> Vec<u8> {
         match self {
             Texts::Generated { kind, seed, .. } => text(*kind, *seed, index),
+            Texts::Pairs { seed, .. } => pair::sound(&mut Rng::new(*seed, index)),
             Texts::Samples { files, .. } => files[index as usize].text.clone(),
         }
     }
 
-    /// What this reader prints of a text.
-    pub fn listing(&self, text: &[u8]) -> String {
-        if self.is_figure() {
-            figure_listing(text)
-        } else {
-            movement_listing(text)
+    /// What this reader and player print of a text.
+    pub fn printed(&self, content: Content, text: &[u8]) -> String {
+        match (self.subject(), content) {
+            (Subject::Figure, Content::Listing) => figure_listing(text),
+            (Subject::Figure, Content::Played) => corner_listing(text),
+            (Subject::Movement, Content::Listing) => movement_listing(text),
+            (Subject::Movement, Content::Played) => sample_listing(text),
+            (Subject::Pair, _) => shown_listing(text),
         }
     }
 }
@@ -118,15 +152,18 @@ pub fn output(program: &Path, text: &[u8]) -> io::Result<Vec<u8>> {
     Ok(output.stdout)
 }
 
-/// How many texts were accepted, and how many refused with each number.
+/// How many texts were accepted, how many refused with each number, and how
+/// many lines were compared.
 #[derive(Clone, Debug, Default, PartialEq, Eq)]
 pub struct Tally {
     pub accepted: u64,
     pub refused: BTreeMap<u8, u64>,
+    pub lines: u64,
 }
 
 impl Tally {
     fn count(&mut self, listing: &str) {
+        self.lines += listing.bytes().filter(|&byte| byte == b'\n').count() as u64;
         let mut words = listing.split(['\t', '\n']);
         let refused = words.next() == Some("refused");
         match words.next().and_then(|word| word.parse().ok()) {
@@ -137,6 +174,7 @@ impl Tally {
 
     fn add(&mut self, other: Tally) {
         self.accepted += other.accepted;
+        self.lines += other.lines;
         for (number, count) in other.refused {
             *self.refused.entry(number).or_default() += count;
         }
@@ -157,7 +195,7 @@ pub struct Difference {
 }
 
 /// Runs the program on every text, up to the first difference.
-pub fn compare(program: &Path, texts: &Texts) -> Result<Tally, Box<Difference>> {
+pub fn compare(program: &Path, texts: &Texts, content: Content) -> Result<Tally, Box<Difference>> {
     let next = AtomicU64::new(0);
     let stopped = AtomicBool::new(false);
     let work = || {
@@ -167,7 +205,7 @@ pub fn compare(program: &Path, texts: &Texts) -> Result<Tally, Box<Difference>> 
             if index >= texts.count() {
                 break;
             }
-            if let Err(difference) = compare_one(program, texts, index, &mut tally) {
+            if let Err(difference) = compare_one(program, texts, content, index, &mut tally) {
                 stopped.store(true, Ordering::Relaxed);
                 return Err(difference);
             }
@@ -199,11 +237,12 @@ pub fn compare(program: &Path, texts: &Texts) -> Result<Tally, Box<Difference>> 
 fn compare_one(
     program: &Path,
     texts: &Texts,
+    content: Content,
     index: u64,
     tally: &mut Tally,
 ) -> Result<(), Box<Difference>> {
     let text = texts.text(index);
-    let expected = texts.listing(&text);
+    let expected = texts.printed(content, &text);
     let found = output(program, &text);
     if matches!(&found, Ok(found) if found == expected.as_bytes()) {
         tally.count(&expected);

@@ -4,7 +4,9 @@ use crate::cursor::Name;
 use crate::figure::{self, Face, Figure};
 use crate::figure_rules;
 use crate::limits;
+use crate::many;
 use crate::movement::{self, Movement};
+use crate::pair;
 use crate::play;
 use crate::refusal::Refusal;
 
@@ -135,6 +137,47 @@ pub fn sample_listing(text: &[u8]) -> String {
                     let numbers = [bone, channel, frame, value.numerator, value.denominator];
                     listing.push_str(&line("sample", &numbers));
                 }
+            }
+        }
+    }
+    listing
+}
+
+/// Every corner of a figure's faces, or its refusal.
+pub fn corner_listing(text: &[u8]) -> String {
+    let figure = match figure::read(text, limits::FIGURE_ROOM) {
+        Ok(figure) => figure,
+        Err(refusal) => return refused(refusal),
+    };
+    let mut listing = String::new();
+    for face in 0..figure.faces.len() as i64 {
+        for number in 0..4 {
+            if let Some(corner) = play::corner(&figure, face, number) {
+                let mut numbers = vec![face, number];
+                numbers.extend(corner.position);
+                numbers.extend([corner.owner, corner.material]);
+                numbers.extend(corner.uv.into_iter().flatten());
+                listing.push_str(&line("corner", &numbers));
+            }
+        }
+    }
+    listing
+}
+
+/// Whether each face is shown at each frame, 1 or 0, or the refusal of a pair.
+/// A text without a figure's record has an empty figure.
+pub fn shown_listing(text: &[u8]) -> String {
+    let (figure, movement) = many::split_first(text).unwrap_or((&[], text));
+    let (figure_room, movement_room) = (limits::FIGURE_ROOM, limits::MOVEMENT_ROOM);
+    let (figure, movement) = match pair::load(figure, movement, figure_room, movement_room) {
+        Ok(pair) => pair,
+        Err(found) => return refused(found.refusal),
+    };
+    let mut listing = String::new();
+    for face in 0..figure.faces.len() as i64 {
+        for frame in 0..movement.total_frames {
+            if let Some(shown) = play::shown(&figure, &movement, face, frame) {
+                listing.push_str(&line("shown", &[face, frame, i64::from(shown)]));
             }
         }
     }

@@ -9,6 +9,9 @@ use std::process::{Command, Output};
 
 const FIGURE: &str = env!("CARGO_BIN_EXE_figure_listing");
 const MOVEMENT: &str = env!("CARGO_BIN_EXE_movement_listing");
+const PLAY: &str = env!("CARGO_BIN_EXE_play");
+const CORNERS: &str = env!("CARGO_BIN_EXE_corners");
+const SHOWN: &str = env!("CARGO_BIN_EXE_shown");
 
 /// A directory of a test's own, to run in.
 fn directory(name: &str) -> PathBuf {
@@ -17,16 +20,22 @@ fn directory(name: &str) -> PathBuf {
     path
 }
 
-/// A program that alters what `figure_listing` prints.
+/// A program that alters what `figure_listing`, `play` or `corners` prints.
 fn wrong(name: &str) -> String {
     let path = Path::new(env!("CARGO_MANIFEST_DIR")).join("tests/wrong");
     path.join(name).to_str().unwrap().into()
 }
 
 fn compare(test: &str, arguments: &[&str]) -> Output {
+    let listing = match arguments {
+        ["--play", _, kind, ..] if kind.ends_with("movements") => PLAY,
+        ["--play", _, "sound-pairs", ..] => SHOWN,
+        ["--play", ..] => CORNERS,
+        _ => FIGURE,
+    };
     Command::new(env!("CARGO_BIN_EXE_compare"))
         .args(arguments)
-        .env("LISTING", FIGURE)
+        .env("LISTING", listing)
         .current_dir(directory(test))
         .output()
         .unwrap()
@@ -71,6 +80,78 @@ fn this_reader_agrees_on_the_samples() {
     let line = agrees(&[MOVEMENT, "samples-movements"]);
     let counts = "6 agreed, 3 accepted, 3 refused with 5";
     assert_eq!(line, format!("samples-movements: {counts}\n"));
+}
+
+#[test]
+fn this_player_agrees_with_itself() {
+    let line = agrees(&["--play", PLAY, "samples-movements"]);
+    // Ten channels of 11, 11 and 45 frames, and a line for each refusal.
+    let counts = "6 agreed, 3 accepted, 3 refused with 5; played, 673 lines";
+    assert_eq!(line, format!("samples-movements: {counts}\n"));
+    let line = agrees(&["--play", PLAY, "sound-movements", "1", "20"]);
+    assert!(
+        line.contains(": 20 agreed, 20 accepted; played, "),
+        "{line}"
+    );
+    let line = agrees(&["--play", PLAY, "damaged-movements", "1", "60"]);
+    assert!(line.contains(" refused with 5"), "{line}");
+}
+
+#[test]
+fn the_corners_agree_with_themselves() {
+    let line = agrees(&["--play", CORNERS, "samples-figures"]);
+    // Four corners of one face and of three, and a line for each refusal.
+    let counts = "4 agreed, 2 accepted, 2 refused with 5; played, 18 lines";
+    assert_eq!(line, format!("samples-figures: {counts}\n"));
+    let line = agrees(&["--play", CORNERS, "sound-figures", "1", "20"]);
+    assert!(
+        line.contains(": 20 agreed, 20 accepted; played, "),
+        "{line}"
+    );
+}
+
+/// A player right at frame 0 that repeats it, one that says 21 throughout,
+/// and one that rounds.
+#[test]
+fn a_wrong_player_differs() {
+    let line_of = |name: &str| {
+        let program = wrong(name);
+        let report = differs(name, &["--play", &program, "samples-movements"]);
+        let sample = "sample mended/sample01.tra\n";
+        assert!(report.contains(sample), "{report}");
+        let lines = report.lines().filter(|line| line.starts_with("found: "));
+        lines.collect::<Vec<_>>().join("")
+    };
+    let at = |part: &str| format!("found:    {}\\n", part.replace(' ', "\\t"));
+    assert_eq!(line_of("frame_0_repeated"), at("sample 0 9 1 0 1"));
+    assert_eq!(line_of("refused_throughout"), at("refused 21 0"));
+    assert_eq!(line_of("fraction_rounded"), at("sample 0 9 4 75134540 1"));
+}
+
+/// Pairs of every kind of face: shown and not, of a group and of none.
+#[test]
+fn the_faces_shown_agree_with_themselves() {
+    let line = agrees(&["--play", SHOWN, "sound-pairs", "1", "60"]);
+    assert!(
+        line.contains(": 60 agreed, 60 accepted; played, "),
+        "{line}"
+    );
+    for name in ["shown_throughout", "hidden_throughout"] {
+        let program = wrong(name);
+        let report = differs(name, &["--play", &program, "sound-pairs", "1", "60"]);
+        assert!(report.contains("expected: shown\\t"), "{report}");
+    }
+}
+
+/// Corners without their owners.
+#[test]
+fn wrong_corners_differ() {
+    let program = wrong("owner_missing");
+    let report = differs("owner", &["--play", &program, "samples-figures"]);
+    assert!(
+        report.contains("sample mended/sample01.bac\nline 1\n"),
+        "{report}"
+    );
 }
 
 #[test]
@@ -130,6 +211,7 @@ fn a_comparison_of_nothing_is_an_error() {
         &[FIGURE, "sound-figures", "1"],
         &[FIGURE, "unknown", "1", "1"],
         &[FIGURE, "samples"],
+        &["--play"],
         &[],
     ] {
         assert!(!compare("nothing", arguments).status.success());
@@ -157,7 +239,8 @@ fn measure_prints_a_ratio() {
             .output()
             .unwrap()
     };
-    for (program, kind) in [(FIGURE, "figures"), (MOVEMENT, "movements")] {
+    let kinds = [(FIGURE, "figures"), (MOVEMENT, "movements"), (PLAY, "play")];
+    for (program, kind) in kinds {
         let output = measure(program, kind);
         assert!(output.status.success());
         assert!(printed(&output).contains(" ms, ratio "));
@@ -166,5 +249,7 @@ fn measure_prints_a_ratio() {
     let dropped = measure(&wrong("last_line_dropped"), "figures");
     assert!(!dropped.status.success());
     assert!(!measure(FIGURE, "movements").status.success());
+    assert!(!measure(MOVEMENT, "play").status.success());
+    assert!(!measure(FIGURE, "corners").status.success());
     assert!(!measure(FIGURE, "others").status.success());
 }

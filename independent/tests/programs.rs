@@ -4,7 +4,9 @@ mod common;
 
 use common::{changed, FIGURE, MOVEMENT};
 use independent::generate::{text, Kind};
-use independent::listing::{figure_listing, movement_listing, sample_listing};
+use independent::listing::{
+    corner_listing, figure_listing, movement_listing, sample_listing, shown_listing,
+};
 use independent::many;
 use std::io::Write;
 use std::process::{Command, Output, Stdio};
@@ -32,8 +34,16 @@ fn one_text_and_many() {
     let figure = env!("CARGO_BIN_EXE_figure_listing");
     let movement = env!("CARGO_BIN_EXE_movement_listing");
     let play = env!("CARGO_BIN_EXE_play");
-    let listings: [fn(&[u8]) -> String; 3] = [figure_listing, movement_listing, sample_listing];
-    for (program, listing) in [figure, movement, play].into_iter().zip(listings) {
+    let corners = env!("CARGO_BIN_EXE_corners");
+    let shown = env!("CARGO_BIN_EXE_shown");
+    let programs: [(&str, fn(&[u8]) -> String); 5] = [
+        (figure, figure_listing),
+        (movement, movement_listing),
+        (play, sample_listing),
+        (corners, corner_listing),
+        (shown, shown_listing),
+    ];
+    for (program, listing) in programs {
         let texts = [FIGURE.as_bytes(), MOVEMENT.as_bytes(), b"", b"\xff"];
         let mut stream = Vec::new();
         let mut expected = String::new();
@@ -61,6 +71,56 @@ fn play_prints_every_sample() {
         output(env!("CARGO_BIN_EXE_play"), &[], bad.as_bytes()),
         "refused\t14\t0\n"
     );
+}
+
+/// The figure of the paper's listing, and one with texture coordinates.
+#[test]
+fn corners_prints_every_corner() {
+    let program = env!("CARGO_BIN_EXE_corners");
+    let expected = [
+        "corner\t0\t0\t0\t0\t0\t0\t0\n",
+        "corner\t0\t1\t1500000\t0\t0\t0\t0\n",
+        "corner\t0\t2\t0\t-1\t0\t-1\t0\n",
+    ];
+    assert_eq!(output(program, &[], FIGURE.as_bytes()), expected.concat());
+    let text = changed(
+        FIGURE,
+        "(Polygons",
+        "(TextureCoords(f2 0.5 1)(f2 0 -1))(Polygons",
+    );
+    let text = changed(&text, "(i3 0 1 2)(i3 -1 -1 -1)", "(i4 2 1 0 0)(i4 0 1 1 0)");
+    let expected = [
+        "corner\t0\t0\t0\t-1\t0\t-1\t0\t500000\t1000000\n",
+        "corner\t0\t1\t1500000\t0\t0\t0\t0\t0\t-1000000\n",
+        "corner\t0\t2\t0\t0\t0\t0\t0\t0\t-1000000\n",
+        "corner\t0\t3\t0\t0\t0\t0\t0\t500000\t1000000\n",
+    ];
+    assert_eq!(output(program, &[], text.as_bytes()), expected.concat());
+}
+
+/// Two faces with bones at every corner, one of a group with two lines.
+#[test]
+fn shown_prints_every_face_and_frame() {
+    let figure = changed(
+        FIGURE,
+        "(i3 0 1 2)(i3 -1 -1 -1))))",
+        "(i3 0 1 1)(i3 -1 -1 -1)))(DynamicPolygons(group(face 0(i3 0 1 0)(i3 -1 -1 -1)))))",
+    );
+    let movement = changed(MOVEMENT, "totalFrame 11", "totalFrame 7");
+    let movement = changed(&movement, "(kgf 4 1 false)", "(kgf 4 0 false)");
+    let text = many::pair(figure.as_bytes(), movement.as_bytes());
+    let lines = |face: i64, flags: [i64; 7]| -> String {
+        let flags = flags.iter().enumerate();
+        flags
+            .map(|(frame, flag)| format!("shown\t{face}\t{frame}\t{flag}\n"))
+            .collect()
+    };
+    let expected = lines(0, [1; 7]) + &lines(1, [1, 1, 1, 1, 0, 0, 0]);
+    let program = env!("CARGO_BIN_EXE_shown");
+    assert_eq!(output(program, &[], &text), expected);
+    let text = many::pair(figure.as_bytes(), MOVEMENT.as_bytes());
+    assert_eq!(output(program, &[], &text), "refused\t20\t1\n");
+    assert_eq!(output(program, &[], b"no record"), "refused\t2\t0\n");
 }
 
 #[test]

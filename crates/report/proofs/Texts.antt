@@ -89,7 +89,7 @@ fields-most (z ∷ zs) a = omega (arith, length-append (9 ∷ numeral z) (fields
 pub line-most : (word : List ℕ) (zs : List ℤ) → AllFit zs → length (line word zs) ≤ length word + 21 * length zs + 1
 line-most word zs a = omega (arith, line-length word zs, fields-most zs a)
 
-text-both : (ks ls : List (List ℕ)) → length (textOf (ks ++ ls)) ≡ length (textOf ks) + length (textOf ls)
+pub text-both : (ks ls : List (List ℕ)) → length (textOf (ks ++ ls)) ≡ length (textOf ks) + length (textOf ls)
 unfolding textOf
 text-both [] ls = omega arith
 text-both (k ∷ ks) ls = omega (arith, length-append k (textOf (ks ++ ls)), length-append k (textOf ks), text-both ks ls)

@@ -1,6 +1,8 @@
 //! `measure PROGRAM KIND` feeds the same large texts to a program and to this
 //! reader's own, in turn, and prints the times of all their runs, each from
-//! start to end, and the ratio of the two. KIND is figures or movements.
+//! start to end, and the ratio of the two. KIND is figures, movements, corners
+//! or play: with corners the programs print every corner of the figures, with
+//! play every sample of movements of few frames.
 
 use independent::compare::output;
 use independent::generate::rng::Rng;
@@ -11,21 +13,22 @@ use std::time::{Duration, Instant};
 
 const SEED: u64 = 1;
 const TEXTS: u64 = 20;
-const TIMES: u64 = 20;
 
 fn main() -> Result<(), Box<dyn Error>> {
     let arguments: Vec<String> = std::env::args().skip(1).collect();
     let words: Vec<&str> = arguments.iter().map(String::as_str).collect();
-    let (program, kind, own_name) = match words[..] {
-        [program, kind @ "figures"] => (program, kind, "figure_listing"),
-        [program, kind @ "movements"] => (program, kind, "movement_listing"),
-        _ => return Err("measure PROGRAM figures | measure PROGRAM movements".into()),
+    let (program, kind, own_name, times_each) = match words[..] {
+        [program, kind @ "figures"] => (program, kind, "figure_listing", 20),
+        [program, kind @ "movements"] => (program, kind, "movement_listing", 20),
+        [program, kind @ "corners"] => (program, kind, "corners", 10),
+        [program, kind @ "play"] => (program, kind, "play", 2),
+        _ => return Err("measure PROGRAM figures | movements | corners | play".into()),
     };
     let own = std::env::current_exe()?.with_file_name(own_name);
     let mut times = [Duration::ZERO; 2];
     for index in 0..TEXTS {
         let text = large(kind, index);
-        for _ in 0..TIMES {
+        for _ in 0..times_each {
             let found = timed(Path::new(program), &text, &mut times[0])?;
             let expected = timed(&own, &text, &mut times[1])?;
             if found != expected {
@@ -35,19 +38,28 @@ fn main() -> Result<(), Box<dyn Error>> {
     }
     let [program_time, own_time] = times.map(|time| time.as_secs_f64() * 1000.0);
     println!(
-        "{} runs on {TEXTS} large {kind}: {program} {program_time:.0} ms, {own_name} {own_time:.0} ms, ratio {:.2}",
-        TEXTS * TIMES,
+        "{} runs on {TEXTS} large {}: {program} {program_time:.0} ms, {own_name} {own_time:.0} ms, ratio {:.2}",
+        TEXTS * times_each,
+        title(kind),
         program_time / own_time
     );
     Ok(())
 }
 
+fn title(kind: &str) -> &str {
+    match kind {
+        "corners" => "figures, every corner",
+        "play" => "movements, every sample",
+        _ => kind,
+    }
+}
+
 fn large(kind: &str, index: u64) -> Vec<u8> {
     let mut rng = Rng::new(SEED, index);
-    if kind == "figures" {
-        figure_limits::full(&mut rng).text(&mut rng)
-    } else {
-        movement::full(&mut rng).text(&mut rng)
+    match kind {
+        "figures" | "corners" => figure_limits::full(&mut rng).text(&mut rng),
+        "play" => movement::short(&mut rng).text(&mut rng),
+        _ => movement::full(&mut rng).text(&mut rng),
     }
 }
 

@@ -7,6 +7,7 @@ pub mod figure_limits;
 pub mod movement;
 pub mod movement_damage;
 pub mod number;
+pub mod pair;
 pub mod piece;
 pub mod piece_damage;
 pub mod plan;

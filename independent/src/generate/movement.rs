@@ -118,6 +118,16 @@ fn bare() -> Bone {
 /// A sound movement that fills the table: every list at its most.
 pub fn full(rng: &mut Rng) -> Movement {
     let total_frames = rng.between(4, limits::TOTAL_FRAMES);
+    full_of(rng, total_frames)
+}
+
+/// One that fills the table and has few frames, to be played at every one.
+pub fn short(rng: &mut Rng) -> Movement {
+    let total_frames = rng.between(20, 40);
+    full_of(rng, total_frames)
+}
+
+fn full_of(rng: &mut Rng, total_frames: i64) -> Movement {
     let mut movement = Movement {
         total_frames,
         name: None,

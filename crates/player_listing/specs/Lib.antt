@@ -1,0 +1,4 @@
+pub mod Parts
+pub mod Samples
+pub mod Corners
+pub mod Faces

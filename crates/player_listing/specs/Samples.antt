@@ -1,0 +1,38 @@
+-- A sample as text: a line of fields, or the fraction as document 01 writes it.
+use mathlib.Core.List.{List, [], _∷_}
+use mathlib.Core.Option.{Option, none, some}
+use Prim.Native.Nat.{ℕ}
+use lib.IntN.{ℤ, pos}
+use Rattle.lexer.specs.Bytes.{bytes}
+use Rattle.report.specs.Text.{numeral, line}
+use Rattle.report.specs.Lists.{shown, textOf}
+use Rattle.player.specs.Fractions.{Fraction}
+use Rattle.player.specs.Lookups.{sampleIn}
+use Rattle.player.specs.Answers.{numbered}
+use Rattle.player.specs.declared.counts.MovementCounts.{MovementCounts}
+use Rattle.player_listing.specs.Parts.{linesFrom}
+
+-- a refusal's number and its place, 0
+unfoldable pub refusedLine : ℕ → List ℕ
+refusedLine n = line (bytes "refused") (shown n ∷ pos 0 ∷ [])
+
+-- bone, channel and frame, then numerator and denominator
+unfoldable pub sampleLine : ℕ → ℕ → ℕ → ℕ × Option Fraction → List ℕ
+sampleLine bone channel at (n, none) = refusedLine n
+sampleLine bone channel at (n, some f) = line (bytes "sample") (shown bone ∷ shown channel ∷ shown at ∷ f .numerator ∷ shown (f .denominator) ∷ [])
+
+-- the lines of so many frames from a frame on
+unfoldable pub sampleLines : MovementCounts → List ℤ → ℕ → ℕ → ℕ → ℕ → List (List ℕ)
+sampleLines n table bone channel = linesFrom (λ at. sampleLine bone channel at (numbered (sampleIn n table bone channel at)) ∷ [])
+
+unfoldable pub sampleText : MovementCounts → List ℤ → ℕ → ℕ → ℕ → ℕ → List ℕ
+sampleText n table bone channel at k = textOf (sampleLines n table bone channel at k)
+
+-- ---- numerator, bar, denominator and a line feed
+
+unfoldable pub fractionParts : ℕ × Option Fraction → List (List ℕ)
+fractionParts (n, none) = refusedLine n ∷ []
+fractionParts (n, some f) = numeral (f .numerator) ∷ bytes "/" ∷ numeral (shown (f .denominator)) ∷ (10 ∷ []) ∷ []
+
+unfoldable pub fractionText : ℕ × Option Fraction → List ℕ
+fractionText a = textOf (fractionParts a)
