@@ -27,7 +27,7 @@ use Rattle.player.specs.Lookups.{onlyIf, allFloat, faceAt, ownerAt, faceFine, p
 use Rattle.movement_bridge.proofs.Laid.{row-laid}
 use Rattle.figure_bridge.specs.Rows.{noFace, faceOf, groupedFaceOf}
 use Rattle.figure_bridge.proofs.Sound.{every-at, counts-sound, parents-sound, faces-sound}
-use Rattle.figure_bridge.proofs.Tests.{row-natural, row-below, either-true, all-at, all-float, owner-known}
+use Rattle.figure_bridge.proofs.Tests.{or-yes, row-natural, row-below, either-true, all-at, all-float, owner-known}
 use Rattle.figure_bridge.proofs.Parts.{counts, figure-long, points-stand, uvs-stand, faces-stand, owner-stands}
 use Rattle.figure_bridge.proofs.Grouped.{groupNumber, rowOf, face-grouped, row-grouped, group-known}
 use Rattle.figure_bridge.proofs.FaceRows.{cornerAt, row-material, row-size, row-vertex, row-uv, below-four, vertices-sound, uvs-sound, face-fine}
@@ -43,10 +43,6 @@ module _ (n : FigureCounts) (t : List ℤ) (face k : ℕ) (g : ℤ) (f : Face) w
 rows-float : (rs : List (List ℤ)) (z : ℤ) → Every (AllIn FLOAT) rs → isRow (length rs) z ≡ true → allFloat (rowAt rs z) ≡ true
 unfolding rowAt
 rows-float rs z h e = all-float _ (every-at (AllIn FLOAT) rs (natAbs z) [] h (row-below (length rs) z e))
-
-or-yes : (b : Bool) → (b || true) ≡ true
-or-yes true = refl
-or-yes false = refl
 
 -- ---- what stands in a figure's table
 

@@ -1,5 +1,5 @@
 -- Shown on a figure's and a movement's tables is Shown on their lists, and 21 only where a group face meets a pattern whose group is no row: each number that the lookup reads is the list's, and each other test passes.
-use mathlib.Core.Path.{_≡_, refl, ap₂, _∙_}
+use mathlib.Core.Path.{_≡_, refl, ap₂, sym, _∙_}
 use mathlib.Core.List.{List, [], _∷_, _++_}
 use mathlib.Core.Bool.{Bool, true, false, not, _&&_, _||_}
 use mathlib.Core.Option.{Option, none, some}
@@ -22,8 +22,9 @@ use Rattle.player.specs.Faces.{allOwned, groupShown, shownOf}
 use Rattle.player.specs.Columns.{numberAt, isClear, holdsFigure, holdsMovement}
 use Rattle.references.specs.Index.{isIndex}
 use Rattle.player.specs.Lookups.{onlyIf, isAsked, sizeFine, cornersFine, faceAt, ownerAt, ownersFine, ownedCorners, patternRows, linesFine, patternsFine, canShow, groupFlag, shownIn}
-use Rattle.figure_bridge.specs.Rows.{groupedFaceOf, hasNoGroup, groupsKnown}
-use Rattle.figure_bridge.proofs.Tests.{owner-known}
+use Rattle.pair_text.specs.Rules.{groupsFault}
+use Rattle.figure_bridge.specs.Rows.{groupedFaceOf, hasNoGroup}
+use Rattle.figure_bridge.proofs.Tests.{owner-known, first-bad-clear}
 use Rattle.figure_bridge.proofs.Parts.{counts}
 use Rattle.figure_bridge.proofs.Grouped.{groupNumber, group-known}
 use Rattle.figure_bridge.proofs.FaceRows.{row-size, row-vertices, row-group, filled, vertex-corners, size-fine, vertices-fine}
@@ -108,8 +109,8 @@ module _ (f : Figure) (w : WholeFigure f) (c : figureFault f ≡ clear) (rest : 
   used-same : ownedCorners (counts f) table (this .0 .size) (corners 4 (this .0 .vertices)) ≡ allOwned (f .bones) (this .0 .vertices)
   used-same = let p = filled (this .0 .vertices) (vertex-corners (this .0) whole) in rw (p .here, ← whole .vertices) (owners-same (counts f) table (f .bones) refl (owner-of f w c rest) (this .0 .vertices) (p .unused) rows)
 
-  pub shown-stands : (n : MovementCounts) (moves : List ℤ) (m : Movement) (at : ℕ) → holdsMovement n moves ≡ true → isAsked (numberAt moves 0) at ≡ true → patternRows (counts f) table n moves ≡ m .patterns → patternsFault (numberAt moves 0) (m .patterns) ≡ clear → Every (λ p. isRow 2 (getD p 2 (pos 0)) ≡ true) (m .patterns) → shownIn (counts f) table n moves face at ≡ onlyIf (hasNoGroup this || groupsKnown f m) (shownOf (f .bones) (m .patterns) this at)
-  unfolding groupsKnown shownOf
+  pub shown-stands : (n : MovementCounts) (moves : List ℤ) (m : Movement) (at : ℕ) → holdsMovement n moves ≡ true → isAsked (numberAt moves 0) at ≡ true → patternRows (counts f) table n moves ≡ m .patterns → patternsFault (numberAt moves 0) (m .patterns) ≡ clear → Every (λ p. isRow 2 (getD p 2 (pos 0)) ≡ true) (m .patterns) → shownIn (counts f) table n moves face at ≡ onlyIf (hasNoGroup this || isClear (groupsFault (length (f .groups)) (m .patterns))) (shownOf (f .bones) (m .patterns) this at)
+  unfolding groupsFault shownOf
   shown-stands n moves m at moving asked lines sound flags =
       shown-by (counts f) table n moves face at (groupNumber (this .1)) (this .0)
       (face-stands f w c rest face below)
@@ -122,5 +123,5 @@ module _ (f : Figure) (w : WholeFigure f) (c : figureFault f ≡ clear) (rest : 
       used-fine
       (group-known f face below)
       ∙ ap₂ onlyIf
-      (ap₂ _||_ (no-group this) (patterns-known (counts f) table n moves (m .patterns) lines sound flags))
+      (ap₂ _||_ (no-group this) (patterns-known (counts f) table n moves (m .patterns) lines sound flags ∙ sym (first-bad-clear 20 (λ (p : Pattern). isRow (length (f .groups)) (groupOf p)) 0 (m .patterns))))
       (ap₂ _&&_ used-same (flag-shown (counts f) table n moves (this .1) at (m .patterns) lines))

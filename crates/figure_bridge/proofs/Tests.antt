@@ -1,7 +1,7 @@
 -- What the tests of rows and ranges say of a number: a row is a natural number below the count, FLOAT's form is FLOAT's range, and an owner is a bone's row or -1.
 use mathlib.Core.Path.{_≡_, refl}
 use mathlib.Core.List.{List, [], _∷_}
-use mathlib.Core.Bool.{Bool, true, false, _||_, false≢true}
+use mathlib.Core.Bool.{Bool, true, false, _&&_, _||_, false≢true}
 use mathlib.Core.Logic.{_⊎_, inl, inr}
 use Prim.Native.Nat.{ℕ, zero, suc, _+_, _<_, _≤_}
 use native.Mathlib.Omega.{arith}
@@ -11,9 +11,10 @@ use lib.ListN.{length, getD}
 use Rattle.lexer.specs.Numbers.{FLOAT}
 use Rattle.lexer.proofs.Numerals.{and-true}
 use Rattle.bac6_text.specs.Figure.{Bone}
-use Rattle.bac6_text.specs.Rules.{isRow, isNone, all, member, ownerFrom, ownerOf}
+use Rattle.bac6_text.specs.Rules.{isRow, isNone, all, firstBad, member, ownerFrom, ownerOf}
 use Rattle.chunks.proofs.Ranges.{AllIn}
 use Rattle.references.specs.Index.{isIndex}
+use Rattle.player.specs.Columns.{isClear}
 use Rattle.player.specs.Lookups.{allFloat}
 use Rattle.movement_bridge.proofs.Faultless.{float-in-form}
 
@@ -58,3 +59,19 @@ owner-from n row z (b ∷ bs) h = go (member z (b .vertices)) refl (owner-from n
 pub owner-known : (bs : List Bone) (z : ℤ) → isIndex (length bs) (ownerOf bs z) ≡ true
 unfolding ownerOf
 owner-known bs z = owner-from (length bs) 0 z bs (omega arith)
+
+-- ---- rows that pass a test
+
+pub or-yes : (b : Bool) → (b || true) ≡ true
+or-yes true = refl
+or-yes false = refl
+
+-- the first row at fault is none exactly where all rows pass
+pub first-bad-clear : {A : Type 0} (n : ℕ) (t : A → Bool) (row : ℕ) (l : List A) → isClear (firstBad n t row l) ≡ all t l
+unfolding firstBad all isClear
+first-bad-clear n t row [] = refl
+first-bad-clear n t row (a ∷ l) = go (t a) refl (first-bad-clear n t (suc row) l)
+  where
+    go : (v : Bool) → t a ≡ v → isClear (firstBad n t (suc row) l) ≡ all t l → isClear (firstBad n t row (a ∷ l)) ≡ (t a && all t l)
+    go true e ih = rw (e, firstBad) ih
+    go false e ih = rw (e, firstBad)

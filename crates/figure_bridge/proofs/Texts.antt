@@ -1,12 +1,12 @@
 -- Corner and Shown from the texts: on the tables that reading leaves they are what the texts' lists say. A text that is taken gives its lists, and no rule is broken.
 use mathlib.Core.Path.{_≡_, refl, ap, _∙_}
 use mathlib.Core.List.{List, _++_}
-use mathlib.Core.Bool.{Bool, true, false, _||_}
-use mathlib.Core.Option.{Option, none, some}
+use mathlib.Core.Bool.{Bool, _||_}
+use mathlib.Core.Option.{Option, some}
 use Prim.Native.Nat.{ℕ, _<_}
 use lib.IntN.{ℤ, natAbs}
 use lib.ListN.{length, drop}
-use Rattle.lexer.specs.Faults.{bac}
+use Rattle.lexer.specs.Faults.{bac, clear}
 use Rattle.lexer.specs.Tokens.{lex}
 use Rattle.chunks.specs.Outcomes.{Outcome, accepted, laid}
 use Rattle.bac6_text.specs.Figure.{Figure}
@@ -20,12 +20,15 @@ use Rattle.tra4.specs.Answers as tra4
 use Rattle.tra4_text.specs.Movement.{Movement}
 use Rattle.tra4_text.specs.Answer.{movementAnswer, movementTable}
 use Rattle.player.specs.Faces.{cornerOf, shownOf}
+use Rattle.player.specs.Columns.{isClear}
 use Rattle.player.specs.Lookups.{onlyIf, patternRows, cornerIn, shownIn}
 use Rattle.movement_bridge.specs.Counts as movement
 use Rattle.movement_bridge.proofs.Taken.{Taken, taken}
 use Rattle.movement_bridge.proofs.Tables.{movement-holds, total-stands, frame-asked, patterns-stand, patterns-clear, flags-fine}
-use Rattle.figure_bridge.specs.Rows.{countsIn, faceOf, groupedFaceOf, hasNoGroup, groupsKnown}
+use Rattle.pair_text.specs.Rules.{groupsFault}
+use Rattle.figure_bridge.specs.Rows.{countsIn, faceOf, groupedFaceOf, hasNoGroup}
 use Rattle.figure_bridge.proofs.Parts.{counts}
+use Rattle.figure_bridge.proofs.Tests.{or-yes}
 use Rattle.figure_bridge.proofs.Corners.{corner-stands}
 use Rattle.figure_bridge.proofs.Showing.{shown-stands}
 
@@ -57,8 +60,8 @@ module _ (text : List ℕ) (table : List ℤ) (f : Figure) (e : figureAnswer tex
     shown face at = shownIn (countsIn (answerOf (accepted f))) (tableAfter text table) (movement.countsIn (tra4.answerOf (accepted m))) (movementTable movementText moves) face at
 
     module _ (face at : ℕ) (below : face < length (facesOf f)) (frame : at < natAbs (m .totalFrames)) where
-      -- the answer, and 21 exactly where a group face meets a pattern whose group is no row
-      pub shown-or-refused : shown face at ≡ onlyIf (hasNoGroup (groupedFaceOf f face) || groupsKnown f m) (shownOf (f .bones) (m .patterns) (groupedFaceOf f face) at)
+      -- the answer, and 21 exactly where a group face meets a pattern whose group is no row, which is where rule 20 refuses the pair
+      pub shown-or-refused : shown face at ≡ onlyIf (hasNoGroup (groupedFaceOf f face) || isClear (groupsFault (length (f .groups)) (m .patterns))) (shownOf (f .bones) (m .patterns) (groupedFaceOf f face) at)
       shown-or-refused =
           rw (counts-are f, table-read)
           (shown-stands f whole (read .shape .clean) (drop (length (layoutOf f)) table) face below _ _ m at
@@ -68,10 +71,6 @@ module _ (text : List ℕ) (table : List ℤ) (f : Figure) (e : figureAnswer tex
           (rw (total-stands movementText moves m d) (patterns-clear movementText moves m d))
           (flags-fine movementText moves m d))
 
-      pub shown-from-text : (hasNoGroup (groupedFaceOf f face) || groupsKnown f m) ≡ true → shown face at ≡ some (shownOf (f .bones) (m .patterns) (groupedFaceOf f face) at)
-      unfolding onlyIf
-      shown-from-text h = shown-or-refused ∙ rw h
-
-      pub shown-without-group : hasNoGroup (groupedFaceOf f face) ≡ false → groupsKnown f m ≡ false → shown face at ≡ none
-      unfolding onlyIf
-      shown-without-group g h = shown-or-refused ∙ rw (g, h)
+      pub shown-from-text : groupsFault (length (f .groups)) (m .patterns) ≡ clear → shown face at ≡ some (shownOf (f .bones) (m .patterns) (groupedFaceOf f face) at)
+      unfolding onlyIf isClear
+      shown-from-text h = shown-or-refused ∙ rw h (ap (λ (b : Bool). onlyIf b (shownOf (f .bones) (m .patterns) (groupedFaceOf f face) at)) (or-yes (hasNoGroup (groupedFaceOf f face))))

@@ -1,0 +1,1 @@
+// The specification of pairs: definitions and no code.
