@@ -32,26 +32,26 @@ use Rattle.figure_bridge.proofs.Tests.{or-yes}
 use Rattle.figure_bridge.proofs.Corners.{corner-stands}
 use Rattle.figure_bridge.proofs.Showing.{shown-stands}
 
-counts-are : (f : Figure) → countsIn (answerOf (accepted f)) ≡ counts f
+pub counts-are : (f : Figure) → countsIn (answerOf (accepted f)) ≡ counts f
 unfolding countsIn answerOf
 counts-are f = refl
 
 module _ (text : List ℕ) (table : List ℤ) (f : Figure) (e : figureAnswer text (length table) ≡ accepted f) where
-  read : Taken figure figureFault layoutOf text (length table) f
+  pub figure-taken : Taken figure figureFault layoutOf text (length table) f
   unfolding figureAnswer figureOutcome
-  read = taken bac figure figureFault layoutOf text (length table) f e
+  figure-taken = taken bac figure figureFault layoutOf text (length table) f e
 
-  whole : WholeFigure f
-  whole = figure-whole (lex text) f (read .shape .left) (read .shape .gives)
+  pub whole-figure : WholeFigure f
+  whole-figure = figure-whole (lex text) f (figure-taken .shape .left) (figure-taken .shape .gives)
 
-  table-read : tableAfter text table ≡ layoutOf f ++ drop (length (layoutOf f)) table
+  pub figure-table : tableAfter text table ≡ layoutOf f ++ drop (length (layoutOf f)) table
   unfolding tableAfter laid
-  table-read = ap (λ (o : Outcome Figure). laid layoutOf table o) e
+  figure-table = ap (λ (o : Outcome Figure). laid layoutOf table o) e
 
   -- ---- Corner
 
   pub corner-from-text : (face k : ℕ) → face < length (facesOf f) → k < faceOf f face .size → cornerIn (countsIn (answerOf (accepted f))) (tableAfter text table) face k ≡ some (cornerOf f (faceOf f face) k)
-  corner-from-text face k below used = rw (counts-are f, table-read) (corner-stands f whole (read .shape .clean) (drop (length (layoutOf f)) table) face k below used)
+  corner-from-text face k below used = rw (counts-are f, figure-table) (corner-stands f whole-figure (figure-taken .shape .clean) (drop (length (layoutOf f)) table) face k below used)
 
   -- ---- Shown
 
@@ -63,8 +63,8 @@ module _ (text : List ℕ) (table : List ℤ) (f : Figure) (e : figureAnswer tex
       -- the answer, and 21 exactly where a group face meets a pattern whose group is no row, which is where rule 20 refuses the pair
       pub shown-or-refused : shown face at ≡ onlyIf (hasNoGroup (groupedFaceOf f face) || isClear (groupsFault (length (f .groups)) (m .patterns))) (shownOf (f .bones) (m .patterns) (groupedFaceOf f face) at)
       shown-or-refused =
-          rw (counts-are f, table-read)
-          (shown-stands f whole (read .shape .clean) (drop (length (layoutOf f)) table) face below _ _ m at
+          rw (counts-are f, figure-table)
+          (shown-stands f whole-figure (figure-taken .shape .clean) (drop (length (layoutOf f)) table) face below _ _ m at
           (movement-holds movementText moves m d)
           (rw (total-stands movementText moves m d) (frame-asked movementText moves m d at frame))
           (unfold patternRows in patterns-stand movementText moves m d)

@@ -1,0 +1,123 @@
+-- Sample, Corner and Shown on the tables of taken texts, whatever is asked: the texts' own answer, and 21 exactly for what is not in the files; by cases on what exists.
+use mathlib.Core.Path.{_≡_, refl, ap, sym, _∙_}
+use mathlib.Core.List.{List}
+use mathlib.Core.Bool.{Bool, true, false, _&&_}
+use mathlib.Core.Option.{Option, none, some}
+use Prim.Native.Nat.{ℕ, _≤_, _<_}
+use native.Mathlib.Omega.{arith}
+use borrow.Author.Tests.{ltb-true, ltb-false, le-ltb}
+use lib.Dec.{ltb}
+use lib.IntN.{ℤ, pos, natAbs}
+use lib.ListN.{length, getD, drop}
+use Rattle.lexer.specs.Faults.{clear}
+use Rattle.chunks.specs.Outcomes.{accepted}
+use Rattle.bac6_text.specs.Figure.{Face, Figure}
+use Rattle.bac6_text.specs.Rules.{facesOf}
+use Rattle.bac6_text.specs.Layout.{layoutOf}
+use Rattle.bac6_text.specs.Answer.{figureAnswer, tableAfter}
+use Rattle.tra4_text.specs.Movement.{Movement}
+use Rattle.tra4_text.specs.Rules.{totalFault}
+use Rattle.tra4_text.specs.Answer.{movementAnswer, movementTable}
+use Rattle.pair_text.specs.Rules.{groupsFault}
+use Rattle.bac6.specs.Answers as bac6
+use Rattle.tra4.specs.Answers as tra4
+use Rattle.player.specs.Fractions.{Fraction}
+use Rattle.player.specs.Columns.{isClear, numberAt, holdsFigure}
+use Rattle.player.specs.Faces.{CornerOf}
+use Rattle.player.specs.Rows.{rowCorner}
+use Rattle.player.specs.Lookups.{onlyIf, isAsked, faceFine, faceAt, sampleIn, cornerIn, shownIn}
+use Rattle.player.proofs.Sampled as samples
+use Rattle.player.proofs.CornerTests as corners
+use Rattle.player.proofs.ShownTests as shown
+use Rattle.movement_bridge.specs.Counts as movement
+use Rattle.movement_bridge.proofs.Tables.{clean-read, total-clear, movement-holds, total-stands}
+use Rattle.movement_bridge.proofs.Sampling.{sample-from-text}
+use Rattle.figure_bridge.specs.Rows as figure
+use Rattle.figure_bridge.specs.Rows.{faceOf, groupedFaceOf}
+use Rattle.figure_bridge.proofs.Parts.{counts}
+use Rattle.figure_bridge.proofs.Grouped.{groupNumber, rowOf, face-grouped}
+use Rattle.figure_bridge.proofs.FaceRows.{row-size}
+use Rattle.figure_bridge.proofs.Corners.{figure-holds, face-stands}
+use Rattle.figure_bridge.proofs.Texts.{counts-are, figure-taken, whole-figure, figure-table, corner-from-text, shown-from-text}
+use Rattle.pair_bridge.specs.Playing.{framesOf, sampleAsked, cornerAsked, shownAsked}
+
+not-below : (total : ℤ) (at : ℕ) → ltb at (natAbs total) ≡ false → isAsked total at ≡ false
+unfolding isAsked
+not-below total at h = rw h (go (isClear (totalFault total)))
+  where
+    go : (b : Bool) → (b && false) ≡ false
+    go true = refl
+    go false = refl
+
+-- ---- a movement
+
+module _ (text : List ℕ) (table : List ℤ) (m : Movement) (e : movementAnswer text (length table) ≡ accepted m) where
+  abbrev sampled : ℕ → ℕ → ℕ → Option Fraction
+  sampled bone channel at = sampleIn (movement.countsIn (tra4.answerOf (accepted m))) (movementTable text table) bone channel at
+
+  -- a frame that is not below the total is not asked
+  pub frame-past : (at : ℕ) → ltb at (framesOf m) ≡ false → isAsked (numberAt (movementTable text table) 0) at ≡ false
+  unfolding framesOf
+  frame-past at h = rw (total-stands text table m e) (not-below (m .totalFrames) at h)
+
+  pub sample-asked : (bone channel at : ℕ) → sampled bone channel at ≡ sampleAsked m bone channel at
+  unfolding sampleAsked onlyIf movement.countsIn tra4.answerOf
+  sample-asked bone channel at = go (ltb bone (length (m .bones))) (ltb channel 10) (ltb at (framesOf m)) refl refl refl
+    where
+      go : (a b c : Bool) → ltb bone (length (m .bones)) ≡ a → ltb channel 10 ≡ b → ltb at (framesOf m) ≡ c → sampled bone channel at ≡ sampleAsked m bone channel at
+      go true true true p q r = sample-from-text text table m e bone channel at (ltb-true _ _ p) (ltb-true _ _ q) (unfold framesOf in ltb-true _ _ r) ∙ rw (p, q, r)
+      go false b c p q r = sym (samples.no-bone _ _ bone channel at (movement-holds text table m e) (ltb-false _ _ p)) ∙ rw p
+      go true false c p q r = sym (samples.no-channel _ _ bone channel at (movement-holds text table m e) (ltb-true _ _ p) (ltb-false _ _ q)) ∙ rw (p, q)
+      go true true false p q r = sym (samples.not-asked _ _ bone channel at (movement-holds text table m e) (ltb-true _ _ p) (ltb-true _ _ q) (frame-past at r)) ∙ rw (p, q, r)
+
+-- ---- a figure
+
+module _ (text : List ℕ) (table : List ℤ) (f : Figure) (e : figureAnswer text (length table) ≡ accepted f) where
+  abbrev rest : List ℤ
+  rest = drop (length (layoutOf f)) table
+
+  pub figure-holds-read : holdsFigure (figure.countsIn (bac6.answerOf (accepted f))) (tableAfter text table) ≡ true
+  figure-holds-read = rw (counts-are f, figure-table text table f e) (figure-holds f (whole-figure text table f e) (figure-taken text table f e .shape .clean) rest)
+
+  abbrev cornered : ℕ → ℕ → Option CornerOf
+  cornered face k = cornerIn (figure.countsIn (bac6.answerOf (accepted f))) (tableAfter text table) face k
+
+  -- the size that the row says
+  row-sized : (face : ℕ) → face < length (facesOf f) → natAbs (getD (faceAt (counts f) (tableAfter text table) face) 1 (pos 0)) ≡ faceOf f face .size
+  row-sized face h =
+      rw (figure-table text table f e, face-stands f (whole-figure text table f e) (figure-taken text table f e .shape .clean) rest face h) (ap natAbs (row-size (groupNumber (groupedFaceOf f face .1)) (groupedFaceOf f face .0)))
+      ∙ ap (λ (x : Face). x .size) (face-grouped f face)
+
+  no-corner : (face k : ℕ) → face < length (facesOf f) → faceOf f face .size ≤ k → none ≡ cornerIn (counts f) (tableAfter text table) face k
+  no-corner face k h l = go (faceFine (counts f) (faceAt (counts f) (tableAfter text table) face)) refl ∙ corners.by-row _ _ face k (rw (counts-are f) at figure-holds-read) h
+    where
+      go : (b : Bool) → faceFine (counts f) (faceAt (counts f) (tableAfter text table) face) ≡ b → none ≡ rowCorner (counts f) (tableAfter text table) (faceAt (counts f) (tableAfter text table) face) k
+      go true p = corners.no-corner _ _ _ k p (rw (row-sized face h) l)
+      go false p = corners.row-broken _ _ _ k p
+
+  pub corner-asked : (face k : ℕ) → cornered face k ≡ cornerAsked f face k
+  unfolding cornerAsked onlyIf
+  corner-asked face k = go (ltb face (length (facesOf f))) (ltb k (faceOf f face .size)) refl refl
+    where
+      go : (a b : Bool) → ltb face (length (facesOf f)) ≡ a → ltb k (faceOf f face .size) ≡ b → cornered face k ≡ cornerAsked f face k
+      go true true p q = corner-from-text text table f e face k (ltb-true _ _ p) (ltb-true _ _ q) ∙ rw (p, q)
+      go false b p q = rw (counts-are f, p) (sym (corners.no-face _ _ face k (rw (counts-are f) at figure-holds-read) (ltb-false _ _ p)))
+      go true false p q = rw (counts-are f, p, q) (sym (no-corner face k (ltb-true _ _ p) (ltb-false _ _ q)))
+
+  -- ---- a pair that rule 20 does not refuse
+
+  module _ (movementText : List ℕ) (moves : List ℤ) (m : Movement) (d : movementAnswer movementText (length moves) ≡ accepted m) (known : groupsFault (length (f .groups)) (m .patterns) ≡ clear) where
+    abbrev showed : ℕ → ℕ → Option Bool
+    showed face at = shownIn (figure.countsIn (bac6.answerOf (accepted f))) (tableAfter text table) (movement.countsIn (tra4.answerOf (accepted m))) (movementTable movementText moves) face at
+
+    pub shown-asked : (face at : ℕ) → showed face at ≡ shownAsked f m face at
+    unfolding shownAsked onlyIf
+    shown-asked face at = go (ltb face (length (facesOf f))) (ltb at (framesOf m)) refl refl
+      where
+        held : holdsFigure (counts f) (tableAfter text table) ≡ true
+        held = rw (counts-are f) at figure-holds-read
+
+        go : (a b : Bool) → ltb face (length (facesOf f)) ≡ a → ltb at (framesOf m) ≡ b → showed face at ≡ shownAsked f m face at
+        go true true p q = shown-from-text text table f e movementText moves m d face at (ltb-true _ _ p) (unfold framesOf in ltb-true _ _ q) known ∙ rw (p, q)
+        go false b p q = rw (counts-are f, p) (sym (shown.no-face _ _ _ _ face at held (movement-holds movementText moves m d) (ltb-false _ _ p)))
+        go true false p q = rw (counts-are f, p, q) (sym (shown.not-asked _ _ _ _ face at held (movement-holds movementText moves m d) (ltb-true _ _ p) (frame-past movementText moves m d at q)))

@@ -1,0 +1,31 @@
+-- What Sample, Shown and Corner answer from the two texts' lists alone (document 01, "Playing"): the meaning of what exists, none of what does not.
+use mathlib.Core.Bool.{Bool, _&&_}
+use mathlib.Core.Option.{Option}
+use Prim.Native.Nat.{ℕ}
+use lib.Dec.{ltb}
+use lib.IntN.{natAbs}
+use lib.ListN.{length}
+use Rattle.bac6_text.specs.Figure.{Figure}
+use Rattle.bac6_text.specs.Rules.{facesOf}
+use Rattle.tra4_text.specs.Movement.{Movement}
+use Rattle.player.specs.Fractions.{Fraction}
+use Rattle.player.specs.Samples.{sampleOf}
+use Rattle.player.specs.Faces.{CornerOf, cornerOf, shownOf}
+use Rattle.player.specs.Lookups.{onlyIf}
+use Rattle.movement_bridge.specs.Counts.{channelOf}
+use Rattle.figure_bridge.specs.Rows.{faceOf, groupedFaceOf}
+
+-- how many frames there are; rule 14 holds them to 1 and more
+unfoldable pub framesOf : Movement → ℕ
+framesOf m = natAbs (m .totalFrames)
+
+unfoldable pub sampleAsked : Movement → ℕ → ℕ → ℕ → Option Fraction
+sampleAsked m bone channel at =
+    onlyIf (ltb bone (length (m .bones)) && ltb channel 10 && ltb at (framesOf m)) (sampleOf (channelOf m bone channel) at)
+
+unfoldable pub cornerAsked : Figure → ℕ → ℕ → Option CornerOf
+cornerAsked f face k = onlyIf (ltb face (length (facesOf f)) && ltb k (faceOf f face .size)) (cornerOf f (faceOf f face) k)
+
+unfoldable pub shownAsked : Figure → Movement → ℕ → ℕ → Option Bool
+shownAsked f m face at =
+    onlyIf (ltb face (length (facesOf f)) && ltb at (framesOf m)) (shownOf (f .bones) (m .patterns) (groupedFaceOf f face) at)

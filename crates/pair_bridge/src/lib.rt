@@ -1,0 +1,1 @@
+// Playing a pair that is loaded: theorems and no code.

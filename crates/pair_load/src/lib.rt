@@ -1,0 +1,1 @@
+// Loads a figure and a movement as a pair.
