@@ -15,7 +15,7 @@ use Rattle.bac6_text.specs.Layout.{layoutOf, nameNumbers, boneRows, ownersFrom,
 use Rattle.bac6_text.proofs.Whole.{WholeFigure}
 use Rattle.bac6_text.proofs.Rows.{bones-wide, bones-count, face-rows-wide, face-rows-length}
 use Rattle.player.specs.declared.counts.FigureCounts.{FigureCounts}
-use Rattle.player.specs.Columns.{numberAt, pointsBegin, ownersBegin, uvsBegin, facesBegin, figureEnd}
+use Rattle.player.specs.Columns.{numberAt, pointsBegin, bonesBegin, ownersBegin, uvsBegin, facesBegin, figureEnd}
 use Rattle.movement_bridge.proofs.Laid.{Laid}
 
 -- a figure's counts
@@ -102,7 +102,7 @@ module _ (f : Figure) (w : WholeFigure f) (parents : length (parentsIn (wholeLis
       simp length-append (omega arith)
 
   owners-front : ownersBegin (counts f) ≡ length to-owners
-  unfolding ownersBegin
+  unfolding ownersBegin bonesBegin
   owners-front =
       let b = points-front in
       let p = flat-length 3 (f .points) (w .points) in

@@ -10,7 +10,7 @@ use mir.Syntax.{w64}
 use mir.Val.{Fits}
 use mathlib.Core.Bool.{true}
 use Rattle.player.specs.declared.counts.FigureCounts.{FigureCounts}
-use Rattle.player.specs.Columns.{numbersAt, pointsBegin, ownersBegin, uvsBegin, facesBegin, holdsFigure}
+use Rattle.player.specs.Columns.{numbersAt, pointsBegin, bonesBegin, ownersBegin, uvsBegin, facesBegin, holdsFigure}
 use Rattle.player.proofs.Mosts.{figure-small, figure-room}
 
 -- ---- an index that is known as another
@@ -31,7 +31,7 @@ index-within i k table e h = omega arith
 
 module _ (n : FigureCounts) (table : List ℤ) (held : holdsFigure n table ≡ true) where
   pub owner-place : (v : ℕ) → v < n .points → (ownersBegin n + v < length table) × (ownersBegin n + v ≤ 40000)
-  unfolding ownersBegin pointsBegin
+  unfolding ownersBegin bonesBegin pointsBegin
   owner-place v h =
       let s = figure-small n table held in
       let r = figure-room n table held in
@@ -45,14 +45,14 @@ module _ (n : FigureCounts) (table : List ℤ) (held : holdsFigure n table ≡ t
       (omega arith, omega arith)
 
   pub uv-place : (t : ℕ) → t < n .uvs → (uvsBegin n + t * 2 + 1 < length table) × (uvsBegin n + t * 2 + 1 ≤ 40000)
-  unfolding uvsBegin ownersBegin pointsBegin
+  unfolding uvsBegin ownersBegin bonesBegin pointsBegin
   uv-place t h =
       let s = figure-small n table held in
       let r = figure-room n table held in
       (omega arith, omega arith)
 
   pub face-place : (face : ℕ) → face < n .faces → (facesBegin n + face * 11 + 11 ≤ length table) × (facesBegin n + face * 11 + 11 ≤ 40000)
-  unfolding facesBegin uvsBegin ownersBegin pointsBegin
+  unfolding facesBegin uvsBegin ownersBegin bonesBegin pointsBegin
   face-place face h =
       let s = figure-small n table held in
       let r = figure-room n table held in

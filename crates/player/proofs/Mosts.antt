@@ -15,7 +15,7 @@ use Rattle.bac6_text.specs.Rules as bac6
 use Rattle.tra4_text.specs.Rules.{mosts}
 use Rattle.player.specs.declared.counts.MovementCounts.{MovementCounts}
 use Rattle.player.specs.declared.counts.FigureCounts.{FigureCounts}
-use Rattle.player.specs.Columns.{isClear, keysBegin, patternsBegin, movementEnd, holdsMovement, pointsBegin, ownersBegin, uvsBegin, facesBegin, figureEnd, figureLists, WithinMosts, holdsFigure}
+use Rattle.player.specs.Columns.{isClear, keysBegin, patternsBegin, movementEnd, holdsMovement, pointsBegin, bonesBegin, ownersBegin, uvsBegin, facesBegin, figureEnd, figureLists, WithinMosts, holdsFigure}
 
 module _ (n : MovementCounts) where
   abbrev pub movementLists : List ℕ
@@ -77,5 +77,5 @@ module _ (n : FigureCounts) where
   figure-small table h = figure-within (figure-clear table h .0)
 
   pub figure-room : (table : List ℤ) → holdsFigure n table ≡ true → 2 + n .textures * 2 + n .colours * 3 + n .materials * 9 + n .points * 3 + n .normals * 3 + n .bones * 14 + n .points + n .uvs * 2 + n .faces * 11 + n .groups * 2 ≤ length table
-  unfolding pointsBegin ownersBegin uvsBegin facesBegin
+  unfolding pointsBegin ownersBegin bonesBegin uvsBegin facesBegin
   figure-room table h = figure-clear table h .1

@@ -51,8 +51,11 @@ module _ (n : FigureCounts) where
   unfoldable pub pointsBegin : ℕ
   pointsBegin = 2 + n .textures * 2 + n .colours * 3 + n .materials * 9
 
+  unfoldable pub bonesBegin : ℕ
+  bonesBegin = pointsBegin + n .points * 3 + n .normals * 3
+
   unfoldable pub ownersBegin : ℕ
-  ownersBegin = pointsBegin + n .points * 3 + n .normals * 3 + n .bones * 14
+  ownersBegin = bonesBegin + n .bones * 14
 
   unfoldable pub uvsBegin : ℕ
   uvsBegin = ownersBegin + n .points

@@ -1,7 +1,7 @@
 // How many rows each list of a table has.
 ghost use mathlib.Core.Path.{_≡_};
 ghost use Prim.Native.Nat.{_≤_};
-ghost use Rattle.player.specs.Columns.{patternsBegin, holdsMovement, pointsBegin, ownersBegin, uvsBegin, facesBegin, holdsFigure, WithinMosts};
+ghost use Rattle.player.specs.Columns.{patternsBegin, holdsMovement, pointsBegin, bonesBegin, ownersBegin, uvsBegin, facesBegin, holdsFigure, WithinMosts};
 use lexer::Checked;
 
 pub struct MovementCounts {
@@ -24,7 +24,7 @@ pub struct FigureCounts {
 }
 
 // No count is above its most, and the table is not shorter than they say.
-pub(crate) fn holds_movement(table: &[i64], n: MovementCounts) -> bool
+pub fn holds_movement(table: &[i64], n: MovementCounts) -> bool
     ensures { λ r. ⌜ r ≡ holdsMovement n (now (table .entry)) ⌝ }
 {
     match chunks::too_many(&[n.bones, n.keys, n.patterns], &[128, 4096, 256]) {
@@ -41,7 +41,7 @@ pub(crate) fn patterns_begin(m: MovementCounts) -> usize
     3 + m.bones * 22 + m.keys * 2
 }
 
-// Where the points, the owners, the texture coordinates and the faces of a figure begin.
+// Where the points, the bones, the owners, the texture coordinates and the faces of a figure begin.
 pub(crate) fn points_begin(n: FigureCounts) -> usize
     requires { ⌜ WithinMosts n ⌝ }
     ensures { λ r. ⌜ r ≡ pointsBegin n ⌝ }
@@ -49,11 +49,18 @@ pub(crate) fn points_begin(n: FigureCounts) -> usize
     2 + n.textures * 2 + n.colours * 3 + n.materials * 9
 }
 
+fn bones_begin(n: FigureCounts) -> usize
+    requires { ⌜ WithinMosts n ⌝ }
+    ensures { λ r. ⌜ r ≡ bonesBegin n ⌝ }
+{
+    points_begin(n) + n.points * 3 + n.normals * 3
+}
+
 pub(crate) fn owners_begin(n: FigureCounts) -> usize
     requires { ⌜ WithinMosts n ⌝ }
     ensures { λ r. ⌜ r ≡ ownersBegin n ⌝ }
 {
-    points_begin(n) + n.points * 3 + n.normals * 3 + n.bones * 14
+    bones_begin(n) + n.bones * 14
 }
 
 pub(crate) fn uvs_begin(n: FigureCounts) -> usize
@@ -70,7 +77,7 @@ pub(crate) fn faces_begin(n: FigureCounts) -> usize
     uvs_begin(n) + n.uvs * 2
 }
 
-pub(crate) fn holds_figure(table: &[i64], n: FigureCounts) -> bool
+pub fn holds_figure(table: &[i64], n: FigureCounts) -> bool
     ensures { λ r. ⌜ r ≡ holdsFigure n (now (table .entry)) ⌝ }
 {
     let counts = [

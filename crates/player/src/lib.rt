@@ -16,6 +16,8 @@ pub use corners::Cornered;
 pub use corners::corner;
 pub use counts::FigureCounts;
 pub use counts::MovementCounts;
+pub use counts::holds_figure;
+pub use counts::holds_movement;
 pub use flags::Visibility;
 pub use sampling::Sampled;
 pub use sampling::sample;

@@ -21,7 +21,7 @@ use Rattle.player_listing.specs.Corners.{uvNumbers, cornerNumbers, corne
 use Rattle.player_listing.proofs.Turns.{one-line}
 
 -- what is said of how many bytes are filled and of the buffer
-abbrev pub Put : ℕ → ℕ → ℕ → ℕ × Option CornerOf → ℕ → List ℕ → List ℕ → Type 0
+abbrev pub Put : ℕ → ℕ → ℕ → ℕ × ℕ × ℕ × Option CornerOf → ℕ → List ℕ → List ℕ → Type 0
 Put n face k r m buf buf' = (output m buf' ≡ appendedEach (output n buf) (cornerLines face k r)) × (length (textOf (cornerLines face k r)) ≤ 196)
 
 -- a line of the face, the corner and at most seven numbers more
@@ -43,5 +43,5 @@ module _ (n face k m : ℕ) (buf buf' : List ℕ) (a : Cornered) where
   textured-put x y z o c u v e fit p = rw e (p, line-short face k (x ∷ y ∷ z ∷ o ∷ c ∷ u ∷ v ∷ []) fit (omega arith))
 
   -- the same of the answer that the definition gives
-  pub corner-put : (r : ℕ × Option CornerOf) → cornered a ≡ r → Put n face k (cornered a) m buf buf' → Put n face k r m buf buf'
+  pub corner-put : (r : ℕ × ℕ × ℕ × Option CornerOf) → cornered a ≡ r → Put n face k (cornered a) m buf buf' → Put n face k r m buf buf'
   corner-put r e p = rw e at p

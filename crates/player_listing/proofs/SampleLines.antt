@@ -20,13 +20,13 @@ use Rattle.player.specs.declared.sampling.Sampled.the-variants.{Refused, Value}
 use Rattle.player_listing.proofs.Turns.{one-line}
 use Rattle.player_listing.specs.Samples.{refusedLine, sampleLine, fractionParts, fractionText}
 
-pub refused-most : (n : ℕ) → length (refusedLine n) ≤ 112
+pub refused-most : (n p : ℕ) → length (refusedLine n p) ≤ 69
 unfolding refusedLine bytes AllFit
-refused-most n = omega (arith, line-most (bytes "refused") (shown n ∷ pos 0 ∷ []) (shown-fits n, (record { sfits = omega arith }, tt)))
+refused-most n p = omega (arith, line-most (bytes "refused") (shown n ∷ shown p ∷ []) (shown-fits n, (shown-fits p, tt)))
 
-pub value-most : (bone channel at n : ℕ) (f : Fraction) → SFits w64 (f .numerator) → length (sampleLine bone channel at (n, some f)) ≤ 112
+pub value-most : (bone channel at n p file : ℕ) (f : Fraction) → SFits w64 (f .numerator) → length (sampleLine bone channel at (n, p, file, some f)) ≤ 112
 unfolding sampleLine bytes AllFit
-value-most bone channel at n f fits =
+value-most bone channel at n p file f fits =
     omega (
       arith,
       line-most (bytes "sample") (shown bone ∷ shown channel ∷ shown at ∷ f .numerator ∷ shown (f .denominator) ∷ [])
@@ -42,14 +42,14 @@ Put n bone channel at a m buf buf' = (output m buf' ≡ appended (output n buf) 
 module _ (n bone channel at m : ℕ) (buf buf' : List ℕ) (a : Sampled) where
   pub refused-put : a ≡ Refused → output m buf' ≡ appended (output n buf) (line (bytes "refused") (pos 21 ∷ pos 0 ∷ [])) → Put n bone channel at a m buf buf'
   unfolding sampled sampleLine refusedLine shown
-  refused-put e p = rw e (p, refused-most 21)
+  refused-put e p = rw e (p, omega (arith, refused-most 21 0))
 
   pub value-put : (z : ℤ) (d : ℕ) → a ≡ Value z d → SFits w64 z → output m buf' ≡ appended (output n buf) (line (bytes "sample") (shown bone ∷ shown channel ∷ shown at ∷ z ∷ shown d ∷ [])) → Put n bone channel at a m buf buf'
   unfolding sampled sampleLine
-  value-put z d e fits p = rw e (p, value-most bone channel at 0 (record { numerator = z; denominator = d }) fits)
+  value-put z d e fits p = rw e (p, value-most bone channel at 0 0 0 (record { numerator = z; denominator = d }) fits)
 
   -- the same of the answer that the definition gives
-  pub frame-put : (r : ℕ × Option Fraction) → sampled a ≡ r → Put n bone channel at a m buf buf' → (output m buf' ≡ appendedEach (output n buf) (sampleLine bone channel at r ∷ [])) × (length (textOf (sampleLine bone channel at r ∷ [])) ≤ 112)
+  pub frame-put : (r : ℕ × ℕ × ℕ × Option Fraction) → sampled a ≡ r → Put n bone channel at a m buf buf' → (output m buf' ≡ appendedEach (output n buf) (sampleLine bone channel at r ∷ [])) × (length (textOf (sampleLine bone channel at r ∷ [])) ≤ 112)
   unfolding appendedEach
   frame-put r e p =
       let l = sampleLine bone channel at (sampled a) in

@@ -20,39 +20,36 @@ use Rattle.player.specs.declared.flags.Visibility.the-variants.{Refused, Shown,
 use Rattle.player_listing.specs.Samples.{refusedLine}
 use Rattle.player_listing.specs.Faces.{flagNumber, shownLine}
 use Rattle.player_listing.proofs.Turns.{one-line}
-
-refused-most : (n : ℕ) → length (refusedLine n) ≤ 69
-unfolding refusedLine bytes AllFit
-refused-most n = omega (arith, line-most (bytes "refused") (shown n ∷ pos 0 ∷ []) (shown-fits n, (record { sfits = omega arith }, tt)))
+use Rattle.player_listing.proofs.SampleLines.{refused-most}
 
 flag-fits : (b : Bool) → SFits w64 (flagNumber b)
 unfolding flagNumber
 flag-fits true = record { sfits = omega arith }
 flag-fits false = record { sfits = omega arith }
 
-flag-most : (face at n : ℕ) (b : Bool) → length (shownLine face at (n, some b)) ≤ 69
+flag-most : (face at n p file : ℕ) (b : Bool) → length (shownLine face at (n, p, file, some b)) ≤ 69
 unfolding shownLine bytes AllFit
-flag-most face at n b = omega (arith, line-most (bytes "shown") (shown face ∷ shown at ∷ flagNumber b ∷ []) (shown-fits face, (shown-fits at, (flag-fits b, tt))))
+flag-most face at n p file b = omega (arith, line-most (bytes "shown") (shown face ∷ shown at ∷ flagNumber b ∷ []) (shown-fits face, (shown-fits at, (flag-fits b, tt))))
 
 -- what is said of how many bytes are filled and of the buffer
-abbrev pub Put : ℕ → ℕ → ℕ → ℕ × Option Bool → ℕ → List ℕ → List ℕ → Type 0
+abbrev pub Put : ℕ → ℕ → ℕ → ℕ × ℕ × ℕ × Option Bool → ℕ → List ℕ → List ℕ → Type 0
 Put n face at r m buf buf' = (output m buf' ≡ appended (output n buf) (shownLine face at r)) × (length (shownLine face at r) ≤ 69)
 
 module _ (n face at m : ℕ) (buf buf' : List ℕ) (a : Visibility) where
   pub refused-put : a ≡ Refused → output m buf' ≡ appended (output n buf) (line (bytes "refused") (pos 21 ∷ pos 0 ∷ [])) → Put n face at (showed a) m buf buf'
   unfolding showed shownLine refusedLine shown
-  refused-put e p = rw e (p, refused-most 21)
+  refused-put e p = rw e (p, refused-most 21 0)
 
   pub shown-put : a ≡ Shown → output m buf' ≡ appended (output n buf) (line (bytes "shown") (shown face ∷ shown at ∷ pos 1 ∷ [])) → Put n face at (showed a) m buf buf'
   unfolding showed shownLine flagNumber
-  shown-put e p = rw e (p, flag-most face at 0 true)
+  shown-put e p = rw e (p, flag-most face at 0 0 0 true)
 
   pub hidden-put : a ≡ Hidden → output m buf' ≡ appended (output n buf) (line (bytes "shown") (shown face ∷ shown at ∷ pos 0 ∷ [])) → Put n face at (showed a) m buf buf'
   unfolding showed shownLine flagNumber
-  hidden-put e p = rw e (p, flag-most face at 0 false)
+  hidden-put e p = rw e (p, flag-most face at 0 0 0 false)
 
 -- the same of the answer that the definition gives, as a list of lines
-pub frame-put : (n face at m : ℕ) (buf buf' : List ℕ) (q r : ℕ × Option Bool) → q ≡ r → Put n face at q m buf buf' → (output m buf' ≡ appendedEach (output n buf) (shownLine face at r ∷ [])) × (length (textOf (shownLine face at r ∷ [])) ≤ 69)
+pub frame-put : (n face at m : ℕ) (buf buf' : List ℕ) (q r : ℕ × ℕ × ℕ × Option Bool) → q ≡ r → Put n face at q m buf buf' → (output m buf' ≡ appendedEach (output n buf) (shownLine face at r ∷ [])) × (length (textOf (shownLine face at r ∷ [])) ≤ 69)
 unfolding appendedEach
 frame-put n face at m buf buf' q r e p =
     let s : Put n face at r m buf buf' = rw e at p in

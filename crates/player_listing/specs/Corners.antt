@@ -21,9 +21,9 @@ unfoldable pub cornerNumbers : CornerOf → List ℤ
 cornerNumbers c = c .position ++ (c .owner ∷ c .material ∷ uvNumbers (c .uv))
 
 -- face, corner and those; a corner that does not exist has no line
-unfoldable pub cornerLines : ℕ → ℕ → ℕ × Option CornerOf → List (List ℕ)
-cornerLines face k (n, none) = []
-cornerLines face k (n, some c) = line (bytes "corner") (shown face ∷ shown k ∷ cornerNumbers c) ∷ []
+unfoldable pub cornerLines : ℕ → ℕ → ℕ × ℕ × ℕ × Option CornerOf → List (List ℕ)
+cornerLines face k (n, p, file, none) = []
+cornerLines face k (n, p, file, some c) = line (bytes "corner") (shown face ∷ shown k ∷ cornerNumbers c) ∷ []
 
 -- a face has at most four
 unfoldable pub faceLines : FigureCounts → List ℤ → ℕ → List (List ℕ)

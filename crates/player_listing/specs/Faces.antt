@@ -19,9 +19,9 @@ flagNumber true = pos 1
 flagNumber false = pos 0
 
 -- face, frame, and 1 or 0
-unfoldable pub shownLine : ℕ → ℕ → ℕ × Option Bool → List ℕ
-shownLine face at (n, none) = refusedLine n
-shownLine face at (n, some b) = line (bytes "shown") (shown face ∷ shown at ∷ flagNumber b ∷ [])
+unfoldable pub shownLine : ℕ → ℕ → ℕ × ℕ × ℕ × Option Bool → List ℕ
+shownLine face at (n, p, file, none) = refusedLine n p
+shownLine face at (n, p, file, some b) = line (bytes "shown") (shown face ∷ shown at ∷ flagNumber b ∷ [])
 
 -- the lines of so many frames of a face from a frame on
 unfoldable pub shownLines : FigureCounts → List ℤ → MovementCounts → List ℤ → ℕ → ℕ → ℕ → List (List ℕ)

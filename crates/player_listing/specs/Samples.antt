@@ -2,7 +2,7 @@
 use mathlib.Core.List.{List, [], _∷_}
 use mathlib.Core.Option.{Option, none, some}
 use Prim.Native.Nat.{ℕ}
-use lib.IntN.{ℤ, pos}
+use lib.IntN.{ℤ}
 use Rattle.lexer.specs.Bytes.{bytes}
 use Rattle.report.specs.Text.{numeral, line}
 use Rattle.report.specs.Lists.{shown, textOf}
@@ -12,14 +12,14 @@ use Rattle.player.specs.Answers.{numbered}
 use Rattle.player.specs.declared.counts.MovementCounts.{MovementCounts}
 use Rattle.player_listing.specs.Parts.{linesFrom}
 
--- a refusal's number and its place, 0
-unfoldable pub refusedLine : ℕ → List ℕ
-refusedLine n = line (bytes "refused") (shown n ∷ pos 0 ∷ [])
+-- a refusal's number and its place
+unfoldable pub refusedLine : ℕ → ℕ → List ℕ
+refusedLine n p = line (bytes "refused") (shown n ∷ shown p ∷ [])
 
 -- bone, channel and frame, then numerator and denominator
-unfoldable pub sampleLine : ℕ → ℕ → ℕ → ℕ × Option Fraction → List ℕ
-sampleLine bone channel at (n, none) = refusedLine n
-sampleLine bone channel at (n, some f) = line (bytes "sample") (shown bone ∷ shown channel ∷ shown at ∷ f .numerator ∷ shown (f .denominator) ∷ [])
+unfoldable pub sampleLine : ℕ → ℕ → ℕ → ℕ × ℕ × ℕ × Option Fraction → List ℕ
+sampleLine bone channel at (n, p, file, none) = refusedLine n p
+sampleLine bone channel at (n, p, file, some f) = line (bytes "sample") (shown bone ∷ shown channel ∷ shown at ∷ f .numerator ∷ shown (f .denominator) ∷ [])
 
 -- the lines of so many frames from a frame on
 unfoldable pub sampleLines : MovementCounts → List ℤ → ℕ → ℕ → ℕ → ℕ → List (List ℕ)
@@ -30,9 +30,9 @@ sampleText n table bone channel at k = textOf (sampleLines n table bone channel 
 
 -- ---- numerator, bar, denominator and a line feed
 
-unfoldable pub fractionParts : ℕ × Option Fraction → List (List ℕ)
-fractionParts (n, none) = refusedLine n ∷ []
-fractionParts (n, some f) = numeral (f .numerator) ∷ bytes "/" ∷ numeral (shown (f .denominator)) ∷ (10 ∷ []) ∷ []
+unfoldable pub fractionParts : ℕ × ℕ × ℕ × Option Fraction → List (List ℕ)
+fractionParts (n, p, file, none) = refusedLine n p ∷ []
+fractionParts (n, p, file, some f) = numeral (f .numerator) ∷ bytes "/" ∷ numeral (shown (f .denominator)) ∷ (10 ∷ []) ∷ []
 
-unfoldable pub fractionText : ℕ × Option Fraction → List ℕ
+unfoldable pub fractionText : ℕ × ℕ × ℕ × Option Fraction → List ℕ
 fractionText a = textOf (fractionParts a)

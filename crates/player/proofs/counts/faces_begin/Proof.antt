@@ -1,6 +1,6 @@
 -- `faces_begin` comes after the texture coordinates.
 use native.Mathlib.Omega.{arith}
-use Rattle.player.specs.Columns.{pointsBegin, ownersBegin, uvsBegin, facesBegin}
+use Rattle.player.specs.Columns.{pointsBegin, bonesBegin, ownersBegin, uvsBegin, facesBegin}
 use borrow.Author.Needs.{needs}
 use Rattle.player.proofs.counts.faces_begin.Statement.{statement}
 use Rattle.player.proofs.counts.faces_begin.Tie as tie
@@ -12,7 +12,7 @@ mul-result : tie.Need-mul-result
 mul-result c = search needs
 
 add-result : tie.Need-add-result
-unfolding pointsBegin ownersBegin uvsBegin
+unfolding pointsBegin ownersBegin bonesBegin uvsBegin
 add-result c = (let h = c .before .before .pre in let e = c .before .uvs-begin .ensures in record { fits = omega arith })
 
 returns : tie.Need-returns

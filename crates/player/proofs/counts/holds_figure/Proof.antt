@@ -2,7 +2,7 @@
 use mathlib.Core.Path.{sym}
 use native.Mathlib.Omega.{arith}
 use Rattle.chunks.proofs.Rules.{refused-by, clear-by}
-use Rattle.player.specs.Columns.{pointsBegin, ownersBegin, uvsBegin, facesBegin}
+use Rattle.player.specs.Columns.{pointsBegin, bonesBegin, ownersBegin, uvsBegin, facesBegin}
 use Rattle.player.proofs.Mosts.{figure-within, figure-over, figure-held}
 use borrow.Author.Needs.{needs}
 use Rattle.player.proofs.counts.holds_figure.Statement.{statement}
@@ -30,14 +30,14 @@ mul-result : tie.Need-mul-result
 mul-result c = (let w = figure-within (c .before .before .before .before .before .before .before .args .n) (clear-by (c .before .before .before .before .too-many .ensures) (c .before .before .enum-told .given .1)) in record { fits = omega arith })
 
 add-result : tie.Need-add-result
-unfolding pointsBegin ownersBegin uvsBegin facesBegin
+unfolding pointsBegin ownersBegin bonesBegin uvsBegin facesBegin
 add-result c = (let w = figure-within (c .before .before .before .before .before .before .before .args .n) (clear-by (c .before .before .before .before .too-many .ensures) (c .before .before .enum-told .given .1)) in let e = c .before .faces-begin .ensures in record { fits = omega arith })
 
 mul-result-2 : tie.Need-mul-result-2
 mul-result-2 c = (let w = figure-within (c .before .before .before .before .before .before .before .before .args .n) (clear-by (c .before .before .before .before .before .too-many .ensures) (c .before .before .before .enum-told .given .1)) in record { fits = omega arith })
 
 add-result-2 : tie.Need-add-result-2
-unfolding pointsBegin ownersBegin uvsBegin facesBegin
+unfolding pointsBegin ownersBegin bonesBegin uvsBegin facesBegin
 add-result-2 c = (let w = figure-within (c .before .before .before .before .before .before .before .before .args .n) (clear-by (c .before .before .before .before .before .too-many .ensures) (c .before .before .before .enum-told .given .1)) in let e = c .before .before .faces-begin .ensures in record { fits = omega arith })
 
 returns : tie.Need-returns

@@ -1,49 +1,23 @@
--- `owners_begin` is the sum of the lists before the owners, which is small.
-use mathlib.Core.Path.{ap}
-use Prim.Native.Nat.{ℕ, _+_, _*_}
+-- `owners_begin` comes after the bones.
 use native.Mathlib.Omega.{arith}
-use Rattle.player.specs.Columns.{pointsBegin, ownersBegin, uvsBegin, facesBegin}
+use Rattle.player.specs.Columns.{pointsBegin, bonesBegin, ownersBegin}
 use borrow.Author.Needs.{needs}
 use Rattle.player.proofs.counts.owners_begin.Statement.{statement}
 use Rattle.player.proofs.counts.owners_begin.Tie as tie
 
-points-begin-requires : tie.Need-points-begin-requires
-points-begin-requires c κs = search needs
+bones-begin-requires : tie.Need-bones-begin-requires
+bones-begin-requires c κs = search needs
 
 mul-result : tie.Need-mul-result
 mul-result c = search needs
 
 add-result : tie.Need-add-result
-unfolding pointsBegin
-add-result c = (let h = c .before .before .pre in let e = c .before .points-begin .ensures in record { fits = omega arith })
-
-mul-result-2 : tie.Need-mul-result-2
-mul-result-2 c = search needs
-
-add-result-2 : tie.Need-add-result-2
-unfolding pointsBegin
-add-result-2 c = (let h = c .before .before .before .pre in let e = c .before .before .points-begin .ensures in record { fits = omega arith })
-
-mul-result-3 : tie.Need-mul-result-3
-mul-result-3 c = search needs
-
-add-result-3 : tie.Need-add-result-3
-unfolding pointsBegin
-add-result-3 c = (let h = c .before .before .before .before .pre in let e = c .before .before .before .points-begin .ensures in record { fits = omega arith })
+unfolding pointsBegin bonesBegin
+add-result c = (let h = c .before .before .pre in let e = c .before .bones-begin .ensures in record { fits = omega arith })
 
 returns : tie.Need-returns
 unfolding ownersBegin
-returns c = rw (c .before .before .before .points-begin .ensures)
+returns c = rw (c .before .bones-begin .ensures)
 
 pub owners-begin-spec : {M : Type 1} → statement M
-owners-begin-spec =
-    tie.close
-    (tie.spec
-    points-begin-requires
-    mul-result
-    add-result
-    mul-result-2
-    add-result-2
-    mul-result-3
-    add-result-3
-    returns)
+owners-begin-spec = tie.close (tie.spec bones-begin-requires mul-result add-result returns)

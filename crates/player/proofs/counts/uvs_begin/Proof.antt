@@ -1,6 +1,6 @@
 -- `uvs_begin` comes after an owner a point.
 use native.Mathlib.Omega.{arith}
-use Rattle.player.specs.Columns.{pointsBegin, ownersBegin, uvsBegin, facesBegin}
+use Rattle.player.specs.Columns.{pointsBegin, bonesBegin, ownersBegin, uvsBegin, facesBegin}
 use borrow.Author.Needs.{needs}
 use Rattle.player.proofs.counts.uvs_begin.Statement.{statement}
 use Rattle.player.proofs.counts.uvs_begin.Tie as tie
@@ -9,7 +9,7 @@ owners-begin-requires : tie.Need-owners-begin-requires
 owners-begin-requires c κs = search needs
 
 add-result : tie.Need-add-result
-unfolding pointsBegin ownersBegin
+unfolding pointsBegin ownersBegin bonesBegin
 add-result c = (let h = c .before .before .pre in let e = c .before .owners-begin .ensures in record { fits = omega arith })
 
 returns : tie.Need-returns
