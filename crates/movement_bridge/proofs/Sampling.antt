@@ -100,3 +100,18 @@ sample-from-text text table m e bone channel at h k l =
     (movement-holds text table m e) h k (total-stands text table m e) (frame-asked text table m e at l)
     (bone-number m w t r g bone (suc (suc (channel * 2))) _ h (omega arith) (omega arith))
     (bone-number m w t r g bone (suc (suc (suc (channel * 2)))) _ h (omega arith) (omega arith))
+
+-- ---- every channel of a text that is taken has keys, whose frames are sound
+
+module _ (text : List ℕ) (table : List ℤ) (m : Movement) (e : movementAnswer text (length table) ≡ accepted m) (bone channel : ℕ) (h : bone < length (m .bones)) (k : channel < 10) where
+  pub channel-sound : framesFault 15 (keyFine (m .totalFrames)) none 0 (channelOf m bone channel) ≡ clear
+  unfolding channelOf
+  channel-sound =
+      let w = whole-read text table m e in
+      keys-sound m w (clean-read text table m e) _ _ (table-read text table m e) _ _ _ (in-rows 0 (m .bones) bone channel (channel * 2) (w .bones) h k refl)
+
+  pub channel-whole : WholeChannel (channelOf m bone channel)
+  unfolding channelOf
+  channel-whole =
+      let w = whole-read text table m e in
+      whole-one m w (clean-read text table m e) _ _ (table-read text table m e) _ _ _ (in-rows 0 (m .bones) bone channel (channel * 2) (w .bones) h k refl)
