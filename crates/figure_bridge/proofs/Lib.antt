@@ -2,6 +2,7 @@
 pub mod Sound
 pub mod Tests
 pub mod Parts
+pub mod Names
 pub mod Grouped
 pub mod FaceRows
 pub mod Corners

@@ -1,4 +1,4 @@
--- Where points, owners, uvs and faces stand in a figure's table: each part of the layout comes after those before it, which are as long as their rows and columns say.
+-- Where points, bones, owners, uvs and faces stand in a figure's table: each part of the layout comes after those before it, which are as long as their rows and columns say.
 use mathlib.Core.Path.{_≡_, refl, ap, _∙_}
 use mathlib.Core.List.{List, [], _∷_, _++_, append-assoc}
 use Prim.Native.Nat.{ℕ, zero, suc, _+_, _*_, _<_}
@@ -28,6 +28,9 @@ counts f =
 module _ (a p n h o u f g rest : List ℤ) where
   before-points : (a ++ p ++ n ++ h ++ o ++ u ++ f ++ g) ++ rest ≡ a ++ (p ++ (n ++ h ++ o ++ u ++ f ++ g ++ rest))
   before-points = simp append-assoc
+
+  before-bones : (a ++ p ++ n ++ h ++ o ++ u ++ f ++ g) ++ rest ≡ (a ++ p ++ n) ++ (h ++ (o ++ u ++ f ++ g ++ rest))
+  before-bones = simp append-assoc
 
   before-owners : (a ++ p ++ n ++ h ++ o ++ u ++ f ++ g) ++ rest ≡ (a ++ p ++ n ++ h) ++ (o ++ (u ++ f ++ g ++ rest))
   before-owners = simp append-assoc
@@ -74,12 +77,15 @@ module _ (f : Figure) (w : WholeFigure f) (parents : length (parentsIn (wholeLis
   abbrev owners : List ℤ
   owners = ownersFrom (f .bones) 0 (length (f .points))
 
-  -- what stands before points, owners, uvs and faces
+  -- what stands before points, bones, owners, uvs and faces
   abbrev to-points : List ℤ
   to-points = nameNumbers (f .name) ++ flat (f .textures) ++ flat (f .colours) ++ flat (f .materials)
 
+  abbrev to-bones : List ℤ
+  to-bones = to-points ++ flat (f .points) ++ flat (f .normals)
+
   abbrev to-owners : List ℤ
-  to-owners = to-points ++ flat (f .points) ++ flat (f .normals) ++ bones
+  to-owners = to-bones ++ bones
 
   abbrev to-uvs : List ℤ
   to-uvs = to-owners ++ owners
@@ -101,14 +107,20 @@ module _ (f : Figure) (w : WholeFigure f) (parents : length (parentsIn (wholeLis
       let m = flat-length 9 (f .materials) (w .materials) in
       simp length-append (omega arith)
 
-  owners-front : ownersBegin (counts f) ≡ length to-owners
-  unfolding ownersBegin bonesBegin
-  owners-front =
+  bones-front : bonesBegin (counts f) ≡ length to-bones
+  unfolding bonesBegin
+  bones-front =
       let b = points-front in
       let p = flat-length 3 (f .points) (w .points) in
       let n = flat-length 3 (f .normals) (w .normals) in
+      rw (length-append (to-points ++ flat (f .points)) (flat (f .normals)), length-append to-points (flat (f .points))) (omega arith)
+
+  owners-front : ownersBegin (counts f) ≡ length to-owners
+  unfolding ownersBegin
+  owners-front =
+      let b = bones-front in
       let s = bones-long in
-      rw (length-append (to-points ++ flat (f .points) ++ flat (f .normals)) bones, length-append (to-points ++ flat (f .points)) (flat (f .normals)), length-append to-points (flat (f .points))) (omega arith)
+      rw (length-append to-bones bones) (omega arith)
 
   uvs-front : uvsBegin (counts f) ≡ length to-uvs
   unfolding uvsBegin
@@ -137,6 +149,10 @@ module _ (f : Figure) (w : WholeFigure f) (parents : length (parentsIn (wholeLis
     pub points-stand : Laid (f .points) (pointsBegin (counts f)) (layoutOf f ++ rest)
     unfolding layoutOf
     points-stand = record { front = to-points; rest = _; here = before-points to-points (flat (f .points)) (flat (f .normals)) bones owners (flat (f .uvs)) (flat (faceRows f)) (flat (groupNames (f .groups))) rest; begins = points-front }
+
+    pub bones-stand : Laid (boneRows (f .bones) (parentsIn (wholeList (flagsOf (f .bones))))) (bonesBegin (counts f)) (layoutOf f ++ rest)
+    unfolding layoutOf
+    bones-stand = record { front = to-bones; rest = _; here = before-bones to-points (flat (f .points)) (flat (f .normals)) bones owners (flat (f .uvs)) (flat (faceRows f)) (flat (groupNames (f .groups))) rest; begins = bones-front }
 
     pub uvs-stand : Laid (f .uvs) (uvsBegin (counts f)) (layoutOf f ++ rest)
     unfolding layoutOf

@@ -6,3 +6,4 @@ pub mod Channels
 pub mod Faultless
 pub mod Tables
 pub mod Sampling
+pub mod Names
