@@ -1,2 +1,4 @@
 -- Laws that belong to no one function.
 pub mod Lookups
+pub mod Names
+pub mod Labels

@@ -1,10 +1,11 @@
--- What Sample, Shown and Corner answer from the two texts' lists alone (document 01, "Playing"): the meaning of what exists, none of what does not.
+-- What Sample, Shown, Corner and Label answer from the two texts' lists alone (document 01, "Playing"): the meaning of what exists, none of what does not.
 use mathlib.Core.Bool.{Bool, _&&_}
+use mathlib.Core.List.{List, []}
 use mathlib.Core.Option.{Option}
 use Prim.Native.Nat.{ℕ}
 use lib.Dec.{ltb}
 use lib.IntN.{natAbs}
-use lib.ListN.{length}
+use lib.ListN.{length, getD}
 use Rattle.bac6_text.specs.Figure.{Figure}
 use Rattle.bac6_text.specs.Rules.{facesOf}
 use Rattle.tra4_text.specs.Movement.{Movement}
@@ -12,6 +13,8 @@ use Rattle.player.specs.Fractions.{Fraction}
 use Rattle.player.specs.Samples.{sampleOf}
 use Rattle.player.specs.Faces.{CornerOf, cornerOf, shownOf}
 use Rattle.player.specs.Lookups.{onlyIf}
+use Rattle.pair_text.specs.Rules.{figureNames, movementNames}
+use Rattle.player_label.specs.Labels.{labelBy}
 use Rattle.movement_bridge.specs.Counts.{channelOf}
 use Rattle.figure_bridge.specs.Rows.{faceOf, groupedFaceOf}
 
@@ -29,3 +32,7 @@ cornerAsked f face k = onlyIf (ltb face (length (facesOf f)) && ltb k (faceOf f 
 unfoldable pub shownAsked : Figure → Movement → ℕ → ℕ → Option Bool
 shownAsked f m face at =
     onlyIf (ltb face (length (facesOf f)) && ltb at (framesOf m)) (shownOf (f .bones) (m .patterns) (groupedFaceOf f face) at)
+
+unfoldable pub labelAsked : Figure → Movement → ℕ → Option (List ℕ)
+labelAsked f m bone =
+    onlyIf (ltb bone (length (f .bones)) && ltb bone (length (m .bones))) (labelBy (getD (figureNames f) bone []) (getD (movementNames m) bone []))

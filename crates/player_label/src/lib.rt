@@ -1,0 +1,1 @@
+// A bone's name: a part of one of two lent texts, or nothing with the number 21.
