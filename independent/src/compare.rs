@@ -1,11 +1,11 @@
 //! What another program prints of texts, compared with what this reader and
 //! player say of them.
 
-use crate::generate::rng::Rng;
-use crate::generate::{pair, text, Kind};
+use crate::generate::{text, Kind};
 use crate::listing::{
-    corner_listing, figure_listing, movement_listing, sample_listing, shown_listing,
+    corner_listing, figure_listing, movement_listing, pair_listing, sample_listing, shown_listing,
 };
+use crate::subject::Subject;
 use std::collections::BTreeMap;
 use std::error::Error;
 use std::io::{self, ErrorKind, Write};
@@ -17,28 +17,50 @@ use std::thread;
 /// How many programs run at a time.
 const THREADS: usize = 2;
 
+/// So many damaged pairs meet every refusal of a pair.
+const MANY: u64 = 100;
+
 /// What is printed of a text.
 #[derive(Clone, Copy, Debug, PartialEq, Eq)]
 pub enum Content {
     /// The rows of its table.
     Listing,
-    /// Every corner of a figure, or every sample of a movement.
+    /// Every corner of a figure, every sample of a movement, or whether each
+    /// face of a pair is shown at each frame.
     Played,
+    /// The totals and the bones' names of a pair.
+    Pair,
 }
 
-/// What a text holds. Of a pair it is printed whether its faces are shown.
-#[derive(Clone, Copy, Debug, PartialEq, Eq)]
-pub enum Subject {
-    Figure,
-    Movement,
-    Pair,
+/// What prints a listing of a text.
+pub type Printer = fn(&[u8]) -> String;
+
+impl Content {
+    /// What prints this of such texts, if it is something they have.
+    pub fn printer(self, subject: Subject) -> Option<Printer> {
+        match (subject, self) {
+            (Subject::Figure, Content::Listing) => Some(figure_listing),
+            (Subject::Figure, Content::Played) => Some(corner_listing),
+            (Subject::Movement, Content::Listing) => Some(movement_listing),
+            (Subject::Movement, Content::Played) => Some(sample_listing),
+            (Subject::Pair, Content::Pair) => Some(pair_listing),
+            (Subject::Pair, Content::Played) => Some(shown_listing),
+            _ => None,
+        }
+    }
 }
 
 /// The texts that a comparison goes over.
 pub enum Texts {
-    Generated { kind: Kind, seed: u64, count: u64 },
-    Pairs { seed: u64, count: u64 },
-    Samples { figures: bool, files: Vec<Sample> },
+    Generated {
+        kind: Kind,
+        seed: u64,
+        count: u64,
+    },
+    Samples {
+        subject: Subject,
+        files: Vec<Sample>,
+    },
 }
 
 pub struct Sample {
@@ -53,18 +75,15 @@ impl Texts {
         if count == 0 {
             return Err("no texts to compare".into());
         }
-        if kind == "sound-pairs" {
-            return Ok(Texts::Pairs { seed, count });
-        }
         let kind = Kind::from_word(kind).ok_or_else(|| format!("no such kind: {kind}"))?;
         Ok(Texts::Generated { kind, seed, count })
     }
 
     /// The papers' samples of a kind, as printed and mended.
     pub fn samples(kind: &str) -> Result<Texts, Box<dyn Error>> {
-        let (figures, ending) = match kind {
-            "samples-figures" => (true, ".bac"),
-            "samples-movements" => (false, ".tra"),
+        let subject = match kind {
+            "samples-figures" => Subject::Figure,
+            "samples-movements" => Subject::Movement,
             _ => return Err(format!("no such kind: {kind}").into()),
         };
         let directory = Path::new(env!("CARGO_MANIFEST_DIR")).join("samples");
@@ -73,7 +92,7 @@ impl Texts {
             for entry in std::fs::read_dir(directory.join(part))? {
                 let entry = entry?;
                 let name = format!("{part}{}", entry.file_name().to_string_lossy());
-                if name.ends_with(ending) {
+                if name.ends_with(&format!(".{}", subject.ending())) {
                     let text = std::fs::read(entry.path())?;
                     files.push(Sample { name, text });
                 }
@@ -83,45 +102,42 @@ impl Texts {
             return Err("no texts to compare".into());
         }
         files.sort_by(|one, other| one.name.cmp(&other.name));
-        Ok(Texts::Samples { figures, files })
+        Ok(Texts::Samples { subject, files })
     }
 
     pub fn count(&self) -> u64 {
         match self {
-            Texts::Generated { count, .. } | Texts::Pairs { count, .. } => *count,
+            Texts::Generated { count, .. } => *count,
             Texts::Samples { files, .. } => files.len() as u64,
         }
     }
 
     pub fn subject(&self) -> Subject {
-        let figures = match self {
-            Texts::Generated { kind, .. } => kind.is_figure(),
-            Texts::Samples { figures, .. } => *figures,
-            Texts::Pairs { .. } => return Subject::Pair,
-        };
-        if figures {
-            Subject::Figure
-        } else {
-            Subject::Movement
+        match self {
+            Texts::Generated { kind, .. } => kind.subject(),
+            Texts::Samples { subject, .. } => *subject,
         }
     }
 
     pub fn text(&self, index: u64) -> Vec<u8> {
         match self {
             Texts::Generated { kind, seed, .. } => text(*kind, *seed, index),
-            Texts::Pairs { seed, .. } => pair::sound(&mut Rng::new(*seed, index)),
             Texts::Samples { files, .. } => files[index as usize].text.clone(),
         }
     }
 
-    /// What this reader and player print of a text.
-    pub fn printed(&self, content: Content, text: &[u8]) -> String {
-        match (self.subject(), content) {
-            (Subject::Figure, Content::Listing) => figure_listing(text),
-            (Subject::Figure, Content::Played) => corner_listing(text),
-            (Subject::Movement, Content::Listing) => movement_listing(text),
-            (Subject::Movement, Content::Played) => sample_listing(text),
-            (Subject::Pair, _) => shown_listing(text),
+    /// The refusals of a pair that none of these met. Only of many damaged
+    /// pairs is it certain that they meet all three.
+    pub fn unmet(&self, tally: &Tally) -> Vec<u8> {
+        match self {
+            Texts::Generated {
+                kind: Kind::DamagedPairs,
+                count: MANY..,
+                ..
+            } => (18..=20)
+                .filter(|number| !tally.refused.contains_key(number))
+                .collect(),
+            _ => Vec::new(),
         }
     }
 }
@@ -195,7 +211,7 @@ pub struct Difference {
 }
 
 /// Runs the program on every text, up to the first difference.
-pub fn compare(program: &Path, texts: &Texts, content: Content) -> Result<Tally, Box<Difference>> {
+pub fn compare(program: &Path, texts: &Texts, printer: Printer) -> Result<Tally, Box<Difference>> {
     let next = AtomicU64::new(0);
     let stopped = AtomicBool::new(false);
     let work = || {
@@ -205,7 +221,7 @@ pub fn compare(program: &Path, texts: &Texts, content: Content) -> Result<Tally,
             if index >= texts.count() {
                 break;
             }
-            if let Err(difference) = compare_one(program, texts, content, index, &mut tally) {
+            if let Err(difference) = compare_one(program, texts, printer, index, &mut tally) {
                 stopped.store(true, Ordering::Relaxed);
                 return Err(difference);
             }
@@ -237,12 +253,12 @@ pub fn compare(program: &Path, texts: &Texts, content: Content) -> Result<Tally,
 fn compare_one(
     program: &Path,
     texts: &Texts,
-    content: Content,
+    printer: Printer,
     index: u64,
     tally: &mut Tally,
 ) -> Result<(), Box<Difference>> {
     let text = texts.text(index);
-    let expected = texts.printed(content, &text);
+    let expected = printer(&text);
     let found = output(program, &text);
     if matches!(&found, Ok(found) if found == expected.as_bytes()) {
         tally.count(&expected);

@@ -18,4 +18,5 @@ pub mod number;
 pub mod pair;
 pub mod play;
 pub mod refusal;
+pub mod subject;
 pub mod token;

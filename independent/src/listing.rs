@@ -4,9 +4,8 @@ use crate::cursor::Name;
 use crate::figure::{self, Face, Figure};
 use crate::figure_rules;
 use crate::limits;
-use crate::many;
 use crate::movement::{self, Movement};
-use crate::pair;
+use crate::pair::{self, PairRefusal};
 use crate::play;
 use crate::refusal::Refusal;
 
@@ -97,6 +96,13 @@ fn refused(refusal: Refusal) -> String {
     line("refused", &[i64::from(refusal.number), refusal.place])
 }
 
+/// A refusal of a pair has its file too.
+fn refused_pair(found: PairRefusal) -> String {
+    let Refusal { number, place } = found.refusal;
+    let numbers = [i64::from(number), place, i64::from(found.file)];
+    line("refused", &numbers)
+}
+
 fn listed(word: &str, total: usize, rows: &[Row]) -> String {
     let mut listing = line(word, &[total as i64]);
     for (word, numbers) in rows {
@@ -164,19 +170,41 @@ pub fn corner_listing(text: &[u8]) -> String {
     listing
 }
 
-/// Whether each face is shown at each frame, 1 or 0, or the refusal of a pair.
-/// A text without a figure's record has an empty figure.
-pub fn shown_listing(text: &[u8]) -> String {
-    let (figure, movement) = many::split_first(text).unwrap_or((&[], text));
-    let (figure_room, movement_room) = (limits::FIGURE_ROOM, limits::MOVEMENT_ROOM);
-    let (figure, movement) = match pair::load(figure, movement, figure_room, movement_room) {
+/// The totals of a pair's tables and the name of each bone, or its refusal.
+pub fn pair_listing(text: &[u8]) -> String {
+    let pair = match pair::load_input(text) {
         Ok(pair) => pair,
-        Err(found) => return refused(found.refusal),
+        Err(found) => return refused_pair(found),
+    };
+    let totals = [pair.figure.total() as i64, pair.movement.total() as i64];
+    let mut listing = line("pair", &totals);
+    for bone in 0..pair.figure.bones.len() as i64 {
+        if let Some(name) = play::label(
+            &pair.figure,
+            pair.figure_text,
+            &pair.movement,
+            pair.movement_text,
+            bone,
+        ) {
+            listing.push_str(&format!("label\t{bone}\t"));
+            // The bytes of a name are 32 to 126.
+            listing.extend(name.iter().map(|&byte| char::from(byte)));
+            listing.push('\n');
+        }
+    }
+    listing
+}
+
+/// Whether each face of a pair is shown at each frame, 1 or 0, or its refusal.
+pub fn shown_listing(text: &[u8]) -> String {
+    let pair = match pair::load_input(text) {
+        Ok(pair) => pair,
+        Err(found) => return refused_pair(found),
     };
     let mut listing = String::new();
-    for face in 0..figure.faces.len() as i64 {
-        for frame in 0..movement.total_frames {
-            if let Some(shown) = play::shown(&figure, &movement, face, frame) {
+    for face in 0..pair.figure.faces.len() as i64 {
+        for frame in 0..pair.movement.total_frames {
+            if let Some(shown) = play::shown(&pair.figure, &pair.movement, face, frame) {
                 listing.push_str(&line("shown", &[face, frame, i64::from(shown)]));
             }
         }

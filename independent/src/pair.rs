@@ -2,6 +2,8 @@
 
 use crate::cursor::Name;
 use crate::figure::{self, Figure};
+use crate::limits;
+use crate::many;
 use crate::movement::{self, Movement};
 use crate::refusal::Refusal;
 
@@ -12,17 +14,47 @@ pub struct PairRefusal {
     pub refusal: Refusal,
 }
 
-pub fn load(
-    figure_text: &[u8],
-    movement_text: &[u8],
+/// A pair that has been loaded, and the texts that its names stand in.
+#[derive(Clone, Debug, PartialEq, Eq)]
+pub struct Pair<'a> {
+    pub figure: Figure,
+    pub figure_text: &'a [u8],
+    pub movement: Movement,
+    pub movement_text: &'a [u8],
+}
+
+/// Loads a pair for tables of these many numbers.
+pub fn load<'a>(
+    figure_text: &'a [u8],
+    movement_text: &'a [u8],
     figure_room: usize,
     movement_room: usize,
-) -> Result<(Figure, Movement), PairRefusal> {
+) -> Result<Pair<'a>, PairRefusal> {
     let in_file = |file| move |refusal| PairRefusal { file, refusal };
     let figure = figure::read(figure_text, figure_room).map_err(in_file(0))?;
     let movement = movement::read(movement_text, movement_room).map_err(in_file(1))?;
-    check(&figure, figure_text, &movement, movement_text).map_err(in_file(2))?;
-    Ok((figure, movement))
+    let pair = Pair {
+        figure,
+        figure_text,
+        movement,
+        movement_text,
+    };
+    check(&pair).map_err(in_file(2))?;
+    Ok(pair)
+}
+
+/// Loads the pair of a program's standard input: the figure's record, and then
+/// the movement. Where no record stands, the figure's first line is wrong.
+pub fn load_input(input: &[u8]) -> Result<Pair<'_>, PairRefusal> {
+    match many::split_first(input) {
+        Ok((figure, movement)) => {
+            load(figure, movement, limits::FIGURE_ROOM, limits::MOVEMENT_ROOM)
+        }
+        Err(_) => Err(PairRefusal {
+            file: 0,
+            refusal: Refusal::new(2, 0),
+        }),
+    }
 }
 
 /// The bytes of a name, none for an absent one.
@@ -33,29 +65,26 @@ pub fn name_bytes(text: &[u8], name: Option<Name>) -> &[u8] {
     }
 }
 
-fn check(
-    figure: &Figure,
-    figure_text: &[u8],
-    movement: &Movement,
-    movement_text: &[u8],
-) -> Result<(), Refusal> {
-    if figure.bones.len() != movement.bones.len() {
-        return Err(Refusal::new(18, movement.bones.len()));
+/// The lowest of refusals 18 to 20, with the lowest row.
+fn check(pair: &Pair) -> Result<(), Refusal> {
+    let bones = pair.movement.bones.len();
+    if pair.figure.bones.len() != bones {
+        return Err(Refusal::new(18, bones));
     }
-    for (row, (ours, theirs)) in figure.bones.iter().zip(&movement.bones).enumerate() {
-        let ours = name_bytes(figure_text, ours.name);
-        let theirs = name_bytes(movement_text, theirs.name);
-        if !ours.is_empty() && !theirs.is_empty() && ours != theirs {
-            return Err(Refusal::new(19, row));
-        }
+    if let Some(row) = (0..bones).find(|&row| names_differ(pair, row)) {
+        return Err(Refusal::new(19, row));
     }
-    let groups = figure.groups.len() as i64;
-    match movement
-        .patterns
-        .iter()
-        .position(|line| line.group >= groups)
-    {
+    let groups = pair.figure.groups.len() as i64;
+    let mut lines = pair.movement.patterns.iter();
+    match lines.position(|line| line.group >= groups) {
         Some(row) => Err(Refusal::new(20, row)),
         None => Ok(()),
     }
+}
+
+/// Whether both texts name a bone, and not alike.
+fn names_differ(pair: &Pair, row: usize) -> bool {
+    let ours = name_bytes(pair.figure_text, pair.figure.bones[row].name);
+    let theirs = name_bytes(pair.movement_text, pair.movement.bones[row].name);
+    !ours.is_empty() && !theirs.is_empty() && ours != theirs
 }

@@ -1,7 +1,7 @@
 //! `compare` and `measure`, run on this reader's own programs and on wrong
 //! ones.
 
-use independent::compare::first_line;
+use independent::compare::{first_line, Tally, Texts};
 use independent::generate::{text, Kind};
 use independent::listing::figure_listing;
 use std::path::{Path, PathBuf};
@@ -11,6 +11,7 @@ const FIGURE: &str = env!("CARGO_BIN_EXE_figure_listing");
 const MOVEMENT: &str = env!("CARGO_BIN_EXE_movement_listing");
 const PLAY: &str = env!("CARGO_BIN_EXE_play");
 const CORNERS: &str = env!("CARGO_BIN_EXE_corners");
+const PAIR: &str = env!("CARGO_BIN_EXE_pair");
 const SHOWN: &str = env!("CARGO_BIN_EXE_shown");
 
 /// A directory of a test's own, to run in.
@@ -20,7 +21,7 @@ fn directory(name: &str) -> PathBuf {
     path
 }
 
-/// A program that alters what `figure_listing`, `play` or `corners` prints.
+/// A program that alters what one of this reader's own prints.
 fn wrong(name: &str) -> String {
     let path = Path::new(env!("CARGO_MANIFEST_DIR")).join("tests/wrong");
     path.join(name).to_str().unwrap().into()
@@ -29,7 +30,8 @@ fn wrong(name: &str) -> String {
 fn compare(test: &str, arguments: &[&str]) -> Output {
     let listing = match arguments {
         ["--play", _, kind, ..] if kind.ends_with("movements") => PLAY,
-        ["--play", _, "sound-pairs", ..] => SHOWN,
+        ["--play", _, kind, ..] if kind.ends_with("pairs") => SHOWN,
+        ["--pair", ..] => PAIR,
         ["--play", ..] => CORNERS,
         _ => FIGURE,
     };
@@ -143,6 +145,66 @@ fn the_faces_shown_agree_with_themselves() {
     }
 }
 
+/// Damaged pairs meet each of 18, 19 and 20.
+#[test]
+fn the_pairs_agree_with_themselves() {
+    let line = agrees(&["--pair", PAIR, "sound-pairs", "1", "60"]);
+    assert_eq!(line, "sound-pairs, seed 1: 60 agreed, 60 accepted\n");
+    let pair = agrees(&["--pair", PAIR, "damaged-pairs", "1", "200"]);
+    for number in [1, 2, 5, 18, 19, 20] {
+        assert!(pair.contains(&format!(" refused with {number}")), "{pair}");
+    }
+    let shown = agrees(&["--play", SHOWN, "damaged-pairs", "1", "200"]);
+    assert!(shown.starts_with(pair.trim_end()), "{shown}");
+}
+
+#[test]
+fn wrong_pairs_differ() {
+    let report_of = |name: &str, kind: &str| {
+        let report = differs(name, &["--pair", &wrong(name), kind, "1", "100"]);
+        assert!(report.contains(&format!("\n{kind}, seed 1, index ")));
+        report
+    };
+    for name in ["names_missing", "name_cut_at_a_blank"] {
+        let report = report_of(name, "sound-pairs");
+        assert!(report.contains("expected: label\\t"), "{report}");
+    }
+    for (name, number) in [
+        ("file_missing", None),
+        ("file_0_throughout", None),
+        ("other_bone_count", Some(18)),
+        ("row_0_throughout", Some(19)),
+        ("group_unknown_missed", Some(20)),
+    ] {
+        let report = report_of(name, "damaged-pairs");
+        let number = number.map_or(String::new(), |number: u8| format!("{number}\\t"));
+        let expected = format!("expected: refused\\t{number}");
+        assert!(report.contains(&expected), "{report}");
+        if name.starts_with("file") {
+            differs(name, &["--play", &wrong(name), "damaged-pairs", "1", "100"]);
+        }
+    }
+}
+
+/// A comparison of many damaged pairs shows something of 18, 19 and 20 only
+/// if each of them was met.
+#[test]
+fn many_damaged_pairs_must_meet_every_refusal_of_a_pair() {
+    let unmet = |kind: &str, count: &str, refused: &[u8]| {
+        let tally = Tally {
+            refused: refused.iter().map(|&number| (number, 1)).collect(),
+            ..Tally::default()
+        };
+        Texts::generated(kind, "1", count).unwrap().unmet(&tally)
+    };
+    assert_eq!(unmet("damaged-pairs", "100", &[5]), [18, 19, 20]);
+    assert_eq!(unmet("damaged-pairs", "300", &[2, 18, 20]), [19]);
+    assert!(unmet("damaged-pairs", "100", &[18, 19, 20]).is_empty());
+    assert!(unmet("damaged-pairs", "99", &[]).is_empty());
+    assert!(unmet("sound-pairs", "100", &[]).is_empty());
+    assert!(unmet("damaged-figures", "100", &[]).is_empty());
+}
+
 /// Corners without their owners.
 #[test]
 fn wrong_corners_differ() {
@@ -212,6 +274,11 @@ fn a_comparison_of_nothing_is_an_error() {
         &[FIGURE, "unknown", "1", "1"],
         &[FIGURE, "samples"],
         &["--play"],
+        &["--pair"],
+        &["--pair", PAIR, "sound-pairs", "1", "0"],
+        &["--pair", PAIR, "sound-figures", "1", "1"],
+        &["--pair", PAIR, "samples-figures"],
+        &[PAIR, "sound-pairs", "1", "1"],
         &[],
     ] {
         assert!(!compare("nothing", arguments).status.success());
@@ -239,7 +306,13 @@ fn measure_prints_a_ratio() {
             .output()
             .unwrap()
     };
-    let kinds = [(FIGURE, "figures"), (MOVEMENT, "movements"), (PLAY, "play")];
+    let kinds = [
+        (FIGURE, "figures"),
+        (MOVEMENT, "movements"),
+        (PAIR, "pairs"),
+        (PLAY, "play"),
+        (SHOWN, "shown"),
+    ];
     for (program, kind) in kinds {
         let output = measure(program, kind);
         assert!(output.status.success());
@@ -251,5 +324,7 @@ fn measure_prints_a_ratio() {
     assert!(!measure(FIGURE, "movements").status.success());
     assert!(!measure(MOVEMENT, "play").status.success());
     assert!(!measure(FIGURE, "corners").status.success());
+    assert!(!measure(SHOWN, "pairs").status.success());
+    assert!(!measure(PAIR, "shown").status.success());
     assert!(!measure(FIGURE, "others").status.success());
 }

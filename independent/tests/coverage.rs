@@ -180,11 +180,7 @@ fn damaged_texts_pass_every_limit() {
         for index in 0..3_000 {
             let text = text(kind, SEED, index);
             lengths.insert(text.len());
-            let refusal = if kind.is_figure() {
-                figure::read(&text, limits::FIGURE_ROOM).err()
-            } else {
-                movement::read(&text, limits::MOVEMENT_ROOM).err()
-            };
+            let refusal = kind.subject().refusal(&text);
             named.extend(
                 refusal
                     .filter(|refusal| refusal.number == 8)

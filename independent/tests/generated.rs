@@ -162,11 +162,7 @@ fn counts(kind: Kind) -> BTreeMap<u8, usize> {
     let mut counts = BTreeMap::new();
     for index in 0..3_000 {
         let text = text(kind, SEED, index);
-        let refusal = if kind.is_figure() {
-            figure::read(&text, limits::FIGURE_ROOM).err()
-        } else {
-            movement::read(&text, limits::MOVEMENT_ROOM).err()
-        };
+        let refusal = kind.subject().refusal(&text);
         *counts
             .entry(refusal.map_or(0, |refusal| refusal.number))
             .or_default() += 1;

@@ -1,18 +1,9 @@
-//! Refusals 8 and 14 to 17 of movements, and 18 to 20 of pairs.
+//! Refusals 8 and 14 to 17 of movements.
 
 mod common;
 
-use common::{changed, movement_refusal, refusal, FIGURE, MOVEMENT};
-use independent::pair::{load, PairRefusal};
-use independent::refusal::Refusal;
+use common::{changed, movement_bone as bone, movement_refusal, refusal, MOVEMENT};
 use independent::{limits, movement};
-
-/// One bone, from its `(` to its `)`.
-fn bone() -> &'static str {
-    let start = MOVEMENT.find("(bone").unwrap();
-    let end = MOVEMENT.find("\n(DynamicPolygons").unwrap();
-    &MOVEMENT[start..end]
-}
 
 #[test]
 fn eight_too_many_rows() {
@@ -134,54 +125,4 @@ fn seventeen_room() {
     let short = movement::read(MOVEMENT.as_bytes(), total - 1);
     assert_eq!(short.err(), refusal(17, total));
     assert_eq!(limits::MOVEMENT_ROOM, 11_779);
-}
-
-fn pair(figure: &str, movement: &str) -> Option<PairRefusal> {
-    load(figure.as_bytes(), movement.as_bytes(), 8_192, 11_779).err()
-}
-
-fn refused(file: u8, number: u8, place: usize) -> Option<PairRefusal> {
-    let refusal = Refusal::new(number, place);
-    Some(PairRefusal { file, refusal })
-}
-
-/// The figure with two groups, as many as the movement's patterns name.
-fn figure_with_groups() -> String {
-    changed(FIGURE, "))))\n", ")))(DynamicPolygons(group)(group)))\n")
-}
-
-#[test]
-fn pairs() {
-    let figure = figure_with_groups();
-    assert_eq!(pair(&figure, MOVEMENT), None);
-    assert_eq!(pair(FIGURE, MOVEMENT), refused(2, 20, 0));
-    let one = changed(&figure, "(group)(group)", "(group)");
-    assert_eq!(pair(&one, MOVEMENT), refused(2, 20, 1));
-    let two = changed(MOVEMENT, bone(), &bone().repeat(2));
-    assert_eq!(pair(FIGURE, &two), refused(2, 18, 2));
-    let only_theirs = changed(MOVEMENT, "(bone", "(bone(name \"a\")");
-    assert_eq!(pair(&figure, &only_theirs), None);
-    let named = changed(&figure, "(bone", "(bone(name \"a\")");
-    assert_eq!(pair(&named, MOVEMENT), None);
-    for (name, expected) in [
-        ("a", None),
-        ("", None),
-        ("b", refused(2, 19, 0)),
-        ("aa", refused(2, 19, 0)),
-    ] {
-        let text = changed(MOVEMENT, "(bone", &format!("(bone(name \"{name}\")"));
-        assert_eq!(pair(&named, &text), expected, "{name}");
-    }
-}
-
-/// The figure's refusals come first, then the movement's, then the pair's.
-#[test]
-fn the_order_of_a_pair() {
-    let bad = changed(FIGURE, "(i3 0 1 2)", "(i3 0 1 3)");
-    assert_eq!(pair(&bad, ""), refused(0, 13, 0));
-    assert_eq!(pair(FIGURE, ""), refused(1, 2, 0));
-    let short = load(FIGURE.as_bytes(), MOVEMENT.as_bytes(), 56, 11_779);
-    assert_eq!(short.err(), refused(0, 17, 57));
-    let short = load(FIGURE.as_bytes(), MOVEMENT.as_bytes(), 57, 54);
-    assert_eq!(short.err(), refused(1, 17, 55));
 }

@@ -2,10 +2,11 @@
 
 mod common;
 
-use common::{changed, FIGURE, MOVEMENT};
+use common::{changed, figure_of, movement_of, FIGURE, MOVEMENT};
+use independent::compare::Printer;
 use independent::generate::{text, Kind};
 use independent::listing::{
-    corner_listing, figure_listing, movement_listing, sample_listing, shown_listing,
+    corner_listing, figure_listing, movement_listing, pair_listing, sample_listing, shown_listing,
 };
 use independent::many;
 use std::io::Write;
@@ -35,16 +36,19 @@ fn one_text_and_many() {
     let movement = env!("CARGO_BIN_EXE_movement_listing");
     let play = env!("CARGO_BIN_EXE_play");
     let corners = env!("CARGO_BIN_EXE_corners");
+    let pair = env!("CARGO_BIN_EXE_pair");
     let shown = env!("CARGO_BIN_EXE_shown");
-    let programs: [(&str, fn(&[u8]) -> String); 5] = [
+    let programs: [(&str, Printer); 6] = [
         (figure, figure_listing),
         (movement, movement_listing),
         (play, sample_listing),
         (corners, corner_listing),
+        (pair, pair_listing),
         (shown, shown_listing),
     ];
+    let both = many::pair(figure_of(&[None], 2).as_bytes(), MOVEMENT.as_bytes());
     for (program, listing) in programs {
-        let texts = [FIGURE.as_bytes(), MOVEMENT.as_bytes(), b"", b"\xff"];
+        let texts = [FIGURE.as_bytes(), MOVEMENT.as_bytes(), &both, b"", b"\xff"];
         let mut stream = Vec::new();
         let mut expected = String::new();
         for text in texts {
@@ -119,8 +123,25 @@ fn shown_prints_every_face_and_frame() {
     let program = env!("CARGO_BIN_EXE_shown");
     assert_eq!(output(program, &[], &text), expected);
     let text = many::pair(figure.as_bytes(), MOVEMENT.as_bytes());
-    assert_eq!(output(program, &[], &text), "refused\t20\t1\n");
-    assert_eq!(output(program, &[], b"no record"), "refused\t2\t0\n");
+    assert_eq!(output(program, &[], &text), "refused\t20\t1\t2\n");
+    assert_eq!(output(program, &[], b"no record"), "refused\t2\t0\t0\n");
+}
+
+/// Three bones, one named by the movement, one by the figure, one by neither.
+#[test]
+fn pair_prints_totals_and_names() {
+    let figure = figure_of(&[None, Some("arm, left"), None], 2);
+    let lines = "(kgf 0 0 true)(kgf 4 1 false)";
+    let movement = movement_of(&[Some("body"), Some(""), None], lines);
+    let text = many::pair(figure.as_bytes(), movement.as_bytes());
+    let expected = "pair\t89\t147\nlabel\t0\tbody\nlabel\t1\tarm, left\nlabel\t2\t\n";
+    let program = env!("CARGO_BIN_EXE_pair");
+    assert_eq!(output(program, &[], &text), expected);
+    let text = many::pair(figure.as_bytes(), MOVEMENT.as_bytes());
+    assert_eq!(output(program, &[], &text), "refused\t18\t1\t2\n");
+    let text = many::pair(figure.as_bytes(), b"");
+    assert_eq!(output(program, &[], &text), "refused\t2\t0\t1\n");
+    assert_eq!(output(program, &[], b"no record"), "refused\t2\t0\t0\n");
 }
 
 #[test]
@@ -139,6 +160,12 @@ fn generate_writes_a_stream_files_and_a_summary() {
         .success());
     let written = std::fs::read(directory.join("00003.tra")).unwrap();
     assert_eq!(written, text(Kind::SoundMovements, 5, 3));
+
+    assert!(run(program, &["5", "2", "damaged-pairs", out], b"")
+        .status
+        .success());
+    let written = std::fs::read(directory.join("00001.pair")).unwrap();
+    assert_eq!(written, text(Kind::DamagedPairs, 5, 1));
 
     let summary = output(program, &["--summary", "5", "4", "sound-movements"], b"");
     assert!(summary.ends_with("\naccepted\t4\n"), "{summary}");

@@ -1,21 +1,24 @@
 //! Compares what a program prints with what this reader and player say.
 //!
 //! `compare PROGRAM KIND SEED COUNT` runs the program on COUNT texts, one at
-//! a time on its standard input; KIND is as for `generate`, or sound-pairs.
+//! a time on its standard input; KIND is as for `generate`.
 //! `compare PROGRAM KIND` does so with the papers' samples; KIND is
 //! samples-figures or samples-movements.
-//! With `--play` before PROGRAM it is every corner of a figure or every sample
-//! of a movement, in place of the listing.
+//! With `--play` before PROGRAM it is every corner of a figure, every sample
+//! of a movement, or whether each face of a pair is shown at each frame, in
+//! place of the listing. With `--pair` it is the totals and the bones' names
+//! of a pair.
 //! At the first difference it prints both lines, keeps the text in a file
-//! under target/ and fails.
+//! under target/ and fails. It fails too if 100 damaged pairs or more do not
+//! meet each of the refusals 18, 19 and 20.
 
-use independent::compare::{compare, first_line, Content, Difference, Subject, Tally, Texts};
+use independent::compare::{compare, first_line, Content, Difference, Tally, Texts};
 use std::error::Error;
 use std::path::{Path, PathBuf};
 use std::process::ExitCode;
 
-const USAGE: &str =
-    "compare [--play] PROGRAM KIND SEED COUNT | compare [--play] PROGRAM samples-KIND";
+const USAGE: &str = "compare [--play | --pair] PROGRAM KIND SEED COUNT | \
+                     compare [--play] PROGRAM samples-KIND";
 const KEPT: &str = "target/compare";
 
 fn main() -> Result<ExitCode, Box<dyn Error>> {
@@ -23,6 +26,7 @@ fn main() -> Result<ExitCode, Box<dyn Error>> {
     let words: Vec<&str> = arguments.iter().map(String::as_str).collect();
     let (content, words) = match &words[..] {
         ["--play", words @ ..] => (Content::Played, words),
+        ["--pair", words @ ..] => (Content::Pair, words),
         words => (Content::Listing, words),
     };
     let (program, kind, texts) = match *words {
@@ -30,10 +34,11 @@ fn main() -> Result<ExitCode, Box<dyn Error>> {
         [program, kind] => (program, kind, Texts::samples(kind)?),
         _ => return Err(USAGE.into()),
     };
-    match compare(Path::new(program), &texts, content) {
+    let printer = content.printer(texts.subject()).ok_or(USAGE)?;
+    match compare(Path::new(program), &texts, printer) {
         Ok(tally) => {
             println!("{}: {}", title(kind, &texts), summary(&tally, content));
-            Ok(ExitCode::SUCCESS)
+            Ok(all_met(&texts.unmet(&tally)))
         }
         Err(difference) => {
             println!("{program} differs");
@@ -43,11 +48,20 @@ fn main() -> Result<ExitCode, Box<dyn Error>> {
     }
 }
 
+fn all_met(unmet: &[u8]) -> ExitCode {
+    for number in unmet {
+        println!("no pair was refused with {number}");
+    }
+    if unmet.is_empty() {
+        ExitCode::SUCCESS
+    } else {
+        ExitCode::FAILURE
+    }
+}
+
 fn title(kind: &str, texts: &Texts) -> String {
     match texts {
-        Texts::Generated { seed, .. } | Texts::Pairs { seed, .. } => {
-            format!("{kind}, seed {seed}")
-        }
+        Texts::Generated { seed, .. } => format!("{kind}, seed {seed}"),
         Texts::Samples { .. } => kind.to_string(),
     }
 }
@@ -90,16 +104,10 @@ fn shown(line: Option<&[u8]>) -> String {
 
 /// Writes the text to a file and gives its path.
 fn keep(kind: &str, texts: &Texts, difference: &Difference) -> std::io::Result<PathBuf> {
-    let ending = match texts.subject() {
-        Subject::Figure => "bac",
-        Subject::Movement => "tra",
-        Subject::Pair => "pair",
-    };
+    let ending = texts.subject().ending();
     let index = difference.index;
     let name = match texts {
-        Texts::Generated { seed, .. } | Texts::Pairs { seed, .. } => {
-            format!("{kind}-{seed}-{index}.{ending}")
-        }
+        Texts::Generated { seed, .. } => format!("{kind}-{seed}-{index}.{ending}"),
         Texts::Samples { .. } => format!("{kind}-{index}.{ending}"),
     };
     std::fs::create_dir_all(KEPT)?;

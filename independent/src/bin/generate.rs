@@ -3,11 +3,11 @@
 //! `generate SEED COUNT KIND OUT` writes COUNT texts into the directory OUT,
 //! or as one stream of records to standard output if OUT is `-`.
 //! `generate --summary SEED COUNT KIND` counts what the reader says of them.
-//! KIND is sound-figures, damaged-figures, sound-movements or
-//! damaged-movements.
+//! KIND is sound or damaged figures, movements or pairs, with a hyphen
+//! between.
 
 use independent::generate::{text, Kind};
-use independent::{figure, limits, many, movement};
+use independent::many;
 use std::collections::BTreeMap;
 use std::error::Error;
 use std::io::{BufWriter, Write};
@@ -43,7 +43,7 @@ fn stream(kind: Kind, seed: u64, count: u64) -> Result<(), Box<dyn Error>> {
 
 fn files(kind: Kind, seed: u64, count: u64, directory: &Path) -> Result<(), Box<dyn Error>> {
     std::fs::create_dir_all(directory)?;
-    let ending = if kind.is_figure() { "bac" } else { "tra" };
+    let ending = kind.subject().ending();
     for index in 0..count {
         let path = directory.join(format!("{index:05}.{ending}"));
         std::fs::write(path, text(kind, seed, index))?;
@@ -57,11 +57,7 @@ fn summary(kind: Kind, seed: u64, count: u64) -> Result<(), Box<dyn Error>> {
     for index in 0..count {
         let text = text(kind, seed, index);
         bytes += text.len();
-        let refusal = if kind.is_figure() {
-            figure::read(&text, limits::FIGURE_ROOM).err()
-        } else {
-            movement::read(&text, limits::MOVEMENT_ROOM).err()
-        };
+        let refusal = kind.subject().refusal(&text);
         *counts
             .entry(refusal.map_or(0, |refusal| refusal.number))
             .or_default() += 1;

@@ -1,18 +1,20 @@
 //! `measure PROGRAM KIND` feeds the same large texts to a program and to this
 //! reader's own, in turn, and prints the times of all their runs, each from
-//! start to end, and the ratio of the two. KIND is figures, movements, corners
-//! or play: with corners the programs print every corner of the figures, with
-//! play every sample of movements of few frames.
+//! start to end, and the ratio of the two. KIND is figures, movements, pairs,
+//! corners, play or shown: with corners the programs print every corner of the
+//! figures, with play every sample of movements of few frames, with shown
+//! whether each face of such pairs is shown at each frame.
 
 use independent::compare::output;
 use independent::generate::rng::Rng;
-use independent::generate::{figure_limits, movement};
+use independent::generate::{figure_limits, movement, pair};
 use std::error::Error;
 use std::path::Path;
 use std::time::{Duration, Instant};
 
 const SEED: u64 = 1;
 const TEXTS: u64 = 20;
+const USAGE: &str = "measure PROGRAM figures | movements | pairs | corners | play | shown";
 
 fn main() -> Result<(), Box<dyn Error>> {
     let arguments: Vec<String> = std::env::args().skip(1).collect();
@@ -20,9 +22,11 @@ fn main() -> Result<(), Box<dyn Error>> {
     let (program, kind, own_name, times_each) = match words[..] {
         [program, kind @ "figures"] => (program, kind, "figure_listing", 20),
         [program, kind @ "movements"] => (program, kind, "movement_listing", 20),
+        [program, kind @ "pairs"] => (program, kind, "pair", 10),
         [program, kind @ "corners"] => (program, kind, "corners", 10),
         [program, kind @ "play"] => (program, kind, "play", 2),
-        _ => return Err("measure PROGRAM figures | movements | corners | play".into()),
+        [program, kind @ "shown"] => (program, kind, "shown", 5),
+        _ => return Err(USAGE.into()),
     };
     let own = std::env::current_exe()?.with_file_name(own_name);
     let mut times = [Duration::ZERO; 2];
@@ -50,6 +54,7 @@ fn title(kind: &str) -> &str {
     match kind {
         "corners" => "figures, every corner",
         "play" => "movements, every sample",
+        "shown" => "pairs, every face and frame",
         _ => kind,
     }
 }
@@ -59,6 +64,7 @@ fn large(kind: &str, index: u64) -> Vec<u8> {
     match kind {
         "figures" | "corners" => figure_limits::full(&mut rng).text(&mut rng),
         "play" => movement::short(&mut rng).text(&mut rng),
+        "pairs" | "shown" => pair::full(&mut rng).text(&mut rng),
         _ => movement::full(&mut rng).text(&mut rng),
     }
 }

@@ -1,4 +1,4 @@
-//! Test texts from a seed: sound and damaged figures and movements.
+//! Test texts from a seed: sound and damaged figures, movements and pairs.
 
 pub mod bytes;
 pub mod figure;
@@ -8,12 +8,14 @@ pub mod movement;
 pub mod movement_damage;
 pub mod number;
 pub mod pair;
+pub mod pair_damage;
 pub mod piece;
 pub mod piece_damage;
 pub mod plan;
 pub mod render;
 pub mod rng;
 
+use crate::subject::Subject;
 use rng::Rng;
 
 #[derive(Clone, Copy, Debug, PartialEq, Eq)]
@@ -22,6 +24,8 @@ pub enum Kind {
     DamagedFigures,
     SoundMovements,
     DamagedMovements,
+    SoundPairs,
+    DamagedPairs,
 }
 
 impl Kind {
@@ -31,12 +35,18 @@ impl Kind {
             "damaged-figures" => Some(Kind::DamagedFigures),
             "sound-movements" => Some(Kind::SoundMovements),
             "damaged-movements" => Some(Kind::DamagedMovements),
+            "sound-pairs" => Some(Kind::SoundPairs),
+            "damaged-pairs" => Some(Kind::DamagedPairs),
             _ => None,
         }
     }
 
-    pub fn is_figure(self) -> bool {
-        matches!(self, Kind::SoundFigures | Kind::DamagedFigures)
+    pub fn subject(self) -> Subject {
+        match self {
+            Kind::SoundFigures | Kind::DamagedFigures => Subject::Figure,
+            Kind::SoundMovements | Kind::DamagedMovements => Subject::Movement,
+            Kind::SoundPairs | Kind::DamagedPairs => Subject::Pair,
+        }
     }
 }
 
@@ -48,5 +58,7 @@ pub fn text(kind: Kind, seed: u64, index: u64) -> Vec<u8> {
         Kind::SoundMovements => movement::sound(&mut rng).text(&mut rng),
         Kind::DamagedFigures => plan::damaged_figure(&mut rng),
         Kind::DamagedMovements => plan::damaged_movement(&mut rng),
+        Kind::SoundPairs => pair::sound(&mut rng).text(&mut rng),
+        Kind::DamagedPairs => pair_damage::damaged(&mut rng),
     }
 }

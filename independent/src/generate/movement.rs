@@ -92,6 +92,17 @@ fn patterns(rng: &mut Rng, total_frames: i64) -> Option<Vec<Pattern>> {
         return None;
     }
     let count = rng.below(6);
+    let frames = pattern_frames(rng, count, total_frames);
+    let group = |rng: &mut Rng| match rng.below(16) {
+        0 => i64::from(i32::MAX),
+        _ => rng.between(0, 3),
+    };
+    let lines = frames.into_iter();
+    Some(lines.map(|frame| (frame, group(rng), rng.coin())).collect())
+}
+
+/// The frames of so many pattern lines: the first at 0, none falling.
+pub fn pattern_frames(rng: &mut Rng, count: usize, total_frames: i64) -> Vec<i64> {
     let mut frames: Vec<i64> = (0..count)
         .map(|_| rng.between(0, total_frames - 1))
         .collect();
@@ -99,12 +110,7 @@ fn patterns(rng: &mut Rng, total_frames: i64) -> Option<Vec<Pattern>> {
     if let Some(first) = frames.first_mut() {
         *first = 0;
     }
-    let group = |rng: &mut Rng| match rng.below(16) {
-        0 => i64::from(i32::MAX),
-        _ => rng.between(0, 3),
-    };
-    let lines = frames.into_iter();
-    Some(lines.map(|frame| (frame, group(rng), rng.coin())).collect())
+    frames
 }
 
 /// A bone that is short to write.

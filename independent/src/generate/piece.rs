@@ -152,7 +152,12 @@ pub fn any_name(rng: &mut Rng) -> Option<Vec<u8>> {
         2 => 255,
         _ => rng.below(12),
     };
-    Some((0..length).map(|_| string_byte(rng)).collect())
+    Some(name_of(rng, length))
+}
+
+/// A name of so many bytes.
+pub fn name_of(rng: &mut Rng, length: usize) -> Vec<u8> {
+    (0..length).map(|_| string_byte(rng)).collect()
 }
 
 /// A byte that may stand in a string.

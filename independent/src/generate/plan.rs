@@ -1,5 +1,7 @@
 //! What damage a text gets: to its lists, its tokens and its bytes.
 
+use super::figure::Figure;
+use super::movement::Movement;
 use super::piece::Piece;
 use super::render::{any_style, render, Style};
 use super::rng::Rng;
@@ -48,56 +50,76 @@ const LARGE: usize = 20;
 
 pub fn damaged_figure(rng: &mut Rng) -> Vec<u8> {
     if rng.once_in(LARGE) {
-        return large_figure(rng).text(rng);
+        return large_figure(rng);
     }
     let plan = plan(rng);
     let sizes = figure::small_sizes(rng);
     let style = any_style(rng);
-    let mut figure = figure::of_sizes(rng, sizes, style, true);
+    let figure = figure::of_sizes(rng, sizes, style, true);
+    figure_by_plan(rng, figure, &plan)
+}
+
+/// The text of this figure, damaged.
+pub fn damage_figure(rng: &mut Rng, figure: Figure) -> Vec<u8> {
+    let plan = plan(rng);
+    figure_by_plan(rng, figure, &plan)
+}
+
+fn figure_by_plan(rng: &mut Rng, mut figure: Figure, plan: &[Damage]) -> Vec<u8> {
     for _ in plan.iter().filter(|damage| **damage == Damage::Lists) {
         figure_damage::damage(rng, &mut figure);
     }
     let pieces = figure.pieces(rng);
-    damaged(rng, b";BAC", pieces, style, &plan)
+    damaged(rng, b";BAC", pieces, figure.style, plan)
 }
 
-fn large_figure(rng: &mut Rng) -> figure::Figure {
+/// The text of a figure at the limits, or past them.
+pub fn large_figure(rng: &mut Rng) -> Vec<u8> {
     let room = limits::FIGURE_ROOM;
-    match rng.below(5) {
+    let (mut figure, damaged_once_in) = match rng.below(5) {
         0 => {
             let total = room + *rng.pick(&[0, 1, 1, 2, 500]);
-            let mut figure = figure_limits::of_total(rng, total);
-            if rng.once_in(3) {
-                figure_damage::damage(rng, &mut figure);
-            }
-            figure
+            (figure_limits::of_total(rng, total), 3)
         }
-        _ => {
-            let mut figure = figure_limits::at_limits(rng);
-            if rng.once_in(4) {
-                figure_damage::damage(rng, &mut figure);
-            }
-            figure
-        }
+        _ => (figure_limits::at_limits(rng), 4),
+    };
+    if rng.once_in(damaged_once_in) {
+        figure_damage::damage(rng, &mut figure);
     }
+    figure.text(rng)
 }
 
 pub fn damaged_movement(rng: &mut Rng) -> Vec<u8> {
     if rng.once_in(LARGE) {
-        let past = *rng.pick(&[0, 1, 1, 2]);
-        let mut movement = movement::at_limits(rng, past);
-        if rng.once_in(3) {
-            movement_damage::damage(rng, &mut movement);
-        }
-        return movement.text(rng);
+        return large_movement(rng);
     }
     let plan = plan(rng);
-    let mut movement = movement::small(rng);
+    let movement = movement::small(rng);
+    movement_by_plan(rng, movement, &plan)
+}
+
+/// The text of a movement at the limits, or past them.
+pub fn large_movement(rng: &mut Rng) -> Vec<u8> {
+    let past = *rng.pick(&[0, 1, 1, 2]);
+    let mut movement = movement::at_limits(rng, past);
+    if rng.once_in(3) {
+        movement_damage::damage(rng, &mut movement);
+    }
+    movement.text(rng)
+}
+
+/// The text of this movement, damaged.
+pub fn damage_movement(rng: &mut Rng, movement: Movement) -> Vec<u8> {
+    let plan = plan(rng);
+    movement_by_plan(rng, movement, &plan)
+}
+
+fn movement_by_plan(rng: &mut Rng, mut movement: Movement, plan: &[Damage]) -> Vec<u8> {
     for _ in plan.iter().filter(|damage| **damage == Damage::Lists) {
         movement_damage::damage(rng, &mut movement);
     }
     let pieces = movement.pieces(rng);
-    damaged(rng, b";TRA", pieces, movement.style, &plan)
+    damaged(rng, b";TRA", pieces, movement.style, plan)
 }
 
 /// Damages tokens, renders them, then damages bytes.

@@ -39,6 +39,57 @@ pub fn up_to(text: &str, part: &str) -> String {
     text[..end].to_string()
 }
 
+/// The part of a text from `start` up to `end`.
+fn part<'a>(text: &'a str, start: &str, end: &str) -> &'a str {
+    &text[text.find(start).unwrap()..text.find(end).unwrap()]
+}
+
+/// The bone of the paper's figure.
+fn figure_bone() -> &'static str {
+    part(FIGURE, "(bone(", ")\n(Polygons")
+}
+
+/// The bone of the small movement.
+pub fn movement_bone() -> &'static str {
+    part(MOVEMENT, "(bone\n", "\n(DynamicPolygons")
+}
+
+/// The names of a text's bones, none for an absent one.
+pub type Names<'a> = [Option<&'a str>];
+
+fn named(bone: &str, name: Option<&str>) -> String {
+    match name {
+        Some(name) => changed(bone, "(bone", &format!("(bone(name \"{name}\")")),
+        None => bone.into(),
+    }
+}
+
+/// The paper's figure with so many groups, and bones of these names that are
+/// brothers. The first has the two points.
+pub fn figure_of(names: &Names, groups: usize) -> String {
+    let bone = |(row, &name)| {
+        let mut bone = named(figure_bone(), name);
+        if row + 1 < names.len() {
+            bone = changed(&bone, "hasBrother false", "hasBrother true");
+        }
+        if row > 0 {
+            bone = changed(&bone, "(vertexIndices 0 1)", "");
+        }
+        bone
+    };
+    let bones: String = names.iter().enumerate().map(bone).collect();
+    let text = changed(FIGURE, figure_bone(), &bones);
+    let groups = format!(")))(DynamicPolygons{}))\n", "(group)".repeat(groups));
+    changed(&text, "))))\n", &groups)
+}
+
+/// The small movement with bones of these names and these pattern lines.
+pub fn movement_of(names: &Names, lines: &str) -> String {
+    let bones = names.iter().map(|&name| named(movement_bone(), name));
+    let text = changed(MOVEMENT, movement_bone(), &bones.collect::<String>());
+    changed(&text, "(kgf 0 0 true)(kgf 4 1 false)", lines)
+}
+
 pub fn refusal(number: u8, place: usize) -> Option<Refusal> {
     Some(Refusal::new(number, place))
 }
