@@ -1,0 +1,14 @@
+-- Each marked case is as 01 says, by computation.
+use mathlib.Core.Path.{_≡_, refl}
+use mathlib.Core.List.{map}
+use Rattle.lexer.specs.Bytes.{bytes, between, isDigit, run}
+use Rattle.lexer.specs.Numbers.{decimalFrom, decimal, signed, notEmpty, allDigits, intMost, intOf, millionths, floatOf, numberFrom, afterDigits, unsigned, negative, magnitude, numberOf, refusalOf}
+use Rattle.bac6_text.specs.Rules.{isSet, joined, thenIf, boneList, wholeList, placedFault, parentsIn, bonesFault}
+use Rattle.tra4_text.specs.Movement.{frameOf}
+use Rattle.player.specs.Fractions.{factorIn, factor, signedAs, lowest, whole}
+use Rattle.player.specs.Samples.{keyFrame, keyValue, line, sampleFrom, sampleOf}
+use Rattle.shoalbutton.specs.Marked.{saysNumber, saysBones, saysSample, valueOf, channel, ruled, marked}
+
+pub marked-cases : map (λ c. ruled (c .0)) marked ≡ map (λ c. c .1) marked
+unfolding bytes between isDigit run decimalFrom decimal signed notEmpty allDigits intMost intOf millionths floatOf numberFrom afterDigits unsigned negative magnitude numberOf refusalOf isSet joined thenIf boneList wholeList placedFault parentsIn bonesFault frameOf factorIn factor signedAs lowest whole keyFrame keyValue line sampleFrom sampleOf saysNumber saysBones saysSample valueOf channel ruled
+marked-cases = refl
