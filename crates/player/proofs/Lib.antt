@@ -14,6 +14,7 @@ pub mod Examples
 pub mod Sampled
 pub mod FaceRows
 pub mod Indices
+pub mod BoneRows
 pub mod CornerTests
 pub mod PatternLines
 pub mod Flagged

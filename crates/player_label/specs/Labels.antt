@@ -1,0 +1,43 @@
+-- Label (document 01, "Playing"): the movement's name for a bone where it has one of non-zero length, else the figure's.
+use mathlib.Core.List.{List, [], _∷_}
+use mathlib.Core.Bool.{_&&_}
+use mathlib.Core.Option.{Option, none, some}
+use Prim.Native.Nat.{ℕ}
+use lib.Dec.{ltb}
+use lib.IntN.{ℤ}
+use Rattle.bac6_text.specs.Figure as bac6
+use Rattle.tra4_text.specs.Movement as tra4
+use Rattle.player.specs.declared.counts.MovementCounts.{MovementCounts}
+use Rattle.player.specs.declared.counts.FigureCounts.{FigureCounts}
+use Rattle.player.specs.Columns.{holdsMovement, holdsFigure}
+use Rattle.player_label.specs.Names.{figureName, movementName, ifTrue}
+
+-- of the figure's name and the movement's
+unfoldable pub labelBy : List ℕ → List ℕ → List ℕ
+labelBy figure [] = figure
+labelBy figure (b ∷ bs) = b ∷ bs
+
+-- ---- from the two texts' lists
+
+unfoldable pub labelOf : bac6.Bone → tra4.Bone → List ℕ
+labelOf b c = labelBy (b .name .bytes) (c .name .bytes)
+
+-- ---- on tables: none is 21
+
+-- both pairs are names
+unfoldable pub labelFrom : Option (List ℕ) → Option (List ℕ) → Option (List ℕ)
+labelFrom none movement = none
+labelFrom (some figure) none = none
+labelFrom (some figure) (some movement) = some (labelBy figure movement)
+
+-- by the figure's text, counts and table and the movement's text, counts and table: the tables hold what their counts say, and the bone is a row of both
+unfoldable pub labelIn : List ℕ → FigureCounts → List ℤ → List ℕ → MovementCounts → List ℤ → ℕ → Option (List ℕ)
+labelIn figure n table movement m moves bone =
+    ifTrue
+    (holdsFigure n table && holdsMovement m moves && ltb bone (n .bones) && ltb bone (m .bones))
+    (labelFrom (figureName figure n table bone) (movementName movement moves bone))
+
+-- at 21 the part is empty
+unfoldable pub orEmpty : Option (List ℕ) → List ℕ
+orEmpty none = []
+orEmpty (some name) = name
