@@ -4,6 +4,7 @@ pub mod Parts
 pub mod Lexing
 pub mod Spans
 pub mod Scanning
+pub mod Strings
 pub mod Numerals
 pub mod Signed
 pub mod Tests
