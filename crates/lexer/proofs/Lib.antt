@@ -1,4 +1,5 @@
 -- Laws that belong to no one function.
+pub mod Every
 pub mod Runs
 pub mod Parts
 pub mod Lexing

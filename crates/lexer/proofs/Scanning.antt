@@ -13,8 +13,8 @@ use Rattle.lexer.specs.Bytes.{Class, blank, opener, closer, quote, semic
 use Rattle.lexer.specs.Faults.{Fault, clear, fault, outside, comment, string, faultIn, begins, blankOrEnd}
 use Rattle.lexer.proofs.Runs.{run-yes, run-no}
 
-pub not-clear : (n p : ℕ) → fault n p ≡ clear → ⊥
-not-clear n p e = let z : _≡_ {A = ℕ} 0 1 = cc in omega arith
+pub fault-not-clear : (n p : ℕ) → fault n p ≡ clear → ⊥
+fault-not-clear n p e = let z : _≡_ {A = ℕ} 0 1 = cc in omega arith
 
 -- a class whose bytes are passed over outside strings and comments
 unfoldable pub passes : Class → Bool

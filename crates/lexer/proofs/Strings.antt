@@ -16,7 +16,7 @@ use Rattle.lexer.specs.Strings.{StringAt, Stands}
 use Rattle.lexer.specs.Faults.{clear, outside, string, faultIn, Format, marked, textFault}
 use Rattle.lexer.proofs.Runs.{run-yes, run-no, run-take}
 use Rattle.lexer.proofs.Numerals.{and-true, between-true}
-use Rattle.lexer.proofs.Scanning.{not-clear, comment-end}
+use Rattle.lexer.proofs.Scanning.{fault-not-clear, comment-end}
 
 -- ---- a string
 
@@ -29,7 +29,7 @@ record Ended (n p : ℕ) (rs bs : List ℕ) : Type 0 where
 
 string-ended : (q n p : ℕ) (bs : List ℕ) → n ≤ 255 → faultIn (string q n) p bs ≡ clear → Ended n p (run inString bs) bs
 unfolding faultIn
-string-ended q n p [] h e = absurd (not-clear 4 q e)
+string-ended q n p [] h e = absurd (fault-not-clear 4 q e)
 string-ended q n p (b ∷ bs) h e = go (eqb b 34) (ltb n 255) (isContent b) refl refl refl (string-ended q (suc n) (suc p) bs)
   where
     further : (rs : List ℕ) → isContent b ≡ true → Ended (suc n) (suc p) rs bs → Ended n p (b ∷ rs) (b ∷ bs)
@@ -44,8 +44,8 @@ string-ended q n p (b ∷ bs) h e = go (eqb b 34) (ltb n 255) (isContent b) refl
         let j : p + 1 ≡ suc p = omega arith in
         rw (run-no inString b bs (unfold inString in (ap not o))) (record { most = omega arith; within = omega arith; content = tt; clears = rw j (rw (o, faultIn) at e) })
     go false true true o w y ih = rw (run-yes inString b bs (unfold inString in (ap not o))) (further (run inString bs) y (ih (ltb-true n 255 w) (rw (o, w, y, faultIn) at e)))
-    go false true false o w y ih = absurd (not-clear 3 p (rw (o, w, y, faultIn) at e))
-    go false false c o w y ih = absurd (not-clear 4 q (rw (o, w, faultIn) at e))
+    go false true false o w y ih = absurd (fault-not-clear 3 p (rw (o, w, y, faultIn) at e))
+    go false false c o w y ih = absurd (fault-not-clear 4 q (rw (o, w, faultIn) at e))
 
 -- ---- a plain word
 
@@ -117,7 +117,7 @@ module _ (text : List ℕ) where
           rw (o, tokens) (string-at (suc p) bs (one-on p b bs d) r, ih (suc (length (run inString bs))) (r .clears))
       go semicolon o ih = rw (o, tokens) (ih (length (run inLine bs)) (sym (comment-end (suc p) bs) ∙ unfold faultIn in (rw (o, faultIn) at here)))
       go letter o ih = rw (o, tokens) (tt, ih (length (run isLetter bs)) (sym (letters-pass (suc p) bs) ∙ unfold faultIn in (rw (o, faultIn) at here)))
-      go other o ih = absurd (not-clear 3 p (unfold faultIn in (rw (o, faultIn) at here)))
+      go other o ih = absurd (fault-not-clear 3 p (unfold faultIn in (rw (o, faultIn) at here)))
 
 -- a text that passes the refusals 1 to 4 passes 3 and 4
 pub passes-bytes : (f : Format) (text : List ℕ) → textFault f text ≡ clear → faultIn outside 0 text ≡ clear
@@ -126,8 +126,8 @@ passes-bytes f text e = go (leb (length text) 65536) (marked f text) refl refl
   where
     go : (v m : Bool) → leb (length text) 65536 ≡ v → marked f text ≡ m → faultIn outside 0 text ≡ clear
     go true true o h = rw (o, h, textFault) at e
-    go true false o h = absurd (not-clear 2 0 (rw (o, h, textFault) at e))
-    go false m o h = absurd (not-clear 1 0 (rw (o, textFault) at e))
+    go true false o h = absurd (fault-not-clear 2 0 (rw (o, h, textFault) at e))
+    go false m o h = absurd (fault-not-clear 1 0 (rw (o, textFault) at e))
 
 pub strings-stand : (f : Format) (text : List ℕ) → textFault f text ≡ clear → Every (Stands text) (lex text)
 unfolding lex
