@@ -8,6 +8,7 @@ use lib.IntN.{ℤ}
 use lib.ListN.{length}
 use Rattle.lexer.specs.Faults.{clear, fault}
 use Rattle.lexer.proofs.Numerals.{and-true}
+use Rattle.lexer.specs.Strings.{StringAt}
 use Rattle.chunks.specs.Fields.{isSome}
 use Rattle.chunks.specs.Outcomes.{rejected, accepted}
 use Rattle.tra4_text.specs.Movement.{Movement}
@@ -23,7 +24,7 @@ use Rattle.movement_bridge.proofs.Names.{boneName}
 use Rattle.pair_text.specs.Rules.{pairFault}
 use Rattle.pair_text.specs.Answer.{Loaded, refused, loaded, ifPaired, withMovement, movementLeft}
 use Rattle.pair_bridge.specs.Names.{namesFrom, allNamed, namesIn}
-use Rattle.pair_bridge.proofs.Names.{StringAt, names-length, movement-names-in}
+use Rattle.pair_bridge.proofs.Names.{names-length, movement-names-in}
 use Rattle.pair_load.specs.Answers.{withNames, movedAnswer, movedReply}
 use Rattle.pair_load.specs.Tables.{tablesFault}
 

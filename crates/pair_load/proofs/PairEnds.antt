@@ -6,6 +6,7 @@ use Prim.Native.Nat.{ℕ, _<_}
 use native.Mathlib.Omega.{arith}
 use lib.IntN.{ℤ}
 use lib.ListN.{length, drop}
+use Rattle.lexer.specs.Strings.{StringAt}
 use Rattle.chunks.specs.Outcomes.{rejected, accepted}
 use Rattle.bac6_text.specs.Figure.{Figure}
 use Rattle.bac6_text.specs.Layout as figures
@@ -26,7 +27,7 @@ use Rattle.movement_bridge.specs.Counts as moving
 use Rattle.pair_text.specs.Answer.{Loaded, refused, loaded, withMovement, withFigure, paired, pairAnswer, movementOf, figureLeft, movementLeft}
 use Rattle.pair_load.specs.declared.pair.PairAnswer.{PairAnswer}
 use Rattle.pair_bridge.specs.Names.{namesIn}
-use Rattle.pair_bridge.proofs.Names.{StringAt, figure-names-in}
+use Rattle.pair_bridge.proofs.Names.{figure-names-in}
 use Rattle.pair_load.specs.Answers.{withNames, movedAnswer, movedReply, pairReply}
 
 module _ (figure : List ℕ) (room : ℕ) (movement : List ℕ) (space : ℕ) where

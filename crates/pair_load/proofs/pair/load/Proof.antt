@@ -77,6 +77,7 @@ module _ (l : tie.After-load-movement) where
   paired =
       pair-is _ _ _ _ (replicate 37026 (pos 0)) (took before-it .value) (taken before-it) (figure-stands _ _ (took before-it .alone)) (room-enough figure-held 37026 _ _ (took before-it) _ (l .before .before .before .before .if2 .left))
       ∙ ap (withFigure (took before-it .value)) (sym (ap₂ (λ (n : FigureCounts) (t : List ℤ). movedAnswer (text before-it) n t movement space) (l .before .before .before .counts-of .ensures ∙ ap countsIn (took before-it .answer)) (left before-it)))
+
   halved : half ≡ movementOf whole
   halved = sym (ap movementOf paired ∙ half-is _ _)
 
@@ -151,10 +152,13 @@ unfolding figureLeft laid
 returns-4 c = let l = c .before .before .before .before .before .before .before in
     let e = l .before .before .before .before .before in
     let d = moved-taken _ _ (l .load-movement .ensures .0) (c .before .before .before .before .if3 .left) in
-    let p = loaded-is l (d .movement) (d .is) in
-    (reply-is _ _ _ _ _ (took e .answer) (l .before .before .before .counts-of .ensures) (d .answer) ∙ ap pairReply (sym p),
-    (c .before .put .ensures .0 ∙ rw (laid-down e, p) (left-is figure-held 37026 _ _ (took e) _ _ (l .before .before .before .before .if2 .left)),
-    l .load-movement .ensures .1 ∙ ap (movementLeft _) (halved l)))
+    let p = loaded-is l (d .movement) (d .is) in (
+      reply-is _ _ _ _ _ (took e .answer) (l .before .before .before .counts-of .ensures) (d .answer) ∙ ap pairReply (sym p),
+      (
+        c .before .put .ensures .0 ∙ rw (laid-down e, p) (left-is figure-held 37026 _ _ (took e) _ _ (l .before .before .before .before .if2 .left)),
+        l .load-movement .ensures .1 ∙ ap (movementLeft _) (halved l),
+      ),
+    )
 
 pub load-spec : {M : Type 1} → statement M
 load-spec =
