@@ -1,5 +1,5 @@
 -- What each test of `figure_bone` and `movement_bone` says of its definition: a failed one gives nothing, and past them the row is there.
-use mathlib.Core.Path.{_≡_, refl}
+use mathlib.Core.Path.{_≡_}
 use mathlib.Core.List.{List, []}
 use mathlib.Core.Bool.{true, false}
 use Prim.Native.Nat.{ℕ, _+_, _*_, _≤_, _<_}

@@ -3,17 +3,17 @@ use mathlib.Core.Path.{_≡_, refl, ap, sym, _∙_}
 use mathlib.Core.List.{List, [], _∷_}
 use mathlib.Core.Bool.{Bool, true, false, _&&_}
 use mathlib.Core.Option.{Option, none, some}
-use Prim.Native.Nat.{ℕ, _+_, _*_, _-_, _≤_, _<_}
+use Prim.Native.Nat.{ℕ, _-_, _≤_, _<_}
 use native.Mathlib.Omega.{arith}
 use lib.Dec.{ltb}
 use lib.IntN.{ℤ}
-use lib.ListN.{length, take, drop, length-take, length-drop}
+use lib.ListN.{length, drop, length-take, length-drop}
 use Rattle.lexer.specs.Bytes.{part}
 use Rattle.lexer.proofs.Parts.{part-none}
 use Rattle.player.specs.declared.counts.MovementCounts.{MovementCounts}
 use Rattle.player.specs.declared.counts.FigureCounts.{FigureCounts}
 use Rattle.player.specs.Columns.{holdsMovement, holdsFigure}
-use Rattle.player_label.specs.Names.{nameSpan, partAt, figureSpan, movementSpan, figureName, movementName, ifTrue, figureNamed, movementNamed}
+use Rattle.player_label.specs.Names.{partAt, figureSpan, movementSpan, figureName, movementName, ifTrue, figureNamed, movementNamed}
 use Rattle.player_label.specs.Labels.{labelBy, labelFrom, labelIn}
 use Rattle.player_label.proofs.Spans.{span-within}
 

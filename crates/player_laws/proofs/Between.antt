@@ -6,10 +6,9 @@ use Prim.Native.Nat.{ℕ, zero, suc, _+_, _*_, _-_, _/_, _≤_, _<_}
 use native.Mathlib.Nat.{zero-mul, mul-zero, mul-suc, mul-pos, div-mul-cancel}
 use native.Mathlib.Omega.{arith}
 use borrow.Author.Tests.{leb-true, leb-false, le-leb, lt-ltb, le-ltb}
-use lib.Dec.{leb, ltb}
 use lib.Signed.{leZ}
-use lib.IntN.{ℤ, pos, negsuc, negℤ, natAbs, sucℤ, _+ℤ_, _-ℤ_, _*ℤ_, +ℤ-idr, +ℤ-assoc, +ℤ-comm, +ℤ-invl, -ℤ-+ℤ-cancel, *ℤ-zero, *ℤ-comm, sucℤ-*ℤ, pos-+ℤ-pos, pos-*ℤ-pos, +ℤ-negℤ-cancel, +ℤ-invr}
-use Rattle.player.specs.Fractions.{Fraction, factor, signedAs, lowest}
+use lib.IntN.{ℤ, pos, negsuc, negℤ, natAbs, _+ℤ_, _-ℤ_, _*ℤ_, +ℤ-idr, +ℤ-assoc, +ℤ-comm, +ℤ-invl, -ℤ-+ℤ-cancel, *ℤ-zero, *ℤ-comm, sucℤ-*ℤ, pos-+ℤ-pos, pos-*ℤ-pos, +ℤ-negℤ-cancel, +ℤ-invr}
+use Rattle.player.specs.Fractions.{factor, signedAs, lowest}
 use Rattle.tra4_text.specs.Movement.{Key}
 use Rattle.player.specs.Samples.{keyFrame, keyValue, line}
 use Rattle.player.proofs.Factors.{factor-divides, factor-some}

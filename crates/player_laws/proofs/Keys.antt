@@ -1,9 +1,9 @@
 -- A channel whose frames are sound: on a key, between two, past the last; and the terms are lowest. Sound frames rise, and a channel is split at its keys.
 use mathlib.Core.Path.{_≡_, refl, ap, sym, subst, _∙_}
 use mathlib.Core.List.{List, [], _∷_, _++_}
-use mathlib.Core.Bool.{Bool, true, false, false≢true, _&&_}
+use mathlib.Core.Bool.{Bool, true, false, false≢true}
 use mathlib.Core.Option.{Option, none, some}
-use Prim.Native.Nat.{ℕ, zero, suc, _+_, _-_, _*_, _≤_, _<_, _∣_}
+use Prim.Native.Nat.{ℕ, zero, suc, _*_, _≤_, _<_}
 use native.Mathlib.Omega.{arith}
 use native.Mathlib.Nat.{zero-mul}
 use borrow.Author.Tests.{ltb-true, eqb-true, leb-true}
@@ -12,11 +12,11 @@ use lib.IntN.{ℤ, pos, negsuc, natAbs}
 use lib.Signed.{ltZ, leZ}
 use lib.ListN.{length, getD, take, drop, drop-of-length-le}
 use lib.Seq.{split-at, drop-cons}
-use Rattle.lexer.specs.Faults.{Fault, clear, fault}
+use Rattle.lexer.specs.Faults.{clear, fault}
 use Rattle.lexer.proofs.Numerals.{and-true}
 use Rattle.tra4_text.specs.Movement.{Key, Channel, frameOf}
 use Rattle.tra4_text.specs.Rules.{framesFault, keyFine, isFrame, isZero, rises}
-use Rattle.player.specs.Fractions.{Fraction, factor, lowest, whole}
+use Rattle.player.specs.Fractions.{factor, lowest, whole}
 use Rattle.player.specs.Samples.{keyFrame, keyValue, line, sampleFrom, sampleOf}
 use Rattle.player.proofs.Factors.{lowest-coprime}
 use Rattle.player_laws.specs.Bounds.{Between, LowestTerms, keyAt}

@@ -1,5 +1,5 @@
 -- `label` is the part that `find` names, of the text that it names.
-use mathlib.Core.Path.{_≡_, ap, sym, _∙_}
+use mathlib.Core.Path.{_∙_}
 use native.Mathlib.Omega.{arith}
 use borrow.Author.Needs.{needs}
 use Rattle.lexer.proofs.Parts.{part-none}
