@@ -2,3 +2,4 @@
 pub mod Marked
 pub mod Taken
 pub mod Played
+pub mod Answered

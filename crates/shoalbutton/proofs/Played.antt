@@ -93,6 +93,15 @@ module _ (F : List ℕ) (table : List ℤ) (M : List ℕ) (moves : List ℤ) (f 
       ∙ ap₂ (λ (k : MovementCounts) (u : List ℤ). labelIn F (figure.countsIn (bac6.answerOf (accepted f))) (tableAfter F table) M k u bone) movement-counts moves-is
       ∙ label-alone bone
 
+  -- ---- the same of counts and tables that are those of loading
+
+  module _ (n : FigureCounts) (t : List ℤ) (k : MovementCounts) (u : List ℤ) (a : n ≡ reply F table M moves .figure) (b : t ≡ tableLeft F table M moves) (c : k ≡ reply F table M moves .movement) (d : u ≡ movesLeft F table M moves) where
+    pub shown-of : (face at : ℕ) → shownIn n t k u face at ≡ shownAsked f m face at
+    shown-of face at = rw (a, b, c, d) (every-shown face at)
+
+    pub label-of : (bone : ℕ) → labelIn F n t M k u bone ≡ labelAsked f m bone
+    label-of bone = rw (a, b, c, d) (every-label bone)
+
   -- rule 18
   same-bones : length (f .bones) ≡ length (m .bones)
   unfolding bonesFault figureNames

@@ -97,13 +97,11 @@ module _ (F : List ℕ) (table : List ℤ) (M : List ℕ) (moves : List ℤ) whe
     pub label : (bone : ℕ) → bone < length (m .bones) → numbered (labelIn F (reply .figure) tableLeft M (reply .movement) movesLeft bone) ≡ (0, 0, 0, some (labelBy (getD (figureNames f) bone []) (getD (movementNames m) bone [])))
     -- as many bones in the one as in the other
     pub bones : length (f .bones) ≡ length (m .bones)
-
     -- the sample itself: on a key the key's value, between two keys not below the smaller nor above the larger, past the last the last's; in lowest terms
     pub on-key : (bone channel i : ℕ) → bone < length (m .bones) → channel < 10 → i < length (channelOf m bone channel) → sampleOf (channelOf m bone channel) (keyFrame (keyAt (channelOf m bone channel) i)) ≡ whole (keyValue (keyAt (channelOf m bone channel) i))
     pub between : (bone channel i at : ℕ) → bone < length (m .bones) → channel < 10 → suc i < length (channelOf m bone channel) → keyFrame (keyAt (channelOf m bone channel) i) ≤ at → at < keyFrame (keyAt (channelOf m bone channel) (suc i)) → Between (keyValue (keyAt (channelOf m bone channel) i)) (keyValue (keyAt (channelOf m bone channel) (suc i))) (sampleOf (channelOf m bone channel) at)
     pub past-last : (bone channel i at : ℕ) → bone < length (m .bones) → channel < 10 → suc i ≡ length (channelOf m bone channel) → keyFrame (keyAt (channelOf m bone channel) i) ≤ at → sampleOf (channelOf m bone channel) at ≡ whole (keyValue (keyAt (channelOf m bone channel) i))
     pub lowest : (bone channel at : ℕ) → bone < length (m .bones) → channel < 10 → LowestTerms (sampleOf (channelOf m bone channel) at)
-
     -- and whatever is asked: 21 exactly for what is not in the files
     pub every-sample : (bone channel at : ℕ) → sampleIn (reply .movement) movesLeft bone channel at ≡ sampleAsked m bone channel at
     pub every-shown : (face at : ℕ) → shownIn (reply .figure) tableLeft (reply .movement) movesLeft face at ≡ shownAsked f m face at
