@@ -10,26 +10,20 @@ ghost use Rattle.player.specs.Lookups.{sampleIn, shownIn, cornerIn};
 ghost use Rattle.player.specs.Answers.{numbered, sampled, showed, cornered};
 ghost use Rattle.player_label.specs.Labels.{labelIn, orEmpty};
 ghost use Rattle.pair_text.specs.Answer.{pairAnswer, figureLeft, movementOf, movementLeft};
+ghost use Rattle.pair_bridge.specs.Playing.{sampleAsked, cornerAsked, shownAsked, labelAsked};
+ghost use Rattle.pair_play.specs.Playing.{played, sampleTold, cornerTold, shownTold, refusalOf, bytesOf};
 ghost use Rattle.pair_load.specs.Answers.{pairReply, movedAnswer, movedReply};
-
-mod texts;
-
 use bac6::FigureAnswer;
 use pair_load::PairAnswer;
+use pair_play::PlayedCorner;
+use pair_play::PlayedSample;
+use pair_play::PlayedShown;
+use pair_play::Refusal;
 use player::Cornered;
 use player::FigureCounts;
 use player::MovementCounts;
 use player::Sampled;
 use player::Visibility;
-pub use texts::PlayedCorner;
-pub use texts::PlayedSample;
-pub use texts::PlayedShown;
-pub use texts::Refusal;
-pub use texts::played_corner;
-pub use texts::played_label;
-pub use texts::played_label_number;
-pub use texts::played_sample;
-pub use texts::played_shown;
 use tra4::MovementAnswer;
 
 // ---- reading
@@ -131,4 +125,82 @@ pub fn label_number(
     ensures { λ r. ⌜ r ≡ numbered (labelIn (now (figure .entry)) n (now (table .entry)) (now (movement .entry)) m (now (moves .entry)) bone) .0 ⌝ }
 {
     player_label::label_number(figure, table, n, movement, moves, m, bone)
+}
+
+// ---- loading a pair and then playing it: the answer speaks of the two texts alone
+
+pub fn played_sample(
+    figure: &[u8],
+    movement: &[u8],
+    table: &mut [i64],
+    moves: &mut [i64],
+    bone: usize,
+    channel: usize,
+    at: usize,
+) -> PlayedSample
+    ensures answer { λ r. ⌜ sampleTold r ≡ played (pairAnswer (now (figure .entry)) (length (now (table .entry))) (now (movement .entry)) (length (now (moves .entry)))) (λ f m. sampleAsked m bone channel at) ⌝ }
+    ensures figure { λ r. ⌜ now (table .exit) ≡ figureLeft (now (table .entry)) (pairAnswer (now (figure .entry)) (length (now (table .entry))) (now (movement .entry)) (length (now (moves .entry)))) ⌝ }
+    ensures movement { λ r. ⌜ now (moves .exit) ≡ movementLeft (now (moves .entry)) (movementOf (pairAnswer (now (figure .entry)) (length (now (table .entry))) (now (movement .entry)) (length (now (moves .entry))))) ⌝ }
+{
+    pair_play::played_sample(figure, movement, table, moves, bone, channel, at)
+}
+
+pub fn played_corner(
+    figure: &[u8],
+    movement: &[u8],
+    table: &mut [i64],
+    moves: &mut [i64],
+    face: usize,
+    k: usize,
+) -> PlayedCorner
+    ensures answer { λ r. ⌜ cornerTold r ≡ played (pairAnswer (now (figure .entry)) (length (now (table .entry))) (now (movement .entry)) (length (now (moves .entry)))) (λ f m. cornerAsked f face k) ⌝ }
+    ensures figure { λ r. ⌜ now (table .exit) ≡ figureLeft (now (table .entry)) (pairAnswer (now (figure .entry)) (length (now (table .entry))) (now (movement .entry)) (length (now (moves .entry)))) ⌝ }
+    ensures movement { λ r. ⌜ now (moves .exit) ≡ movementLeft (now (moves .entry)) (movementOf (pairAnswer (now (figure .entry)) (length (now (table .entry))) (now (movement .entry)) (length (now (moves .entry))))) ⌝ }
+{
+    pair_play::played_corner(figure, movement, table, moves, face, k)
+}
+
+pub fn played_shown(
+    figure: &[u8],
+    movement: &[u8],
+    table: &mut [i64],
+    moves: &mut [i64],
+    face: usize,
+    at: usize,
+) -> PlayedShown
+    ensures answer { λ r. ⌜ shownTold r ≡ played (pairAnswer (now (figure .entry)) (length (now (table .entry))) (now (movement .entry)) (length (now (moves .entry)))) (λ f m. shownAsked f m face at) ⌝ }
+    ensures figure { λ r. ⌜ now (table .exit) ≡ figureLeft (now (table .entry)) (pairAnswer (now (figure .entry)) (length (now (table .entry))) (now (movement .entry)) (length (now (moves .entry)))) ⌝ }
+    ensures movement { λ r. ⌜ now (moves .exit) ≡ movementLeft (now (moves .entry)) (movementOf (pairAnswer (now (figure .entry)) (length (now (table .entry))) (now (movement .entry)) (length (now (moves .entry))))) ⌝ }
+{
+    pair_play::played_shown(figure, movement, table, moves, face, at)
+}
+
+// A part of one of the two texts; where the pair is refused or has no such bone, an empty one.
+pub fn played_label<'a>(
+    figure: &'a [u8],
+    movement: &'a [u8],
+    table: &mut [i64],
+    moves: &mut [i64],
+    bone: usize,
+) -> &'a [u8]
+    ensures answer { λ r. ⌜ now r ≡ bytesOf (played (pairAnswer (now (figure .entry)) (length (now (table .entry))) (now (movement .entry)) (length (now (moves .entry)))) (λ f m. labelAsked f m bone)) ⌝ }
+    ensures figure { λ r. ⌜ now (table .exit) ≡ figureLeft (now (table .entry)) (pairAnswer (now (figure .entry)) (length (now (table .entry))) (now (movement .entry)) (length (now (moves .entry)))) ⌝ }
+    ensures movement { λ r. ⌜ now (moves .exit) ≡ movementLeft (now (moves .entry)) (movementOf (pairAnswer (now (figure .entry)) (length (now (table .entry))) (now (movement .entry)) (length (now (moves .entry))))) ⌝ }
+{
+    pair_play::played_label(figure, movement, table, moves, bone)
+}
+
+// Its number, place and file.
+pub fn played_label_number(
+    figure: &[u8],
+    movement: &[u8],
+    table: &mut [i64],
+    moves: &mut [i64],
+    bone: usize,
+) -> Refusal
+    ensures answer { λ r. ⌜ r ≡ refusalOf (played (pairAnswer (now (figure .entry)) (length (now (table .entry))) (now (movement .entry)) (length (now (moves .entry)))) (λ f m. labelAsked f m bone)) ⌝ }
+    ensures figure { λ r. ⌜ now (table .exit) ≡ figureLeft (now (table .entry)) (pairAnswer (now (figure .entry)) (length (now (table .entry))) (now (movement .entry)) (length (now (moves .entry)))) ⌝ }
+    ensures movement { λ r. ⌜ now (moves .exit) ≡ movementLeft (now (moves .entry)) (movementOf (pairAnswer (now (figure .entry)) (length (now (table .entry))) (now (movement .entry)) (length (now (moves .entry))))) ⌝ }
+{
+    pair_play::played_label_number(figure, movement, table, moves, bone)
 }

@@ -6,7 +6,7 @@ ghost use Rattle.tra4_text.specs.Movement.{Movement};
 ghost use Rattle.player.specs.Answers.{sampled, cornered, showed};
 ghost use Rattle.pair_text.specs.Answer.{pairAnswer, figureLeft, movementOf, movementLeft};
 ghost use Rattle.pair_bridge.specs.Playing.{sampleAsked, cornerAsked, shownAsked, labelAsked};
-ghost use Rattle.shoalbutton.specs.Playing.{played, sampleTold, cornerTold, shownTold, refusalOf, bytesOf};
+ghost use Rattle.pair_play.specs.Playing.{played, sampleTold, cornerTold, shownTold, refusalOf, bytesOf};
 use lexer::part;
 use pair_load::load;
 use player::Cornered;

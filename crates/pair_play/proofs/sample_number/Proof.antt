@@ -2,8 +2,8 @@
 use mathlib.Core.Path.{refl}
 use Rattle.player.specs.Answers.{sampled}
 use borrow.Author.Needs.{needs}
-use Rattle.shoalbutton.proofs.texts.sample_number.Statement.{statement}
-use Rattle.shoalbutton.proofs.texts.sample_number.Tie as tie
+use Rattle.pair_play.proofs.sample_number.Statement.{statement}
+use Rattle.pair_play.proofs.sample_number.Tie as tie
 
 enum-told : tie.Need-enum-told
 enum-told c = search needs

@@ -11,12 +11,12 @@ use Rattle.pair_load.specs.declared.pair.PairAnswer.{PairAnswer}
 use Rattle.player.specs.Lookups.{cornerIn}
 use Rattle.player.specs.Answers.{cornered}
 use Rattle.pair_bridge.specs.Playing.{cornerAsked}
-use Rattle.shoalbutton.specs.Playing.{cornerTold}
-use Rattle.shoalbutton.proofs.Played.{every-corner}
-use Rattle.shoalbutton.proofs.Answered.{pair-refused, pair-loaded, told-by}
+use Rattle.pair_play.specs.Playing.{cornerTold}
+use Rattle.pair_play.proofs.Loaded.{every-corner}
+use Rattle.pair_play.proofs.Answered.{pair-refused, pair-loaded, told-by}
 use borrow.Author.Needs.{needs}
-use Rattle.shoalbutton.proofs.texts.played_corner.Statement.{statement}
-use Rattle.shoalbutton.proofs.texts.played_corner.Tie as tie
+use Rattle.pair_play.proofs.played_corner.Statement.{statement}
+use Rattle.pair_play.proofs.played_corner.Tie as tie
 
 load-requires : tie.Need-load-requires
 load-requires c κs = search needs

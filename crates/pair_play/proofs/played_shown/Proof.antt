@@ -11,12 +11,12 @@ use Rattle.pair_load.specs.declared.pair.PairAnswer.{PairAnswer}
 use Rattle.player.specs.Lookups.{shownIn}
 use Rattle.player.specs.Answers.{showed}
 use Rattle.pair_bridge.specs.Playing.{shownAsked}
-use Rattle.shoalbutton.specs.Playing.{shownTold}
-use Rattle.shoalbutton.proofs.Played.{shown-of}
-use Rattle.shoalbutton.proofs.Answered.{pair-refused, pair-loaded, told-by}
+use Rattle.pair_play.specs.Playing.{shownTold}
+use Rattle.pair_play.proofs.Loaded.{shown-of}
+use Rattle.pair_play.proofs.Answered.{pair-refused, pair-loaded, told-by}
 use borrow.Author.Needs.{needs}
-use Rattle.shoalbutton.proofs.texts.played_shown.Statement.{statement}
-use Rattle.shoalbutton.proofs.texts.played_shown.Tie as tie
+use Rattle.pair_play.proofs.played_shown.Statement.{statement}
+use Rattle.pair_play.proofs.played_shown.Tie as tie
 
 load-requires : tie.Need-load-requires
 load-requires c κs = search needs

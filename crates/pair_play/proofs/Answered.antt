@@ -15,8 +15,8 @@ use Rattle.player_label.specs.Labels.{orEmpty}
 use Rattle.pair_text.specs.Answer.{Loaded, refused, loaded}
 use Rattle.pair_load.specs.Answers.{pairReply}
 use Rattle.pair_load.specs.declared.pair.PairAnswer.{PairAnswer}
-use Rattle.shoalbutton.specs.Playing.{played, refusalOf, bytesOf}
-use Rattle.shoalbutton.specs.declared.texts.Refusal.{Refusal}
+use Rattle.pair_play.specs.Playing.{played, refusalOf, bytesOf}
+use Rattle.pair_play.specs.declared.Refusal.{Refusal}
 
 some-total : (f : Figure) → 0 < length (layoutOf f)
 unfolding layoutOf nameNumbers

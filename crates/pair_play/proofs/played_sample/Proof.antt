@@ -11,12 +11,12 @@ use Rattle.pair_load.specs.declared.pair.PairAnswer.{PairAnswer}
 use Rattle.player.specs.Lookups.{sampleIn}
 use Rattle.player.specs.Answers.{sampled}
 use Rattle.pair_bridge.specs.Playing.{sampleAsked}
-use Rattle.shoalbutton.specs.Playing.{sampleTold}
-use Rattle.shoalbutton.proofs.Played.{every-sample}
-use Rattle.shoalbutton.proofs.Answered.{pair-refused, pair-loaded, told-by}
+use Rattle.pair_play.specs.Playing.{sampleTold}
+use Rattle.pair_play.proofs.Loaded.{every-sample}
+use Rattle.pair_play.proofs.Answered.{pair-refused, pair-loaded, told-by}
 use borrow.Author.Needs.{needs}
-use Rattle.shoalbutton.proofs.texts.played_sample.Statement.{statement}
-use Rattle.shoalbutton.proofs.texts.played_sample.Tie as tie
+use Rattle.pair_play.proofs.played_sample.Statement.{statement}
+use Rattle.pair_play.proofs.played_sample.Tie as tie
 
 load-requires : tie.Need-load-requires
 load-requires c κs = search needs

@@ -2,8 +2,8 @@
 use mathlib.Core.Path.{refl}
 use Rattle.player.specs.Answers.{cornered}
 use borrow.Author.Needs.{needs}
-use Rattle.shoalbutton.proofs.texts.corner_number.Statement.{statement}
-use Rattle.shoalbutton.proofs.texts.corner_number.Tie as tie
+use Rattle.pair_play.proofs.corner_number.Statement.{statement}
+use Rattle.pair_play.proofs.corner_number.Tie as tie
 
 enum-told : tie.Need-enum-told
 enum-told c = search needs

@@ -2,8 +2,8 @@
 use mathlib.Core.Path.{refl}
 use Rattle.player.specs.Answers.{showed}
 use borrow.Author.Needs.{needs}
-use Rattle.shoalbutton.proofs.texts.shown_number.Statement.{statement}
-use Rattle.shoalbutton.proofs.texts.shown_number.Tie as tie
+use Rattle.pair_play.proofs.shown_number.Statement.{statement}
+use Rattle.pair_play.proofs.shown_number.Tie as tie
 
 enum-told : tie.Need-enum-told
 enum-told c = search needs
