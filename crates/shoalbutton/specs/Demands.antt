@@ -26,7 +26,7 @@ use Rattle.player.specs.Faces.{cornerOf, shownOf}
 use Rattle.player.specs.Lookups.{sampleIn, cornerIn, shownIn}
 use Rattle.player.specs.Answers.{numbered}
 use Rattle.player_laws.specs.Bounds.{Between, LowestTerms, keyAt}
-use Rattle.player_label.specs.Labels.{labelBy, labelIn}
+use Rattle.player_label.specs.Labels.{labelOf, labelIn}
 use Rattle.movement_bridge.specs.Counts.{channelOf}
 use Rattle.figure_bridge.specs.Rows.{faceOf, groupedFaceOf}
 use Rattle.pair_text.specs.Rules.{figureNames, movementNames, pairFault}
@@ -80,7 +80,7 @@ module _ (F : List ℕ) (table : List ℤ) (M : List ℕ) (moves : List ℤ) whe
     pub sample : (bone channel at : ℕ) → bone < length (m .bones) → channel < 10 → at < framesOf m → numbered (sampleIn (reply F table M moves .movement) (movesLeft F table M moves) bone channel at) ≡ (0, 0, 0, some (sampleOf (channelOf m bone channel) at))
     pub shown : (face at : ℕ) → face < length (facesOf f) → at < framesOf m → numbered (shownIn (reply F table M moves .figure) (tableLeft F table M moves) (reply F table M moves .movement) (movesLeft F table M moves) face at) ≡ (0, 0, 0, some (shownOf (f .bones) (m .patterns) (groupedFaceOf f face) at))
     pub corner : (face k : ℕ) → face < length (facesOf f) → k < faceOf f face .size → numbered (cornerIn (reply F table M moves .figure) (tableLeft F table M moves) face k) ≡ (0, 0, 0, some (cornerOf f (faceOf f face) k))
-    pub label : (bone : ℕ) → bone < length (m .bones) → numbered (labelIn F (reply F table M moves .figure) (tableLeft F table M moves) M (reply F table M moves .movement) (movesLeft F table M moves) bone) ≡ (0, 0, 0, some (labelBy (getD (figureNames f) bone []) (getD (movementNames m) bone [])))
+    pub label : (bone : ℕ) → bone < length (m .bones) → numbered (labelIn F (reply F table M moves .figure) (tableLeft F table M moves) M (reply F table M moves .movement) (movesLeft F table M moves) bone) ≡ (0, 0, 0, some (labelOf (getD (figureNames f) bone []) (getD (movementNames m) bone [])))
     -- as many bones in the one as in the other
     pub bones : length (f .bones) ≡ length (m .bones)
     -- the sample itself: on a key the key's value, between two keys not below the smaller nor above the larger, past the last the last's; in lowest terms
