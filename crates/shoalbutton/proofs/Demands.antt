@@ -1,18 +1,18 @@
 -- Demands 2 and 3. A text is taken exactly when it keeps the rules, by going back through the answer's steps and forth again; a pair likewise. Each lookup on a loaded pair is the texts' own answer.
 use mathlib.Core.Path.{_≡_, refl, ap, sym, _∙_}
 use mathlib.Core.Logic.{_↔_}
-use mathlib.Core.List.{List, _++_}
-use mathlib.Core.Bool.{Bool, true, false, _&&_}
-use mathlib.Core.Option.{none, some}
+use mathlib.Core.List.{List}
+use mathlib.Core.Bool.{Bool, true, false}
+use mathlib.Core.Option.{none}
 use Prim.Native.Nat.{ℕ, _<_}
 use borrow.Author.Tests.{lt-ltb, eqb-true}
 use lib.Dec.{eqb}
 use lib.IntN.{ℤ}
-use lib.ListN.{length, drop, length-map}
+use lib.ListN.{length, length-map}
 use Rattle.lexer.specs.Faults.{Fault, clear, Format, bac, tra}
 use Rattle.lexer.proofs.Scanning.{fault-not-clear}
 use Rattle.chunks.specs.Readers.{Reader}
-use Rattle.chunks.specs.Outcomes.{Outcome, rejected, accepted, outcome, fitted, laid}
+use Rattle.chunks.specs.Outcomes.{rejected, accepted, outcome, fitted}
 use Rattle.chunks.proofs.Outcomes.{text-clear, all-taken, fitted-room, accepted-clear, laid-rejected}
 use Rattle.bac6_text.specs.Figure.{Figure}
 use Rattle.bac6_text.specs.Grammar.{figure}
