@@ -1,0 +1,54 @@
+// What is printed of a pair, as text into a lent buffer.
+ghost use mathlib.Core.Path.{_≡_};
+ghost use Prim.Native.Nat.{_+_, _≤_};
+ghost use lib.ListN.{length, take};
+ghost use Rattle.report.specs.Output.{output, appended};
+ghost use Rattle.report.specs.Lists.{appendedEach};
+ghost use Rattle.pair_listing.specs.Lines.{replyLine, labelParts, labelText};
+use report::append;
+use report::append_number;
+use report::append_row;
+use report::shown;
+
+// Puts a refusal's number, place and file, or the two totals where nothing is refused, at the start of buf. 71 bytes hold both.
+pub fn list_reply(
+    buf: &mut [u8],
+    refusal: usize,
+    place: usize,
+    file: usize,
+    figure_total: usize,
+    movement_total: usize,
+) -> usize
+    ensures line { λ r. ⌜ output r (now (buf .exit)) ≡ appended (output 0 (now (buf .entry))) (replyLine refusal place file «figure_total» «movement_total») ⌝ }
+    ensures within { λ r. ⌜ r ≤ length (now (buf .exit)) ⌝ }
+    ensures whole { λ r. ⌜ (71 ≤ length (now (buf .entry)) → take r (now (buf .exit)) ≡ replyLine refusal place file «figure_total» «movement_total») ⌝ }
+{
+    if refusal != 0 {
+        return append_row(
+            buf,
+            0,
+            b"refused",
+            &[shown(refusal), shown(place), shown(file)],
+        );
+    }
+    append_row(
+        buf,
+        0,
+        b"pair",
+        &[shown(figure_total), shown(movement_total)],
+    )
+}
+
+// Puts a bone's row and its name at the start of buf. 28 bytes and the name's hold them.
+pub fn list_label(buf: &mut [u8], bone: usize, name: &[u8]) -> usize
+    ensures parts { λ r. ⌜ output r (now (buf .exit)) ≡ appendedEach (output 0 (now (buf .entry))) (labelParts bone (now (name .entry))) ⌝ }
+    ensures within { λ r. ⌜ r ≤ length (now (buf .exit)) ⌝ }
+    ensures whole { λ r. ⌜ (28 + length (now (name .entry)) ≤ length (now (buf .entry)) → take r (now (buf .exit)) ≡ labelText bone (now (name .entry))) ⌝ }
+{
+    let word = append(buf, 0, b"label");
+    let first = append(buf, word, b"\t");
+    let row = append_number(buf, first, shown(bone));
+    let second = append(buf, row, b"\t");
+    let end = append(buf, second, name);
+    append(buf, end, b"\n")
+}
