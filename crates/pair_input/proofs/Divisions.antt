@@ -12,8 +12,8 @@ use lib.Seq.{take-take, length-take-le}
 use Rattle.pair_input.specs.Division.{figure, refused, headOf, dividedAt, dividedBy, divided}
 use Rattle.pair_input.proofs.Heads.{head-size}
 use Rattle.pair_input.specs.Answers.{lengthNamed}
-use Rattle.pair_input.specs.declared.Head.{Head}
-use Rattle.pair_input.specs.declared.Head.the-variants.{Length, Wrong}
+use Rattle.pair_input.specs.declared.division.Head.{Head}
+use Rattle.pair_input.specs.declared.division.Head.the-variants.{Length, Wrong}
 
 module _ (left more n : ℕ) where
   pub held : n ≤ 65536 → n ≤ left → dividedAt left more n ≡ figure (9 + n)

@@ -2,10 +2,10 @@
 use mathlib.Core.Option.{Option, none, some}
 use Prim.Native.Nat.{ℕ}
 use Rattle.pair_input.specs.Division.{Divided, figure, refused}
-use Rattle.pair_input.specs.declared.Head.{Head}
-use Rattle.pair_input.specs.declared.Head.the-variants.{Length, Wrong}
-use Rattle.pair_input.specs.declared.Division.{Division}
-use Rattle.pair_input.specs.declared.Division.the-variants.{Figure, Refused}
+use Rattle.pair_input.specs.declared.division.Head.{Head}
+use Rattle.pair_input.specs.declared.division.Head.the-variants.{Length, Wrong}
+use Rattle.pair_input.specs.declared.division.Division.{Division}
+use Rattle.pair_input.specs.declared.division.Division.the-variants.{Figure, Refused}
 
 unfoldable pub lengthNamed : Head → Option ℕ
 lengthNamed (Length n) = some n

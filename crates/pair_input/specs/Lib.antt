@@ -1,2 +1,3 @@
 pub mod Division
 pub mod Answers
+pub mod Reading

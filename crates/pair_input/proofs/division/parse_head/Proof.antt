@@ -10,8 +10,8 @@ use mir.Val.{SFits}
 use mir.Facts.{toZ-ofZ}
 use Rattle.pair_input.specs.Answers.{lengthNamed}
 use Rattle.pair_input.proofs.Heads.{head-size, too-few, no-feed, head-value, never-beyond, never-wrong}
-use Rattle.pair_input.proofs.parse_head.Statement.{statement}
-use Rattle.pair_input.proofs.parse_head.Tie as tie
+use Rattle.pair_input.proofs.division.parse_head.Statement.{statement}
+use Rattle.pair_input.proofs.division.parse_head.Tie as tie
 
 returns : tie.Need-returns
 unfolding lengthNamed

@@ -4,8 +4,8 @@ use native.Mathlib.Omega.{arith}
 use borrow.Author.Needs.{needs}
 use Rattle.pair_input.specs.Answers.{divisionNamed}
 use Rattle.pair_input.proofs.Divisions.{held, past, long, long-past}
-use Rattle.pair_input.proofs.divide_at.Statement.{statement}
-use Rattle.pair_input.proofs.divide_at.Tie as tie
+use Rattle.pair_input.proofs.division.divide_at.Statement.{statement}
+use Rattle.pair_input.proofs.division.divide_at.Tie as tie
 
 add-t6 : tie.Need-add-t6
 add-t6 c = search needs

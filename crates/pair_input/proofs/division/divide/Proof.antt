@@ -6,8 +6,8 @@ use denote.Ref.{now}
 use lib.Seq.{length-take-le}
 use Rattle.pair_input.specs.Answers.{divisionNamed}
 use Rattle.pair_input.proofs.Divisions.{too-short, by-length, by-wrong}
-use Rattle.pair_input.proofs.divide.Statement.{statement}
-use Rattle.pair_input.proofs.divide.Tie as tie
+use Rattle.pair_input.proofs.division.divide.Statement.{statement}
+use Rattle.pair_input.proofs.division.divide.Tie as tie
 
 returns : tie.Need-returns
 unfolding divisionNamed
