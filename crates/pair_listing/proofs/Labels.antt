@@ -1,9 +1,11 @@
 -- A label's parts one after another, and how long they are at most.
-use mathlib.Core.Path.{_≡_}
+use mathlib.Core.Path.{_≡_, sym}
 use mathlib.Core.List.{List, [], _∷_, _++_}
 use Prim.Native.Nat.{ℕ, _+_, _≤_}
 use native.Mathlib.Omega.{arith}
 use lib.ListN.{length, take, length-append}
+use lib.Seq.{length-take-le}
+use Rattle.io.specs.Counts.{Counts}
 use Rattle.lexer.specs.Bytes.{bytes}
 use Rattle.report.specs.Text.{numeral}
 use Rattle.report.specs.Output.{Output, output, appended}
@@ -28,8 +30,9 @@ module _ (bone : ℕ) (name : List ℕ) where
       o4 ≡ appended o3 (9 ∷ []) →
       o5 ≡ appended o4 name →
       output m buf' ≡ appended o5 (10 ∷ []) →
-      (output m buf' ≡ appendedEach (output 0 buf) (labelParts bone name)) × ((m ≤ length buf') × (28 + length name ≤ length buf → take m buf' ≡ labelText bone name))
+      (output m buf' ≡ appendedEach (output 0 buf) (labelParts bone name)) × (Counts m buf' × (28 + length name ≤ length buf → take m buf' ≡ labelText bone name))
   unfolding labelText labelParts appendedEach
   label-put m buf buf' o1 o2 o3 o4 o5 p1 p2 p3 p4 p5 p6 =
       let e : output m buf' ≡ appendedEach (output 0 buf) (labelParts bone name) = rw (← p1, ← p2, ← p3, ← p4, ← p5) p6 in
-      (e, (each-within 0 m buf buf' (labelParts bone name) e (omega arith), λ h. each-whole m buf buf' (labelParts bone name) e (omega (arith, label-most))))
+      let w = each-within 0 m buf buf' (labelParts bone name) e (omega arith) in
+      (e, ((w, sym (length-take-le m buf' w)), λ h. each-whole m buf buf' (labelParts bone name) e (omega (arith, label-most))))

@@ -7,6 +7,8 @@ use native.Mathlib.Omega.{arith}
 use borrow.Author.Tests.{eq-eqb, ne-eqb}
 use lib.Dec.{eqb}
 use lib.ListN.{length, take}
+use lib.Seq.{length-take-le}
+use Rattle.io.specs.Counts.{Counts}
 use Rattle.lexer.specs.Bytes.{bytes}
 use Rattle.report.specs.Text.{line}
 use Rattle.report.specs.Output.{output, appended}
@@ -37,10 +39,12 @@ module _ (refusal place file figure movement : ℕ) where
 
   -- what is said of how many bytes are filled and of the buffer
   abbrev Put : ℕ → List ℕ → List ℕ → Type 0
-  Put m buf buf' = (output m buf' ≡ appended (output 0 buf) reply) × ((m ≤ length buf') × (71 ≤ length buf → take m buf' ≡ reply))
+  Put m buf buf' = (output m buf' ≡ appended (output 0 buf) reply) × (Counts m buf' × (71 ≤ length buf → take m buf' ≡ reply))
 
   put : (m : ℕ) (buf buf' : List ℕ) → output m buf' ≡ appended (output 0 buf) reply → Put m buf buf'
-  put m buf buf' e = (e, (within 0 m buf buf' reply e (omega arith) .0, λ h. filled-then 0 m buf buf' reply e (omega (arith, reply-most))))
+  put m buf buf' e =
+      let w = within 0 m buf buf' reply e (omega arith) .0 in
+      (e, ((w, sym (length-take-le m buf' w)), λ h. filled-then 0 m buf buf' reply e (omega (arith, reply-most))))
 
   pub taken-put : (m : ℕ) (buf buf' : List ℕ) → refusal ≡ 0 → output m buf' ≡ appended (output 0 buf) (line (bytes "pair") (shown figure ∷ shown movement ∷ [])) → Put m buf buf'
   taken-put m buf buf' e p = put m buf buf' (p ∙ ap (appended (output 0 buf)) (sym (reply-taken (eq-eqb refusal 0 e))))

@@ -2,6 +2,7 @@
 ghost use mathlib.Core.Path.{_≡_};
 ghost use Prim.Native.Nat.{_+_, _≤_};
 ghost use lib.ListN.{length, take};
+ghost use Rattle.io.specs.Counts.{Counts};
 ghost use Rattle.report.specs.Output.{output, appended};
 ghost use Rattle.report.specs.Lists.{appendedEach};
 ghost use Rattle.pair_listing.specs.Lines.{replyLine, labelParts, labelText};
@@ -20,7 +21,7 @@ pub fn list_reply(
     movement_total: usize,
 ) -> usize
     ensures line { λ r. ⌜ output r (now (buf .exit)) ≡ appended (output 0 (now (buf .entry))) (replyLine refusal place file «figure_total» «movement_total») ⌝ }
-    ensures within { λ r. ⌜ r ≤ length (now (buf .exit)) ⌝ }
+    ensures within { λ r. ⌜ Counts r (now (buf .exit)) ⌝ }
     ensures whole { λ r. ⌜ (71 ≤ length (now (buf .entry)) → take r (now (buf .exit)) ≡ replyLine refusal place file «figure_total» «movement_total») ⌝ }
 {
     if refusal != 0 {
@@ -42,7 +43,7 @@ pub fn list_reply(
 // Puts a bone's row and its name at the start of buf. 28 bytes and the name's hold them.
 pub fn list_label(buf: &mut [u8], bone: usize, name: &[u8]) -> usize
     ensures parts { λ r. ⌜ output r (now (buf .exit)) ≡ appendedEach (output 0 (now (buf .entry))) (labelParts bone (now (name .entry))) ⌝ }
-    ensures within { λ r. ⌜ r ≤ length (now (buf .exit)) ⌝ }
+    ensures within { λ r. ⌜ Counts r (now (buf .exit)) ⌝ }
     ensures whole { λ r. ⌜ (28 + length (now (name .entry)) ≤ length (now (buf .entry)) → take r (now (buf .exit)) ≡ labelText bone (now (name .entry))) ⌝ }
 {
     let word = append(buf, 0, b"label");
