@@ -19,8 +19,8 @@ use Rattle.bac6.specs.declared.shape.Parsed.{Parsed}
 use Rattle.bac6.specs.Parse.{figureInto}
 use Rattle.bac6.specs.Answers.{Blank, Fits, refusedWith, answerOf, parsedCounts, countsAnswer, totalOf, downAnswer, downTable, partsOf, rulesFault, checkedAnswer, checkedTable}
 use Rattle.bac6.proofs.Parses.{Found, parsed-found, parsed-refused}
+use Rattle.bac6_text.proofs.Names.{figure-placed}
 use Rattle.bac6_text.proofs.Whole.{WholeFigure, figure-whole}
-use Rattle.bac6.proofs.FigureName.{name-within}
 use Rattle.bac6.proofs.Taken.{parsedAs, name-is, textures-are, colours-are, materials-are, points-are, normals-are, bones-are, uvs-are, faces-are, groups-are, rules-are}
 use Rattle.bac6.proofs.Down.{parts-are, total-is, fits-are}
 use Rattle.bac6.proofs.Outcomes.{answer-is, table-is}
@@ -81,7 +81,7 @@ module _ (text : List ℕ) (t c m q v b o u fs g : List ℤ) (blank : Blank text
 
       lists-fit : Fits p t′ c′ m′ q′ v′ b″ o′ u′ fs′ g′
       lists-fit =
-          let n = name-within text read (found .left) (found .gives) in
+          let n = figure-placed text read (found .left) (found .gives) .own in
           let i = name-is read t c m q v b u fs g p t′ c′ m′ q′ v′ b′ o′ u′ fs′ g′ (found .kept) in
           fits-are read clean whole t c m q v b u fs g p t′ c′ m′ q′ v′ b′ o′ u′ fs′ g′ (found .kept) b″ (blank .materials) (blank .bones) (blank .faces) left (blank .textures) (blank .colours) (blank .points) (blank .normals) (blank .uvs) (blank .groups) (rw (← i .0) (omega (arith, n .0, blank .size))) (rw (← i .1) (omega (arith, n .1, blank .size)))
 

@@ -2,7 +2,6 @@
 pub mod Parses
 pub mod Bounds
 pub mod Rules
-pub mod FigureName
 pub mod Settings
 pub mod Taken
 pub mod Down

@@ -31,14 +31,14 @@ use Rattle.chunks.proofs.Folds.{folded-more}
 use Rattle.chunks.proofs.Branches.{item-takes}
 use Rattle.chunks.proofs.Many.{Keeps, Takes, takes-keeps, pure-keeps, bind-keeps, bind-takes, then-keeps, then-takes, keyword-takes, opened-takes, closed-keeps, number-takes, numbers-keeps, string-takes, one-of-takes, many-keeps}
 use Rattle.chunks.proofs.FieldKeeps.{AllKeep, fields-keeps}
-use Rattle.chunks.proofs.Given.{many-gives}
+use Rattle.chunks.proofs.Given.{free, many-gives}
 use Rattle.chunks.proofs.Tables.{overlayAt-none, overlayAt-append, overlayAt-same}
 use Rattle.bac6_text.specs.Figure.{Bone}
 use Rattle.bac6_text.specs.Grammar.{BoneField, named, flag, several, boneOf, boneKinds, bone, word, truth}
 use Rattle.bac6_text.specs.Layout.{boneRow}
 use Rattle.bac6_rules.specs.Claims.{claimedOne, claimed, faultAt, afterBone, claimedBone, claimedBones}
 use Rattle.bac6_bones.specs.Into.{boneTail, boneInto, faultOf, boneStep, bonesInto}
-use Rattle.bac6_text.proofs.Whole.{WholeBone, WholeBones, bone-whole}
+use Rattle.bac6_text.proofs.Whole.{WholeBones, bone-whole}
 use Rattle.bac6_text.proofs.Rows.{bone-wide}
 
 -- ---- a bone takes a token, and begins with (
@@ -136,7 +136,7 @@ module _ (points : ℕ) where
   unfolding stepped folded fold bonesInto many⁺ _>>=_ pure after
   bones-all table owners ms =
       after-after (bone ms) _ _
-      ∙ after-when (bone ms) _ _ (λ a l e. after-when (many bone l) _ _ (λ bs k q. ap (λ (v : ℕ × List ℤ × (Fault × List ℤ)). got v k) (fold-all table owners (a ∷ bs) (bone-whole ms a l e, many-gives WholeBone bone bone-whole l bs k q))) ∙ sym (after-after (many bone l) _ _))
+      ∙ after-when (bone ms) _ _ (λ a l e. after-when (many bone l) _ _ (λ bs k q. ap (λ (v : ℕ × List ℤ × (Fault × List ℤ)). got v k) (fold-all table owners (a ∷ bs) (free bone-whole ms a l e, free (many-gives bone-whole) l bs k q))) ∙ sym (after-after (many bone l) _ _))
       ∙ sym (after-after (bone ms) _ _)
 
 -- a list refused where a bone should begin

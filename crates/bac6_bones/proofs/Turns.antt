@@ -110,5 +110,5 @@ bone-on text c d r n b i table s seen row s′ o h y =
         let k = y .kept q in
         let u : boneNumbers (y .value) ≡ row = ap (λ (p : List Bool × List ℤ × (Bool × List ℤ)). p .1) k in
         let v : claimed n b s (numbersIn (getD (y .value) 6 none)) ≡ s′ = ap (λ (p : List Bool × List ℤ × (Bool × List ℤ)). p .2) k in
-        let w = row-whole (y .value) (given (λ gs. WholeBone (boneOf gs)) (fields boneKinds) fields-whole text r (lexAt text (d .at)) (y .value) (y .read) q) in
+        let w = row-whole (y .value) (given fields-whole text r (lexAt text (d .at)) (y .value) (y .read) q) in
         rw (← u, ← v, w)

@@ -21,7 +21,7 @@ use Rattle.chunks.proofs.Steps.{from-on, from-same, join}
 use Rattle.chunks.proofs.Binds.{closed-at}
 use Rattle.chunks.proofs.Vocabulary.{wordList, one-word}
 use Rattle.chunks.proofs.Tables.{overlayAt-cons, overlayAt-none}
-use Rattle.chunks.proofs.Given.{numbers-give}
+use Rattle.chunks.proofs.Ranges.{numbers-give}
 use Rattle.bac6_text.specs.Grammar.{BoneField, named, flag, several, nameIn, flagIn, numbersIn, boneKinds, truth, word}
 use Rattle.bac6_text.specs.Layout.{nameNumbers}
 use Rattle.bac6_rules.specs.Claims.{claimed}
@@ -74,7 +74,7 @@ module _ (text : List ℕ) (at : ℕ) (d r : Cursor) (row row′ : List ℤ) (q 
       record {
         value = several (y .value);
         read = mapped text at r (closed (numbers FLOAT 3)) several (y .value) (closed-at text (here at) d r (y .value) (numbers FLOAT 3) w q);
-        kept = λ o. let o′ = alive text d r close-bracket tt q o in rw (three-all (y .value) (given (λ zs. length zs ≡ 3) (numbers FLOAT 3) (numbers-give FLOAT 3) text d (lexAt text at) (y .value) (y .read) o′)) (y .kept o′);
+        kept = λ o. let o′ = alive text d r close-bracket tt q o in rw (three-all (y .value) (given (numbers-give FLOAT 3) text d (lexAt text at) (y .value) (y .read) o′ .0)) (y .kept o′);
       }
 
   pub vector-read : (k : ℕ) → 3 ≤ k → k < 6 → reads text d row′ ≡ from text (here at) (numbersInto FLOAT 3 ((k - 3) * 3) row) → Yields text r (insideAt boneKinds k (lexAt text at)) (putRow k row) row′

@@ -19,7 +19,8 @@ use Rattle.chunks.specs.Into.{numbersInto, rowInto}
 use Rattle.chunks.specs.Cursors.{reads, from, overlay, overlayAt}
 use Rattle.chunks.proofs.Binds.{after-after, after-same, after-when, then-assoc, then-bind, closed-map, closed-at}
 use Rattle.chunks.proofs.Steps.{join, seq, from-same}
-use Rattle.chunks.proofs.Given.{closed-gives, numbers-give, row-of-gives}
+use Rattle.chunks.proofs.Given.{free, closed-gives}
+use Rattle.chunks.proofs.Ranges.{numbers-give, row-of-gives}
 use Rattle.chunks.proofs.Vocabulary.{wordList, one-word}
 use Rattle.bac6_text.specs.Grammar.{face, faceOf, faceBy}
 use Rattle.bac6_text.specs.Layout.{faceRow, corners}
@@ -71,14 +72,14 @@ module _ (m : ℤ) (k : List ℕ) (n : ℕ) (g : ℤ) (i : ℕ) (table : List �
   corners-parts ms =
       ap (λ (x : Got (List ℤ)). after x (λ t. closed (rowInto k 0 INT n 6 t) >>= λ u. pure (overlayAt i u table))) (sym (closed-map (numbers INT n) (λ vs. overlayAt 2 vs (blank m n g)) ms))
       ∙ after-after (closed (numbers INT n) ms) _ _
-      ∙ after-when (closed (numbers INT n) ms) _ _ (λ vs l e. inner vs l (closed-gives (λ x. length x ≡ n) (numbers-give INT n) ms vs l e))
+      ∙ after-when (closed (numbers INT n) ms) _ _ (λ vs l e. inner vs l (free (closed-gives (numbers-give INT n)) ms vs l e .0))
       ∙ sym (after-after (closed (numbers INT n) ms) _ _)
     where
       inner : (vs : List ℤ) (l : List Lexeme) → length vs ≡ n → (closed (rowInto k 0 INT n 6 (overlayAt 2 vs (blank m n g))) >>= λ u. pure (overlayAt i u table)) l ≡ (rowOf k 0 INT n >>= (λ ts. close-bracket >> pure (record { material = m; size = n; vertices = vs; uvs = ts })) >>= λ f. pure (overlayAt i (faceRow g f) table)) l
       inner vs l h =
           after-after (rowInto k 0 INT n 6 (overlayAt 2 vs (blank m n g)) l) _ _
           ∙ after-after (rowOf k 0 INT n l) _ _
-          ∙ after-when (rowOf k 0 INT n l) _ _ (λ ts j e. after-after (close-bracket j) _ _ ∙ ap (λ (z : List ℤ). after (close-bracket j) (λ _. pure (overlayAt i z table))) (row-laid m g n vs ts (omega arith) (omega (arith, row-of-gives k 0 INT n l ts j e))) ∙ sym (after-after (close-bracket j) _ _))
+          ∙ after-when (rowOf k 0 INT n l) _ _ (λ ts j e. after-after (close-bracket j) _ _ ∙ ap (λ (z : List ℤ). after (close-bracket j) (λ _. pure (overlayAt i z table))) (row-laid m g n vs ts (omega arith) (omega (arith, free (row-of-gives k 0 INT n) l ts j e .0))) ∙ sym (after-after (close-bracket j) _ _))
           ∙ sym (after-after (rowOf k 0 INT n l) _ _)
 
   pub corners-joined : (text : List ℕ) (c v d u r : Cursor) (start vs us : List ℤ) → start ≡ blank m n g → reads text v vs ≡ from text c (numbersInto INT n 2 start) → reads text d tt ≡ from text v close-bracket → reads text u us ≡ from text d (rowInto k 0 INT n 6 vs) → reads text r tt ≡ from text u close-bracket → reads text r (overlayAt i us table) ≡ from text c (cornersInto m k n g i table)

@@ -19,11 +19,11 @@ use Rattle.chunks.specs.Folds.{fold, folded, stepped, rowStep}
 use Rattle.chunks.proofs.Folds.{fold-rows}
 use Rattle.chunks.specs.Cursors.{overlayAt}
 use Rattle.chunks.proofs.Binds.{after-after, after-when}
-use Rattle.chunks.proofs.Given.{Every, many-gives}
+use Rattle.chunks.proofs.Given.{Every, free, many-gives}
 use Rattle.chunks.proofs.Tables.{overlayAt-append, overlayAt-none}
 use Rattle.chunks.proofs.Sequences.{into-then, into-bind, into-end}
 use Rattle.bac6_text.specs.Grammar.{material}
-use Rattle.bac6_text.proofs.Whole.{material-wide}
+use Rattle.bac6_text.proofs.Whole.{material-gives}
 use Rattle.bac6_parse.specs.Into.{materialsInto}
 use Rattle.bac6_parse.specs.Lists.{laidRows, sectionOf, sectionInto}
 use Rattle.bac6_parse.specs.Front.{FrontValue, frontValue, frontInto, frontThen}
@@ -48,7 +48,7 @@ pub materials-same : (t : List ℤ) (ms : List Lexeme) → (many⁺ material >>=
 unfolding many⁺ materialsInto stepped folded _>>=_ pure after
 materials-same t ms =
     after-after (material ms) _ _
-    ∙ after-when (material ms) _ _ (λ r l e. after-after (many material l) _ _ ∙ after-when (many material l) _ _ (λ rs m q. ap (λ (v : ℕ × List ℤ). got v m) (materials-value t r rs (material-wide ms r l e) (many-gives (λ x. length x ≡ 9) material material-wide l rs m q))))
+    ∙ after-when (material ms) _ _ (λ r l e. after-after (many material l) _ _ ∙ after-when (many material l) _ _ (λ rs m q. ap (λ (v : ℕ × List ℤ). got v m) (materials-value t r rs (free material-gives ms r l e) (free (many-gives material-gives) l rs m q))))
     ∙ sym (after-after (material ms) _ _)
 
 -- ---- the front

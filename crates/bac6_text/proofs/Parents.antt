@@ -6,7 +6,8 @@ use Prim.Native.Nat.{ℕ, zero, suc, _+_}
 use native.Mathlib.Omega.{arith}
 use lib.ListN.{length, length-append}
 use lib.IntN.{ℤ, pos, negsuc}
-use Rattle.lexer.specs.Faults.{clear, fault}
+use Rattle.lexer.specs.Faults.{clear}
+pub use Rattle.lexer.proofs.Scanning.{fault-not-clear}
 use Rattle.bac6_text.specs.Rules.{Flags, Placed, placed, short, isSet, joined, thenIf, boneList, parentsIn, wholeList, placedFault, bonesFault}
 
 unfoldable pub Leaves : List Flags → Placed → Type 0
@@ -35,9 +36,6 @@ leaves (suc n) parent row (f ∷ fs) =
     go : (v : Bool) → isSet (f .0) ≡ v → Leaves fs (boneList n (pos row) (suc row) fs) → Leaves fs (elim (isSet (f .0)) [ true ↦ boneList n (pos row) (suc row) fs | false ↦ placed [] (suc row) fs ])
     go true e h = rw e h
     go false e h = rw e (omega arith)
-
-pub fault-not-clear : (k p : ℕ) → fault k p ≡ clear → ⊥
-fault-not-clear k p e = let z : _≡_ {A = ℕ} 0 1 = cc in omega arith
 
 -- where no row is left over, each has a parent
 pub whole-length : (flags : List Flags) → bonesFault flags ≡ clear → length (parentsIn (wholeList flags)) ≡ length flags

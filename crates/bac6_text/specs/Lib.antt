@@ -1,4 +1,5 @@
 pub mod Figure
+pub mod Names
 pub mod Grammar
 pub mod Rules
 pub mod Layout

@@ -11,11 +11,11 @@ use Rattle.chunks.specs.Readers.{Got, got, refused, Reader, after, pure}
 use Rattle.chunks.specs.Cursors.{reads, from}
 use Rattle.chunks.proofs.Steps.{from-off, reads-on}
 use Rattle.chunks.proofs.Many.{not-got, got-value}
-use Rattle.chunks.proofs.Given.{Gives}
+use Rattle.chunks.proofs.Given.{GivesOn, AnyToken, free}
 
 -- what holds of each value that a reader gives
-pub given : {A : Type 0} (P : A → Type 0) (s : Reader A) → Gives P s → (text : List ℕ) (r : Cursor) (ms : List Lexeme) (a : A) → reads text r a ≡ s ms → r .refusal ≡ 0 → P a
-given P s h text r ms a e o = h ms a _ (sym e ∙ reads-on text r a o)
+pub given : {A : Type 0} {P : A → Type 0} {s : Reader A} → GivesOn AnyToken P s → (text : List ℕ) (r : Cursor) (ms : List Lexeme) (a : A) → reads text r a ≡ s ms → r .refusal ≡ 0 → P a
+given h text r ms a e o = free h ms a _ (sym e ∙ reads-on text r a o)
 
 got-left : {A : Type 0} (a b : A) (l k : List Lexeme) → got a l ≡ got b k → l ≡ k
 got-left a b l k e = cc

@@ -1,7 +1,7 @@
--- What holds of each field that chunks in a free order leave: of one that was read what holds of its kind's values; and each that must stand was read.
+-- What holds of the fields that chunks in a free order leave: as many as there are kinds, of each that was read what holds of its kind's values, and each that must stand was read.
 use mathlib.Core.Path.{_≡_, refl, ap, sym, _∙_}
 use mathlib.Core.List.{List, [], _∷_}
-use mathlib.Core.Bool.{Bool, true, false, not, _&&_, _||_, false≢true}
+use mathlib.Core.Bool.{Bool, true, false, not, _||_, false≢true}
 use mathlib.Core.Option.{Option, none, some}
 use Prim.Native.Nat.{ℕ, zero, suc, _+_}
 use native.Mathlib.Omega.{arith}
@@ -9,66 +9,75 @@ use lib.ListN.{length, getD}
 use Rattle.lexer.specs.Bytes.{bytes}
 use Rattle.lexer.specs.Tokens.{Lexeme, isKeyword}
 use Rattle.lexer.proofs.Numerals.{and-true}
-use Rattle.chunks.specs.Readers.{got, pure, tokenOf, rest, isClosing, open-bracket}
+use Rattle.chunks.specs.Readers.{got, Reader, stop, tokenOf, rest, isClosing}
 use Rattle.chunks.specs.Fields.{Kind, isSome, unread, complete, kindFrom, fieldsIn, fields, neededOf}
-use Rattle.chunks.proofs.Many.{stop-not}
-use Rattle.chunks.proofs.Given.{Gives, pure-gives, bind-gives, then-gives}
+use Rattle.chunks.proofs.Given.{GivesOn, pure-gives, stop-gives, next-gives, later-gives, same-gives, either-gives, bind-gives, then-gives, open-leaves}
 
-module _ {A : Type 0} (Q : ℕ → A → Type 0) where
-  -- what stands in kind i gives values of Q i
-  abbrev pub AllGive : ℕ → List (Kind A) → Type 0
-  AllGive i [] = Unit {0}
-  AllGive i (k ∷ ks) = Gives (Q i) (k .inside) × AllGive (suc i) ks
+-- at the ) that ends the chunks
+unfoldable ended : {A : Type 0} → List (Kind A) → List (Option A) → Reader (List (Option A))
+ended ks fs ms = elim (complete ks fs) [ true ↦ got fs (rest ms) | false ↦ stop 5 ms ]
+
+module _ {A : Type 0} (F : ℕ → A → Type 0) where
+  -- what stands in kind i gives values of F i
+  abbrev pub AllGive : (Lexeme → Type 0) → ℕ → List (Kind A) → Type 0
+  AllGive Q i [] = Unit {0}
+  AllGive Q i (k ∷ ks) = GivesOn Q (F i) (k .inside) × AllGive Q (suc i) ks
 
   abbrev pub AllFit : ℕ → List (Option A) → Type 0
   AllFit i [] = Unit {0}
   AllFit i (none ∷ fs) = AllFit (suc i) fs
-  AllFit i (some a ∷ fs) = Q i a × AllFit (suc i) fs
+  AllFit i (some a ∷ fs) = F i a × AllFit (suc i) fs
 
-  kind-fits : (i : ℕ) (ks : List (Kind A)) (fs : List (Option A)) → AllGive i ks → AllFit i fs → Gives (AllFit i) (kindFrom ks fs)
-  unfolding kindFrom
-  kind-fits i [] fs g h ms gs l e = absurd (stop-not 5 ms gs l e)
-  kind-fits i (k ∷ ks) [] g h ms gs l e = absurd (stop-not 5 ms gs l e)
-  kind-fits i (k ∷ ks) (none ∷ fs) g h ms gs l e = go (isKeyword (bytes (k .key)) (tokenOf ms)) refl (kind-fits (suc i) ks fs (g .1) h)
-    where
-      go : (v : Bool) → isKeyword (bytes (k .key)) (tokenOf ms) ≡ v → Gives (AllFit (suc i)) (kindFrom ks fs) → AllFit i gs
-      go true p ih = bind-gives (Q i) (AllFit i) (g .0) (λ a q. pure-gives (AllFit i) (some a ∷ fs) (q, h)) (rest ms) gs l (rw (p, kindFrom) at e)
-      go false p ih = bind-gives (AllFit (suc i)) (AllFit i) ih (λ hs q. pure-gives (AllFit i) (none ∷ hs) q) ms gs l (rw (p, kindFrom) at e)
-  kind-fits i (k ∷ ks) (some a ∷ fs) g h ms gs l e = bind-gives (AllFit (suc i)) (AllFit i) (kind-fits (suc i) ks fs (g .1) (h .1)) (λ hs q. pure-gives (AllFit i) (some a ∷ hs) (h .0, q)) ms gs l e
+  pub record Whole (ks : List (Kind A)) (fs : List (Option A)) : Type 0 where
+    pub fit : AllFit 0 fs
+    pub stand : complete ks fs ≡ true
+    pub count : length fs ≡ length ks
 
-  -- and every kind that must stand does
-  abbrev pub Whole : List (Kind A) → List (Option A) → Type 0
-  Whole ks fs = AllFit 0 fs × (complete ks fs ≡ true)
+  module _ (Q : Lexeme → Type 0) where
+    -- as many fields as there were
+    abbrev Still : ℕ → List (Option A) → List (Option A) → Type 0
+    Still i fs gs = AllFit i gs × (length gs ≡ length fs)
 
-  fields-in-fit : (n : ℕ) (ks : List (Kind A)) (fs : List (Option A)) → AllGive 0 ks → AllFit 0 fs → Gives (Whole ks) (fieldsIn n ks fs)
-  unfolding fieldsIn
-  fields-in-fit zero ks fs g h ms gs l e = go (isClosing (tokenOf ms)) (complete ks fs) refl refl
-    where
-      go : (v c : Bool) → isClosing (tokenOf ms) ≡ v → complete ks fs ≡ c → Whole ks gs
-      go true true p q = pure-gives (Whole ks) fs (h, q) (rest ms) gs l (unfold pure in (rw (p, q, fieldsIn) at e))
-      go true false p q = absurd (stop-not 5 ms gs l (rw (p, q, fieldsIn) at e))
-      go false c p q = absurd (stop-not 5 ms gs l (rw (p, fieldsIn) at e))
-  fields-in-fit (suc n) ks fs g h ms gs l e = go (isClosing (tokenOf ms)) (complete ks fs) refl refl (λ hs q. fields-in-fit n ks hs g q)
-    where
-      go : (v c : Bool) → isClosing (tokenOf ms) ≡ v → complete ks fs ≡ c → ((hs : List (Option A)) → AllFit 0 hs → Gives (Whole ks) (fieldsIn n ks hs)) → Whole ks gs
-      go true true p q ih = pure-gives (Whole ks) fs (h, q) (rest ms) gs l (unfold pure in (rw (p, q, fieldsIn) at e))
-      go true false p q ih = absurd (stop-not 5 ms gs l (rw (p, q, fieldsIn) at e))
-      go false c p q ih = bind-gives (AllFit 0) (Whole ks) (then-gives (AllFit 0) open-bracket (kind-fits 0 ks fs g h)) ih ms gs l (rw (p, fieldsIn) at e)
+    kind-fits : (i : ℕ) (ks : List (Kind A)) (fs : List (Option A)) → AllGive Q i ks → AllFit i fs → GivesOn Q (Still i fs) (kindFrom ks fs)
+    unfolding kindFrom
+    kind-fits i [] fs g h = stop-gives 5
+    kind-fits i (k ∷ ks) [] g h = stop-gives 5
+    kind-fits i (k ∷ ks) (none ∷ fs) g h =
+        either-gives (λ ms. isKeyword (bytes (k .key)) (tokenOf ms)) (later-gives (bind-gives (g .0) (λ a q. pure-gives {P = Still i (none ∷ fs)} (some a ∷ fs) ((q, h), refl)))) (bind-gives (kind-fits (suc i) ks fs (g .1) h) (λ hs q. pure-gives {P = Still i (none ∷ fs)} (none ∷ hs) (q .0, ap suc (q .1)))) (λ ms o. rw (o, kindFrom)) (λ ms o. rw (o, kindFrom))
+    kind-fits i (k ∷ ks) (some a ∷ fs) g h = bind-gives (kind-fits (suc i) ks fs (g .1) (h .1)) (λ hs q. pure-gives {P = Still i (some a ∷ fs)} (some a ∷ hs) ((h .0, q .0), ap suc (q .1)))
+
+    ended-fits : (ks : List (Kind A)) (fs : List (Option A)) → AllFit 0 fs → length fs ≡ length ks → GivesOn Q (Whole ks) (ended ks fs)
+    unfolding ended
+    ended-fits ks fs h c = go (complete ks fs) refl
+      where
+        go : (v : Bool) → complete ks fs ≡ v → GivesOn Q (Whole ks) (ended ks fs)
+        go true o = same-gives (next-gives fs (record { fit = h; stand = o; count = c })) (λ ms. rw (o, ended))
+        go false o = same-gives (stop-gives 5) (λ ms. rw (o, ended))
+
+    fields-in-fit : (n : ℕ) (ks : List (Kind A)) (fs : List (Option A)) → AllGive Q 0 ks → AllFit 0 fs → length fs ≡ length ks → GivesOn Q (Whole ks) (fieldsIn n ks fs)
+    unfolding fieldsIn ended
+    fields-in-fit zero ks fs g h c = either-gives (λ ms. isClosing (tokenOf ms)) (ended-fits ks fs h c) (stop-gives 5) (λ ms o. rw (o, fieldsIn)) (λ ms o. rw (o, fieldsIn))
+    fields-in-fit (suc n) ks fs g h c = either-gives (λ ms. isClosing (tokenOf ms)) (ended-fits ks fs h c) (bind-gives (then-gives open-leaves (kind-fits 0 ks fs g h)) (λ hs q. fields-in-fit n ks hs g (q .0) (q .1 ∙ c))) (λ ms o. rw (o, fieldsIn)) (λ ms o. rw (o, fieldsIn))
 
   unread-fit : (i : ℕ) (ks : List (Kind A)) → AllFit i (unread ks)
   unfolding unread
   unread-fit i [] = tt
   unread-fit i (k ∷ ks) = unread-fit (suc i) ks
 
-  pub fields-fit : (ks : List (Kind A)) → AllGive 0 ks → Gives (Whole ks) (fields ks)
+  unread-count : (ks : List (Kind A)) → length (unread ks) ≡ length ks
+  unfolding unread
+  unread-count [] = refl
+  unread-count (k ∷ ks) = ap suc (unread-count ks)
+
+  pub fields-fit : {Q : Lexeme → Type 0} (ks : List (Kind A)) → AllGive Q 0 ks → GivesOn Q (Whole ks) (fields ks)
   unfolding fields
-  fields-fit ks g = fields-in-fit (length ks) ks (unread ks) g (unread-fit 0 ks)
+  fields-fit {Q} ks g = fields-in-fit Q (length ks) ks (unread ks) g (unread-fit 0 ks) (unread-count ks)
 
   -- the field of kind k, which must stand
   pub record Stands (i k : ℕ) (fs : List (Option A)) : Type 0 where
     pub value : A
     pub here : getD fs k none ≡ some value
-    pub fits : Q (i + k) value
+    pub fits : F (i + k) value
 
   next : (i k : ℕ) (f : Option A) (fs : List (Option A)) → Stands (suc i) k fs → Stands i (suc k) (f ∷ fs)
   next i k f fs s = let e : suc i + k ≡ i + suc k = omega arith in record { value = s .value; here = s .here; fits = rw e at (s .fits) }
@@ -85,5 +94,5 @@ module _ {A : Type 0} (Q : ℕ → A → Type 0) where
   standing i (d ∷ ks) (none ∷ fs) (suc k) h c n e = next i k none fs (standing (suc i) ks fs k h (and-true (not (d .needed) || false) (complete ks fs) c .1) n (omega arith))
   standing i (d ∷ ks) (some a ∷ fs) (suc k) h c n e = next i k (some a) fs (standing (suc i) ks fs k (h .1) (and-true (not (d .needed) || true) (complete ks fs) c .1) n (omega arith))
 
-  pub fields-stand : (ks : List (Kind A)) (fs : List (Option A)) (k : ℕ) → Whole ks fs → getD (neededOf ks) k false ≡ true → length fs ≡ length ks → Stands 0 k fs
-  fields-stand ks fs k w n e = standing 0 ks fs k (w .0) (w .1) n e
+  pub fields-stand : (ks : List (Kind A)) (fs : List (Option A)) (k : ℕ) → Whole ks fs → getD (neededOf ks) k false ≡ true → Stands 0 k fs
+  fields-stand ks fs k w n = standing 0 ks fs k (w .fit) (w .stand) n (w .count)

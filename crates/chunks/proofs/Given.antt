@@ -1,15 +1,14 @@
--- What holds of each value that a reader gives.
-use mathlib.Core.Path.{_≡_, refl, ap, sym, _∙_}
-use mathlib.Core.List.{List, [], _∷_, _++_}
+-- What holds of each value that a reader gives, and of the tokens that it leaves, where something holds of every token that it finds: one law a combinator.
+use mathlib.Core.Path.{_≡_, refl, sym, _∙_}
+use mathlib.Core.List.{List, [], _∷_}
 use mathlib.Core.Bool.{Bool, true, false}
-use Prim.Native.Nat.{ℕ, zero, suc, _+_}
+use Prim.Native.Nat.{ℕ, zero, suc}
 use Prim.Native.String.{String}
-use native.Mathlib.Nat.{zero-add}
-use lib.ListN.{length, length-append}
-use Rattle.lexer.specs.Bytes.{bytes}
-use Rattle.lexer.specs.Tokens.{Lexeme}
-use Rattle.lexer.specs.Numbers.{Form, INT}
-use Rattle.chunks.specs.Readers.{Got, got, refused, Reader, after, _>>=_, _>>_, pure, tokenOf, rest, isClosing, close-bracket, closed, numbers, cells, openedOf, rowOf, row, manyIn, many, many⁺, starts, isOpening, opened, optional, trailing}
+use lib.ListN.{length}
+use Rattle.lexer.specs.Bytes.{bytes, same}
+pub use Rattle.lexer.specs.Every.{Every}
+use Rattle.lexer.specs.Tokens.{Token, opening, closing, ending, quoted, plain, Lexeme, isKeyword}
+use Rattle.chunks.specs.Readers.{Got, got, refused, Reader, after, _>>=_, _>>_, pure, stop, tokenOf, rest, take-if, isOpening, isClosing, isEnd, open-bracket, close-bracket, wordOf, text-end, openedOf, opened, closed, versionAt, version, Name, absent, nameAt, string, starts, optional, trailing, manyIn, many, many⁺, headOf, head}
 use Rattle.chunks.proofs.Many.{not-got, stop-not, many-in-end, many-in-more}
 
 -- what a sequence gave, its first part gave before
@@ -24,91 +23,207 @@ unfolding after
 before (got a m) k b l e = record { value = a; left = m; first = refl; second = e }
 before (refused n p) k b l e = absurd (not-got n p b l e)
 
+-- from tokens that are all Q a reader gives values of P and leaves tokens that are all Q
+pub record GivesOn {A : Type 0} (Q : Lexeme → Type 0) (P : A → Type 0) (r : Reader A) : Type 0 where
+  pub each : (ms : List Lexeme) (a : A) (l : List Lexeme) → Every Q ms → r ms ≡ got a l → P a × Every Q l
+
+-- whatever the values are
+abbrev pub LeavesOn : {A : Type 0} → (Lexeme → Type 0) → Reader A → Type 0
+LeavesOn Q r = GivesOn Q (λ _. Unit {0}) r
+
+-- the strings among tokens that are Q are names of P
+abbrev pub Naming : (Lexeme → Type 0) → (Name → Type 0) → Type 0
+Naming Q P = (m : Lexeme) (bs : List ℕ) → m .token ≡ quoted bs → Q m → P (record { at = suc (m .offset); bytes = bs })
+
+-- ---- any tokens, any names
+
 abbrev pub Gives : {A : Type 0} → (A → Type 0) → Reader A → Type 0
 Gives {A} P r = (ms : List Lexeme) (a : A) (l : List Lexeme) → r ms ≡ got a l → P a
 
-pub any-gives : {A : Type 0} (r : Reader A) → Gives (λ _. Unit {0}) r
-any-gives r ms a l e = tt
+abbrev pub AnyToken : Lexeme → Type 0
+AnyToken m = Unit {0}
 
-pub pure-gives : {A : Type 0} (P : A → Type 0) (a : A) → P a → Gives P (pure a)
-unfolding pure
-pure-gives P a h ms b l e = let q : b ≡ a = cc in rw q h
+abbrev pub AnyName : Name → Type 0
+AnyName n = Unit {0}
 
-module _ {A B : Type 0} (Q : A → Type 0) (P : B → Type 0) (f : A → Reader B) (k : (a : A) → Q a → Gives P (f a)) where
-  after-gives : (g : Got A) → ((a : A) (l : List Lexeme) → g ≡ got a l → Q a) → (b : B) (l : List Lexeme) → after g f ≡ got b l → P b
-  unfolding after
-  after-gives (got a m) h b l e = k a (h a m refl) m b l e
-  after-gives (refused i p) h b l e = absurd (not-got i p b l e)
+pub any-names : Naming AnyToken AnyName
+any-names m bs e w = tt
 
-pub bind-gives : {A B : Type 0} (Q : A → Type 0) (P : B → Type 0) {r : Reader A} {f : A → Reader B} → Gives Q r → ((a : A) → Q a → Gives P (f a)) → Gives P (r >>= f)
-unfolding _>>=_
-bind-gives Q P {r} {f} h k ms = after-gives Q P f k (r ms) (h ms)
+any-tokens : (ms : List Lexeme) → Every AnyToken ms
+any-tokens [] = tt
+any-tokens (m ∷ ms) = (tt, any-tokens ms)
 
-pub then-gives : {A B : Type 0} (P : B → Type 0) (r : Reader A) {s : Reader B} → Gives P s → Gives P (r >> s)
-unfolding _>>_
-then-gives P r {s} h ms = after-gives (λ _. Unit {0}) P (λ _. s) (λ _ _. h) (r ms) (λ _ _ _. tt)
+pub free : {A : Type 0} {P : A → Type 0} {r : Reader A} → GivesOn AnyToken P r → Gives P r
+free h ms a l e = h .each ms a l (any-tokens ms) e .0
 
-pub closed-gives : {A : Type 0} (P : A → Type 0) {r : Reader A} → Gives P r → Gives P (closed r)
-unfolding closed
-closed-gives P h = bind-gives P P h (λ a q. then-gives P close-bracket (pure-gives P a q))
+rest-every : (Q : Lexeme → Type 0) (ms : List Lexeme) → Every Q ms → Every Q (rest ms)
+unfolding rest
+rest-every Q [] w = tt
+rest-every Q (m ∷ ms) w = w .1
 
--- as many numbers as were asked for
-pub numbers-give : (f : Form) (n : ℕ) → Gives (λ zs. length zs ≡ n) (numbers f n)
-unfolding numbers
-numbers-give f zero = pure-gives (λ zs. length zs ≡ 0) [] refl
-numbers-give f (suc n) = bind-gives (λ _. Unit {0}) (λ zs. length zs ≡ suc n) (λ _ _ _ _. tt) (λ z _. bind-gives (λ zs. length zs ≡ n) (λ zs. length zs ≡ suc n) (numbers-give f n) (λ zs h. pure-gives (λ xs. length xs ≡ suc n) (z ∷ zs) (ap suc h)))
+got-gives : {A : Type 0} (Q : Lexeme → Type 0) (P : A → Type 0) (b a : A) (k l : List Lexeme) → P b → Every Q k → got b k ≡ got a l → P a × Every Q l
+got-gives Q P b a k l p w e =
+    let x : a ≡ b = cc in
+    let y : l ≡ k = cc in
+    rw (x, y) (p, w)
 
-pub cells-give : (lead : ℕ) (f : Form) (n : ℕ) → Gives (λ zs. length zs ≡ lead + n) (cells lead f n)
-unfolding cells
-cells-give lead f n = bind-gives (λ zs. length zs ≡ lead) (λ zs. length zs ≡ lead + n) (numbers-give INT lead) (λ a p. bind-gives (λ zs. length zs ≡ n) (λ zs. length zs ≡ lead + n) (numbers-give f n) (λ b q. pure-gives (λ zs. length zs ≡ lead + n) (a ++ b) (length-append a b ∙ rw (p, q))))
+module _ {Q : Lexeme → Type 0} where
+  -- ---- a value, or a refusal
 
-pub row-of-gives : (k : List ℕ) (lead : ℕ) (f : Form) (n : ℕ) → Gives (λ zs. length zs ≡ lead + n) (rowOf k lead f n)
-unfolding rowOf
-row-of-gives k lead f n = then-gives (λ zs. length zs ≡ lead + n) (openedOf k) (closed-gives (λ zs. length zs ≡ lead + n) (cells-give lead f n))
+  pub pure-gives : {A : Type 0} {P : A → Type 0} (a : A) → P a → GivesOn Q P (pure a)
+  unfolding pure
+  pure-gives {P} a p = record { each = λ ms b l w e. got-gives Q P a b ms l p w e }
 
-pub row-gives : (k : String) (f : Form) (n : ℕ) → Gives (λ zs. length zs ≡ n) (row k f n)
-unfolding row
-row-gives k f n = rw zero-add at (row-of-gives (bytes k) 0 f n)
+  pub stop-gives : {A : Type 0} {P : A → Type 0} (n : ℕ) → GivesOn Q P (stop n)
+  stop-gives n = record { each = λ ms a l w e. absurd (stop-not n ms a l e) }
 
--- ---- lists
+  -- past a token
+  pub next-gives : {A : Type 0} {P : A → Type 0} (a : A) → P a → GivesOn Q P (λ ms. got a (rest ms))
+  next-gives {P} a p = record { each = λ ms b l w e. got-gives Q P a b (rest ms) l p (rest-every Q ms w) e }
 
-abbrev pub Every : {A : Type 0} → (A → Type 0) → List A → Type 0
-Every P [] = Unit {0}
-Every P (a ∷ l) = P a × Every P l
+  pub later-gives : {A : Type 0} {P : A → Type 0} {r : Reader A} → GivesOn Q P r → GivesOn Q P (λ ms. r (rest ms))
+  later-gives h = record { each = λ ms a l w e. h .each (rest ms) a l (rest-every Q ms w) e }
 
-module _ {A : Type 0} (P : A → Type 0) (r : Reader A) (h : Gives P r) where
-  many-in-gives : (n : ℕ) → Gives (Every P) (manyIn n r)
-  unfolding manyIn
-  many-in-gives zero ms l k e = absurd (stop-not 5 ms l k e)
-  many-in-gives (suc n) ms l k e = go (isClosing (tokenOf ms)) refl (many-in-gives n)
+  pub same-gives : {A : Type 0} {P : A → Type 0} {r s : Reader A} → GivesOn Q P s → ((ms : List Lexeme) → r ms ≡ s ms) → GivesOn Q P r
+  same-gives h f = record { each = λ ms a l w e. h .each ms a l w (sym (f ms) ∙ e) }
+
+  -- by a test, as one reader or another
+  pub either-gives : {A : Type 0} {P : A → Type 0} {r y n : Reader A} (t : List Lexeme → Bool) → GivesOn Q P y → GivesOn Q P n → ((ms : List Lexeme) → t ms ≡ true → r ms ≡ y ms) → ((ms : List Lexeme) → t ms ≡ false → r ms ≡ n ms) → GivesOn Q P r
+  either-gives {P} {r} t h k on off = record { each = λ ms a l w e. go ms a l w e (t ms) refl }
     where
-      go : (v : Bool) → isClosing (tokenOf ms) ≡ v → Gives (Every P) (manyIn n r) → Every P l
-      go true o ih = pure-gives (Every P) [] tt (rest ms) l k (unfold pure in (sym (many-in-end n r ms o) ∙ e))
-      go false o ih = bind-gives P (Every P) h (λ a p. bind-gives (Every P) (Every P) ih (λ m q. pure-gives (Every P) (a ∷ m) (p, q))) ms l k (sym (many-in-more n r ms o) ∙ e)
+      go : (ms : List Lexeme) (a : _) (l : List Lexeme) → Every Q ms → r ms ≡ got a l → (v : Bool) → t ms ≡ v → P a × Every Q l
+      go ms a l w e true o = h .each ms a l w (sym (on ms o) ∙ e)
+      go ms a l w e false o = k .each ms a l w (sym (off ms o) ∙ e)
 
-  pub many-gives : Gives (Every P) (many r)
-  unfolding many
-  many-gives ms = many-in-gives (length ms) ms
+  -- ---- readers one after another
 
-  pub some-give : Gives (Every P) (many⁺ r)
-  unfolding many⁺
-  some-give = bind-gives P (Every P) h (λ a p. bind-gives (Every P) (Every P) many-gives (λ l q. pure-gives (Every P) (a ∷ l) (p, q)))
+  pub bind-gives : {A B : Type 0} {P : A → Type 0} {S : B → Type 0} {r : Reader A} {f : A → Reader B} → GivesOn Q P r → ((a : A) → P a → GivesOn Q S (f a)) → GivesOn Q S (r >>= f)
+  unfolding _>>=_
+  bind-gives {r} {f} h k =
+      record {
+        each = λ ms b l w e.
+            let s = before (r ms) f b l e in
+            let p = h .each ms (s .value) (s .left) w (s .first) in
+            k (s .value) (p .0) .each (s .left) b l (p .1) (s .second);
+      }
 
--- ---- what may be left out
+  pub then-gives : {A B : Type 0} {P : A → Type 0} {S : B → Type 0} {r : Reader A} {s : Reader B} → GivesOn Q P r → GivesOn Q S s → GivesOn Q S (r >> s)
+  unfolding _>>_
+  then-gives {r} {s} h k =
+      record {
+        each = λ ms b l w e.
+            let x = before (r ms) (λ _. s) b l e in
+            k .each (x .left) b l (h .each ms (x .value) (x .left) w (x .first) .1) (x .second);
+      }
 
-module _ {A : Type 0} (P : A → Type 0) (k : String) (a : A) (p : P a) (r : Reader A) (h : Gives P r) where
-  pub optional-gives : Gives P (optional k a r)
-  unfolding optional
-  optional-gives ms b l e = go (starts (bytes k) ms) refl
-    where
-      go : (v : Bool) → starts (bytes k) ms ≡ v → P b
-      go true o = h (rest (rest ms)) b l (rw (o, optional) at e)
-      go false o = pure-gives P a p ms b l (unfold pure in (rw (o, optional) at e))
+  -- the same values, by what follows of them
+  pub gives-as : {A : Type 0} {P S : A → Type 0} {r : Reader A} → GivesOn Q P r → ((a : A) → P a → S a) → GivesOn Q S r
+  gives-as h f = record { each = λ ms a l w e. let p = h .each ms a l w e in (f a (p .0), p .1) }
 
-  pub trailing-gives : Gives P (trailing k a r)
-  unfolding trailing
-  trailing-gives ms b l e = go (isOpening (tokenOf ms)) refl
-    where
-      go : (v : Bool) → isOpening (tokenOf ms) ≡ v → P b
-      go true o = then-gives P (opened k) h ms b l (rw (o, trailing) at e)
-      go false o = pure-gives P a p ms b l (unfold pure in (rw (o, trailing) at e))
+  pub leaves-on : {A : Type 0} {P : A → Type 0} {r : Reader A} → GivesOn Q P r → LeavesOn Q r
+  leaves-on h = gives-as h (λ _ _. tt)
+
+  pub both-give : {A : Type 0} {P S : A → Type 0} {r : Reader A} → GivesOn Q P r → GivesOn Q S r → GivesOn Q (λ a. P a × S a) r
+  both-give h k = record { each = λ ms a l w e. let p = h .each ms a l w e in ((p .0, k .each ms a l w e .0), p .1) }
+
+  -- ---- one token
+
+  pub take-leaves : (test : Token → Bool) → LeavesOn Q (take-if test)
+  unfolding take-if
+  take-leaves test = either-gives (λ ms. test (tokenOf ms)) (next-gives tt tt) (stop-gives 5) (λ ms o. rw (o, take-if)) (λ ms o. rw (o, take-if))
+
+  pub open-leaves : LeavesOn Q open-bracket
+  unfolding open-bracket
+  open-leaves = take-leaves isOpening
+
+  pub close-leaves : LeavesOn Q close-bracket
+  unfolding close-bracket
+  close-leaves = take-leaves isClosing
+
+  pub word-leaves : (k : List ℕ) → LeavesOn Q (wordOf k)
+  unfolding wordOf
+  word-leaves k = take-leaves (isKeyword k)
+
+  pub opened-of-leaves : (k : List ℕ) → LeavesOn Q (openedOf k)
+  unfolding openedOf
+  opened-of-leaves k = then-gives open-leaves (word-leaves k)
+
+  pub opened-leaves : (k : String) → LeavesOn Q (opened k)
+  unfolding opened
+  opened-leaves k = opened-of-leaves (bytes k)
+
+  pub end-leaves : LeavesOn Q text-end
+  unfolding text-end pure
+  end-leaves = either-gives (λ ms. isEnd (tokenOf ms)) (pure-gives tt tt) (stop-gives 5) (λ ms o. rw (o, text-end)) (λ ms o. rw (o, text-end))
+
+  pub closed-gives : {A : Type 0} {P : A → Type 0} {r : Reader A} → GivesOn Q P r → GivesOn Q P (closed r)
+  unfolding closed
+  closed-gives h = bind-gives h (λ a p. then-gives close-leaves (pure-gives a p))
+
+  -- ---- the head
+
+  version-at : (v : List ℕ) (t : Token) → LeavesOn Q (versionAt v t)
+  unfolding versionAt
+  version-at v opening = stop-gives 5
+  version-at v closing = stop-gives 5
+  version-at v ending = stop-gives 5
+  version-at v (quoted bs) = stop-gives 5
+  version-at v (plain bs) = either-gives (λ _. same bs v) (next-gives tt tt) (stop-gives 7) (λ ms o. rw (o, versionAt)) (λ ms o. rw (o, versionAt))
+
+  version-leaves : (v : List ℕ) → LeavesOn Q (version v)
+  unfolding version
+  version-leaves v = record { each = λ ms. version-at v (tokenOf ms) .each ms }
+
+  pub head-leaves : (k v : String) → LeavesOn Q (head k v)
+  unfolding head headOf
+  head-leaves k v = then-gives (then-gives (opened-leaves "Head") (opened-of-leaves (bytes k))) (closed-gives (closed-gives (version-leaves (bytes v))))
+
+  -- ---- lists
+
+  module _ {A : Type 0} {P : A → Type 0} {r : Reader A} (h : GivesOn Q P r) where
+    -- one more
+    pub more-give : {s : Reader (List A)} → GivesOn Q (Every P) s → GivesOn Q (Every P) (r >>= λ a. s >>= λ l. pure (a ∷ l))
+    more-give k = bind-gives h (λ a p. bind-gives k (λ l q. pure-gives {P = Every P} (a ∷ l) (p, q)))
+
+    many-in-gives : (n : ℕ) → GivesOn Q (Every P) (manyIn n r)
+    unfolding manyIn
+    many-in-gives zero = stop-gives 5
+    many-in-gives (suc n) = either-gives (λ ms. isClosing (tokenOf ms)) (next-gives {P = Every P} [] tt) (more-give (many-in-gives n)) (many-in-end n r) (many-in-more n r)
+
+    pub many-gives : GivesOn Q (Every P) (many r)
+    unfolding many
+    many-gives = record { each = λ ms. many-in-gives (length ms) .each ms }
+
+    pub some-give : GivesOn Q (Every P) (many⁺ r)
+    unfolding many⁺
+    some-give = more-give many-gives
+
+  -- ---- what may be left out
+
+  module _ {A : Type 0} {P : A → Type 0} (k : String) (a : A) (p : P a) {r : Reader A} (h : GivesOn Q P r) where
+    pub optional-gives : GivesOn Q P (optional k a r)
+    unfolding optional pure
+    optional-gives = either-gives (starts (bytes k)) (later-gives (later-gives h)) (pure-gives a p) (λ ms o. rw (o, optional)) (λ ms o. rw (o, optional))
+
+    pub trailing-gives : GivesOn Q P (trailing k a r)
+    unfolding trailing pure
+    trailing-gives = either-gives (λ ms. isOpening (tokenOf ms)) (then-gives (opened-leaves k) h) (pure-gives a p) (λ ms o. rw (o, trailing)) (λ ms o. rw (o, trailing))
+
+  -- ---- a name
+
+  name-at : (P : Name → Type 0) → Naming Q P → (t : Token) (ms : List Lexeme) → tokenOf ms ≡ t → (n : Name) (l : List Lexeme) → Every Q ms → nameAt t ms ≡ got n l → P n × Every Q l
+  unfolding nameAt tokenOf
+  name-at P h opening ms o n l w e = absurd (stop-not 5 ms n l e)
+  name-at P h closing ms o n l w e = absurd (stop-not 5 ms n l e)
+  name-at P h ending ms o n l w e = absurd (stop-not 5 ms n l e)
+  name-at P h (quoted bs) [] o n l w e = absurd (not-got 5 0 n l e)
+  name-at P h (quoted bs) (m ∷ ms) o n l w e = got-gives Q P _ n ms l (h m bs o (w .0)) (w .1) e
+  name-at P h (plain bs) ms o n l w e = absurd (stop-not 5 ms n l e)
+
+  pub string-gives : {P : Name → Type 0} → Naming Q P → GivesOn Q P string
+  unfolding string
+  string-gives {P} h = record { each = λ ms. name-at P h (tokenOf ms) ms refl }
+
+  -- a chunk of a name that may be left out
+  pub name-gives : {P : Name → Type 0} → P absent → Naming Q P → GivesOn Q P (optional "name" absent (closed string))
+  name-gives p h = optional-gives "name" absent p (closed-gives (string-gives h))

@@ -19,7 +19,8 @@ use Rattle.chunks.proofs.Binds.{after-after, after-same, after-when, th
 use Rattle.chunks.specs.Branches.{itemOf}
 use Rattle.chunks.proofs.Many.{Keeps, takes-keeps, pure-keeps, bind-keeps, then-keeps, then-takes, closed-keeps, word-takes, cells-keep, row-of-takes}
 use Rattle.chunks.proofs.Counts.{falls}
-use Rattle.chunks.proofs.Given.{then-gives, closed-gives, numbers-give, cells-give, row-of-gives}
+use Rattle.chunks.proofs.Given.{free, then-gives, closed-gives, word-leaves}
+use Rattle.chunks.proofs.Ranges.{numbers-give, cells-give, row-of-gives}
 use Rattle.chunks.proofs.Branches.{items-end, items-more, item-takes}
 use Rattle.chunks.proofs.Tables.{overlayAt-none, overlayAt-cons, overlayAt-past, overlayAt-append, overlayAt-same}
 
@@ -65,7 +66,7 @@ cells-parts : (lead : ℕ) (f : Form) (w i : ℕ) (t : List ℤ) (ms : List Lexe
 unfolding cellsInto cells numbersInto _>>=_ pure after
 cells-parts lead f w i t ms =
     after-after (numbers INT lead ms) _ _
-    ∙ after-when (numbers INT lead ms) _ _ (λ a l e. after-after (numbers f w l) _ _ ∙ after-same (numbers f w l) _ _ (λ b k. ap (λ (x : List ℤ). got x k) (overlayAt-append i a b t ∙ rw (numbers-give INT lead ms a l e))))
+    ∙ after-when (numbers INT lead ms) _ _ (λ a l e. after-after (numbers f w l) _ _ ∙ after-same (numbers f w l) _ _ (λ b k. ap (λ (x : List ℤ). got x k) (overlayAt-append i a b t ∙ rw (free (numbers-give INT lead) ms a l e .0))))
     ∙ sym (after-after (numbers INT lead ms) _ _)
 
 pub cells-joined : (text : List ℕ) (c d e : Cursor) (lead : ℕ) (f : Form) (w i j : ℕ) (t u v : List ℤ) → reads text d u ≡ from text c (numbersInto INT lead i t) → min j (length u) ≡ min (i + lead) (length u) → reads text e v ≡ from text d (numbersInto f w j u) → reads text e v ≡ from text c (cellsInto lead f w i t)
@@ -124,7 +125,7 @@ module _ (k : List ℕ) (lead : ℕ) (f : Form) (w : ℕ) where
   rows-turn : (n i : ℕ) (t : List ℤ) (ms : List Lexeme) → (wordOf k >> closed (cells lead f w) >>= λ zs. many (rowOf k lead f w) >>= λ rs. pure (n + length (zs ∷ rs), overlayAt i (flat (zs ∷ rs)) t)) ms ≡ (rowTail k lead f w i t >>= λ u. rowsOn k lead f w (n + 1) (i + (lead + w)) u) ms
   unfolding rowsOn _>>=_ pure after
   rows-turn n i t ms =
-      after-when ((wordOf k >> closed (cells lead f w)) ms) _ _ (λ zs l e. after-same (many (rowOf k lead f w) l) _ _ (λ rs m. ap (λ (v : ℕ × List ℤ). got v m) (row-more n i t zs rs (then-gives (λ x. length x ≡ lead + w) (wordOf k) (closed-gives (λ x. length x ≡ lead + w) (cells-give lead f w)) ms zs l e))))
+      after-when ((wordOf k >> closed (cells lead f w)) ms) _ _ (λ zs l e. after-same (many (rowOf k lead f w) l) _ _ (λ rs m. ap (λ (v : ℕ × List ℤ). got v m) (row-more n i t zs rs (free (then-gives (word-leaves k) (closed-gives (cells-give lead f w))) ms zs l e .0))))
       ∙ sym (ap (λ (g : Got (List ℤ)). after g (λ u. rowsOn k lead f w (n + 1) (i + (lead + w)) u)) (sym (tail-parts k lead f w i t ms)) ∙ after-after ((wordOf k >> closed (cells lead f w)) ms) _ _)
 
   -- a turn of the loop: from cursor c to d by the next bracket, and then to e by a row
@@ -163,7 +164,7 @@ module _ (k : List ℕ) (lead : ℕ) (f : Form) (w i : ℕ) (t : List ℤ) where
   unfolding someInto many⁺ rowInto rowsInto others _>>=_ pure after
   some-parts ms =
       after-after (rowOf k lead f w ms) _ _
-      ∙ after-when (rowOf k lead f w ms) _ _ (λ zs l e. after-after (many (rowOf k lead f w) l) _ _ ∙ after-same (many (rowOf k lead f w) l) _ _ (λ rs m. ap (λ (v : ℕ × List ℤ). got v m) (some-value zs rs (row-of-gives k lead f w ms zs l e))) ∙ sym (after-after (many (rowOf k lead f w) l) _ _))
+      ∙ after-when (rowOf k lead f w ms) _ _ (λ zs l e. after-after (many (rowOf k lead f w) l) _ _ ∙ after-same (many (rowOf k lead f w) l) _ _ (λ rs m. ap (λ (v : ℕ × List ℤ). got v m) (some-value zs rs (free (row-of-gives k lead f w) ms zs l e .0))) ∙ sym (after-after (many (rowOf k lead f w) l) _ _))
       ∙ sym (after-after (rowOf k lead f w ms) _ _)
 
   pub some-join : (text : List ℕ) (c d e : Cursor) (t₁ t₂ : List ℤ) (n j : ℕ) → reads text d t₁ ≡ from text c (rowInto k lead f w i t) → min j (length t₁) ≡ min (i + (lead + w)) (length t₁) → reads text e (n, t₂) ≡ from text d (rowsInto k lead f w j t₁) → reads text e (n + 1, t₂) ≡ from text c (someInto k lead f w i t)

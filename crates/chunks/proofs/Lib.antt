@@ -5,7 +5,6 @@ pub mod Branches
 pub mod Chains
 pub mod Choices
 pub mod Counts
-pub mod FieldCounts
 pub mod FieldFits
 pub mod FieldFlags
 pub mod FieldKeeps
@@ -16,6 +15,7 @@ pub mod HeadSteps
 pub mod Into
 pub mod Many
 pub mod NameSteps
+pub mod Names
 pub mod NumberSteps
 pub mod RowCounts
 pub mod Rules

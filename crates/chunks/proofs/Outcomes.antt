@@ -10,6 +10,7 @@ use lib.IntN.{ℤ}
 use borrow.Author.Tests.{leb-true, le-leb, lt-leb}
 use Rattle.lexer.specs.Faults.{Fault, clear, fault, Format, textFault}
 use Rattle.lexer.specs.Tokens.{Lexeme, lex}
+use Rattle.lexer.proofs.Scanning.{fault-not-clear}
 use Rattle.chunks.specs.Readers.{Got, got, refused, Reader}
 use Rattle.chunks.specs.Cursors.{overlayAt}
 use Rattle.chunks.specs.Outcomes.{Outcome, rejected, accepted, ruled, shaped, checked, outcome, fitted, laid}
@@ -24,7 +25,7 @@ text-short f text e = go (leb (length text) 65536) refl
   where
     go : (v : Bool) → leb (length text) 65536 ≡ v → length text ≤ 65536
     go true o = leb-true _ _ o
-    go false o = let h : fault 1 0 ≡ clear = rw (o, textFault) at e in let z : _≡_ {A = ℕ} 0 1 = cc in omega (arith, z)
+    go false o = absurd (fault-not-clear 1 0 (rw (o, textFault) at e))
 
 module _ {A : Type 0} (f : Format) (grammar : Reader A) (rules : A → Fault) (text : List ℕ) where
   pub text-refused : {n p : ℕ} → textFault f text ≡ fault n p → outcome f grammar rules text ≡ rejected n p
@@ -72,3 +73,16 @@ module _ {A : Type 0} (layout : A → List ℤ) where
   pub laid-accepted : (a : A) (table : List ℤ) → length (layout a) ≤ length table → overlayAt 0 (layout a) table ≡ laid layout table (accepted a)
   unfolding laid
   laid-accepted a table h = overlay-whole (layout a) table h
+
+-- ---- back from a text that is taken
+
+pub rejected-no : {A : Type 0} (n p : ℕ) (a : A) → rejected n p ≡ accepted a → ⊥
+rejected-no n p a e = let z : _≡_ {A = ℕ} 0 1 = cc in omega arith
+
+-- it passes the refusals 1 to 4
+pub accepted-clear : {A : Type 0} (f : Format) (grammar : Reader A) (rules : A → Fault) (layout : A → List ℤ) (text : List ℕ) (room : ℕ) (a : A) → fitted layout room (outcome f grammar rules text) ≡ accepted a → textFault f text ≡ clear
+accepted-clear f grammar rules layout text room a e = go (textFault f text) refl
+  where
+    go : (v : Fault) → textFault f text ≡ v → textFault f text ≡ clear
+    go clear o = o
+    go (fault n p) o = absurd (rejected-no n p a (sym (fitted-rejected layout (text-refused f grammar rules text o) room) ∙ e))

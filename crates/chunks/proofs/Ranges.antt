@@ -1,20 +1,19 @@
--- What the readers of numbers and of choices give: numbers in their form's range, and a choice below the count of words; by one law a reader.
-use mathlib.Core.Path.{_≡_, refl}
+-- What the readers of numbers, rows and choices give: as many numbers as were asked for, in their form's range, and a choice below the count of words; by one law a reader.
+use mathlib.Core.Path.{_≡_, refl, ap, _∙_}
 use mathlib.Core.List.{List, [], _∷_, _++_}
-use mathlib.Core.Bool.{Bool, true, false}
+use mathlib.Core.Bool.{true}
 use Prim.Native.Nat.{ℕ, zero, suc, _+_, _<_}
 use Prim.Native.String.{String}
 use native.Mathlib.Omega.{arith}
-use lib.ListN.{length, drop}
+use lib.ListN.{length, drop, length-append}
 use lib.Seq.{drop-at}
 use lib.IntN.{ℤ}
 use Rattle.lexer.specs.Bytes.{bytes}
-use Rattle.lexer.specs.Tokens.{Token, opening, closing, ending, quoted, plain, isKeyword}
+use Rattle.lexer.specs.Tokens.{Token, opening, closing, ending, quoted, plain, Lexeme, isKeyword}
 use Rattle.lexer.specs.Numbers.{Number, value, beyond, wrong, Form, INT, numberOf, inForm}
 use Rattle.lexer.proofs.Numerals.{number-range}
-use Rattle.chunks.specs.Readers.{Reader, pure, tokenOf, rest, numberIn, numberAt, number, numbers, cells, openedOf, rowOf, row, oneFrom, oneOf, many, many⁺}
-use Rattle.chunks.proofs.Many.{stop-not}
-use Rattle.chunks.proofs.Given.{Gives, Every, any-gives, pure-gives, bind-gives, then-gives, closed-gives, numbers-give}
+use Rattle.chunks.specs.Readers.{Reader, tokenOf, numberIn, numberAt, number, numbers, cells, rowOf, row, oneFrom, oneOf, many⁺}
+use Rattle.chunks.proofs.Given.{GivesOn, LeavesOn, Every, pure-gives, stop-gives, next-gives, either-gives, bind-gives, then-gives, gives-as, closed-gives, opened-of-leaves, many-gives}
 
 -- in a form's range
 abbrev pub InForm : Form → ℤ → Type 0
@@ -23,74 +22,70 @@ InForm f z = inForm f z ≡ true
 abbrev pub AllIn : Form → List ℤ → Type 0
 AllIn f zs = Every (InForm f) zs
 
--- ---- numbers
+-- so many numbers of a form
+abbrev pub Numbers : Form → ℕ → List ℤ → Type 0
+Numbers f n zs = (length zs ≡ n) × AllIn f zs
 
-module _ (f : Form) where
-  value-gives : (bs : List ℕ) (n : Number) → numberOf f bs ≡ n → Gives (InForm f) (numberIn n)
+-- the same after so many others
+abbrev pub Cells : ℕ → Form → ℕ → List ℤ → Type 0
+Cells lead f n zs = (length zs ≡ lead + n) × AllIn f (drop lead zs)
+
+module _ {Q : Lexeme → Type 0} where
+  -- ---- numbers
+
+  value-gives : (f : Form) (bs : List ℕ) (n : Number) → numberOf f bs ≡ n → GivesOn Q (InForm f) (numberIn n)
   unfolding numberIn
-  value-gives bs (value y) o ms z l e = pure-gives (InForm f) y (number-range f bs y o) (rest ms) z l (unfold pure in e)
-  value-gives bs beyond o ms z l e = absurd (stop-not 6 ms z l e)
-  value-gives bs wrong o ms z l e = absurd (stop-not 5 ms z l e)
+  value-gives f bs (value y) o = next-gives y (number-range f bs y o)
+  value-gives f bs beyond o = stop-gives 6
+  value-gives f bs wrong o = stop-gives 5
 
-  token-gives : (t : Token) → Gives (InForm f) (numberAt f t)
+  token-gives : (f : Form) (t : Token) → GivesOn Q (InForm f) (numberAt f t)
   unfolding numberAt
-  token-gives opening ms z l e = absurd (stop-not 5 ms z l e)
-  token-gives closing ms z l e = absurd (stop-not 5 ms z l e)
-  token-gives ending ms z l e = absurd (stop-not 5 ms z l e)
-  token-gives (quoted bs) ms z l e = absurd (stop-not 5 ms z l e)
-  token-gives (plain bs) ms z l e = value-gives bs (numberOf f bs) refl ms z l e
+  token-gives f opening = stop-gives 5
+  token-gives f closing = stop-gives 5
+  token-gives f ending = stop-gives 5
+  token-gives f (quoted bs) = stop-gives 5
+  token-gives f (plain bs) = value-gives f bs (numberOf f bs) refl
 
-  pub number-in-form : Gives (InForm f) (number f)
+  pub number-gives : (f : Form) → GivesOn Q (InForm f) (number f)
   unfolding number
-  number-in-form ms z l e = token-gives (tokenOf ms) ms z l e
+  number-gives f = record { each = λ ms. token-gives f (tokenOf ms) .each ms }
 
-  pub numbers-in-form : (n : ℕ) → Gives (Every (InForm f)) (numbers f n)
+  pub numbers-give : (f : Form) (n : ℕ) → GivesOn Q (Numbers f n) (numbers f n)
   unfolding numbers
-  numbers-in-form zero = pure-gives (Every (InForm f)) [] tt
-  numbers-in-form (suc n) =
-      bind-gives (InForm f) (Every (InForm f)) number-in-form (λ z p.
-      bind-gives (Every (InForm f)) (Every (InForm f)) (numbers-in-form n) (λ zs q. pure-gives (Every (InForm f)) (z ∷ zs) (p, q)))
+  numbers-give f zero = pure-gives {P = Numbers f 0} [] (refl, tt)
+  numbers-give f (suc n) = bind-gives (number-gives f) (λ z p. bind-gives (numbers-give f n) (λ zs q. pure-gives {P = Numbers f (suc n)} (z ∷ zs) (ap suc (q .0), (p, q .1))))
 
--- the numbers of a row after its first INT
-module _ (lead : ℕ) (f : Form) (n : ℕ) where
-  abbrev Last : List ℤ → Type 0
-  Last zs = Every (InForm f) (drop lead zs)
+  -- ---- rows
 
-  pub cells-in-form : Gives Last (cells lead f n)
+  pub cells-give : (lead : ℕ) (f : Form) (n : ℕ) → GivesOn Q (Cells lead f n) (cells lead f n)
   unfolding cells
-  cells-in-form =
-      bind-gives (λ zs. length zs ≡ lead) Last (numbers-give INT lead) (λ a h.
-      bind-gives (Every (InForm f)) Last (numbers-in-form f n) (λ b q.
-      pure-gives Last (a ++ b) (rw (drop-at a b lead h) q)))
+  cells-give lead f n =
+      bind-gives (numbers-give INT lead) (λ a p. bind-gives (numbers-give f n) (λ b q.
+      pure-gives {P = Cells lead f n} (a ++ b) (length-append a b ∙ rw (p .0, q .0), rw (drop-at a b lead (p .0)) (q .1))))
 
-  pub row-in-form : (k : List ℕ) → Gives Last (rowOf k lead f n)
+  pub row-of-gives : (k : List ℕ) (lead : ℕ) (f : Form) (n : ℕ) → GivesOn Q (Cells lead f n) (rowOf k lead f n)
   unfolding rowOf
-  row-in-form k = then-gives Last (openedOf k) (closed-gives Last cells-in-form)
+  row-of-gives k lead f n = then-gives (opened-of-leaves k) (closed-gives (cells-give lead f n))
 
--- rows all of one form
-pub row-in : (k : String) (f : Form) (n : ℕ) → Gives (AllIn f) (row k f n)
-unfolding row
-row-in k f n = row-in-form 0 f n (bytes k)
+  pub row-gives : (k : String) (f : Form) (n : ℕ) → GivesOn Q (Numbers f n) (row k f n)
+  unfolding row
+  row-gives k f n = gives-as (row-of-gives (bytes k) 0 f n) (λ zs h. (omega (arith, h .0), h .1))
 
--- ---- a choice of words
+  -- ---- a choice of words
 
-from-below : (n : ℕ) (ks : List String) → Gives (λ i. i < n + length ks) (oneFrom n ks)
-unfolding oneFrom
-from-below n [] ms i l e = absurd (stop-not 5 ms i l e)
-from-below n (k ∷ ks) ms i l e = go (isKeyword (bytes k) (tokenOf ms)) refl (from-below (suc n) ks)
-  where
-    go : (v : Bool) → isKeyword (bytes k) (tokenOf ms) ≡ v → Gives (λ j. j < suc n + length ks) (oneFrom (suc n) ks) → i < n + suc (length ks)
-    go true o ih = pure-gives (λ (j : ℕ). j < n + suc (length ks)) n (omega arith) (rest ms) i l (unfold pure in (rw (o, oneFrom) at e))
-    go false o ih = let h : i < suc n + length ks = ih ms i l (rw (o, oneFrom) at e) in omega arith
+  from-below : (n : ℕ) (ks : List String) → GivesOn Q (λ i. i < n + length ks) (oneFrom n ks)
+  unfolding oneFrom
+  from-below n [] = stop-gives 5
+  from-below n (k ∷ ks) =
+      either-gives (λ ms. isKeyword (bytes k) (tokenOf ms)) (next-gives {P = λ i. i < n + suc (length ks)} n (omega arith)) (gives-as (from-below (suc n) ks) (λ i h. omega arith)) (λ ms o. rw (o, oneFrom)) (λ ms o. rw (o, oneFrom))
 
-pub choice-below : (ks : List String) → Gives (λ i. i < length ks) (oneOf ks)
-unfolding oneOf
-choice-below ks ms i l e = let h : i < 0 + length ks = from-below 0 ks ms i l e in omega arith
+  pub choice-below : (ks : List String) → GivesOn Q (λ i. i < length ks) (oneOf ks)
+  unfolding oneOf
+  choice-below ks = gives-as (from-below 0 ks) (λ i h. omega arith)
 
--- ---- one or more
+  -- ---- one or more
 
-pub some-stand : {A : Type 0} (r : Reader A) → Gives (λ (l : List A). 0 < length l) (many⁺ r)
-unfolding many⁺
-some-stand {A} r =
-    let P : List A → Type 0 = λ l. 0 < length l in
-    bind-gives (λ _. Unit {0}) P (any-gives r) (λ a _. bind-gives (λ _. Unit {0}) P (any-gives (many r)) (λ l _. pure-gives P (a ∷ l) (omega arith)))
+  pub some-stand : {A : Type 0} {r : Reader A} → LeavesOn Q r → GivesOn Q (λ (l : List A). 0 < length l) (many⁺ r)
+  unfolding many⁺
+  some-stand {A} h = bind-gives h (λ a _. bind-gives (many-gives h) (λ l _. pure-gives {P = λ (l : List A). 0 < length l} (a ∷ l) (omega arith)))

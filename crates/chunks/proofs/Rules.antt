@@ -2,7 +2,6 @@
 use mathlib.Core.Path.{_≡_, refl, sym, _∙_}
 use mathlib.Core.List.{List, _∷_}
 use mathlib.Core.Bool.{Bool, true, false}
-use native.Mathlib.Omega.{arith}
 use lib.Dec.{leb}
 use Prim.Native.Nat.{ℕ, suc, _≤_, _<_}
 use borrow.Author.Tests.{le-leb, lt-leb, leb-true}
@@ -12,6 +11,7 @@ use Rattle.lexer.specs.Faults.{Fault, clear, fault}
 use Rattle.lexer.specs.Answers.{refusal}
 use Rattle.lexer.specs.declared.check.Checked.{Checked}
 use Rattle.lexer.specs.declared.check.Checked.the-variants.{Clear, Refused}
+use Rattle.lexer.proofs.Scanning.{fault-not-clear}
 use Rattle.chunks.specs.Rules.{orElse, tooMany}
 
 -- ---- what an answer says of a rule
@@ -66,9 +66,6 @@ module _ (i : ℕ) (ns ms : List ℕ) where
   unfolding tooMany
   count-beyond h k l = rw (drop-cons ns i 0 h, drop-cons ms i 0 k) (rw (lt-leb (getD ns i 0) (getD ms i 0) l, tooMany))
 
-not-clear : (k p : ℕ) → fault k p ≡ clear → ⊥
-not-clear k p e = let z : _≡_ {A = ℕ} 0 1 = cc in omega (arith, z)
-
 -- a list without fault is within its most, and so are those after it
 pub count-clear : (i n m : ℕ) (ns ms : List ℕ) → tooMany i (n ∷ ns) (m ∷ ms) ≡ clear → (n ≤ m) × (tooMany (suc i) ns ms ≡ clear)
 unfolding tooMany
@@ -76,4 +73,4 @@ count-clear i n m ns ms h = go (leb n m) refl
   where
     go : (v : Bool) → leb n m ≡ v → (n ≤ m) × (tooMany (suc i) ns ms ≡ clear)
     go true e = (leb-true n m e, rw (e, tooMany) at h)
-    go false e = absurd (not-clear 8 i (rw (e, tooMany) at h))
+    go false e = absurd (fault-not-clear 8 i (rw (e, tooMany) at h))

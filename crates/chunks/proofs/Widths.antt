@@ -7,6 +7,7 @@ use native.Mathlib.Omega.{arith}
 use lib.ListN.{length, take, drop, length-append}
 use lib.Seq.{take-at}
 use lib.IntN.{ℤ}
+use Rattle.lexer.proofs.Every.{every-append}
 use Rattle.chunks.specs.Cursors.{overlayAt}
 use Rattle.chunks.specs.Into.{flat}
 use Rattle.chunks.proofs.Chains.{overlay-whole}
@@ -16,8 +17,7 @@ abbrev pub Wide : ℕ → List (List ℤ) → Type 0
 Wide w rs = Every (λ r. length r ≡ w) rs
 
 pub wide-append : (w : ℕ) (a b : List (List ℤ)) → Wide w a → Wide w b → Wide w (a ++ b)
-wide-append w [] b h k = k
-wide-append w (r ∷ a) b h k = (h .0, wide-append w a b (h .1) k)
+wide-append w = every-append (λ r. length r ≡ w)
 
 pub flat-append : (a b : List (List ℤ)) → flat (a ++ b) ≡ flat a ++ flat b
 unfolding flat

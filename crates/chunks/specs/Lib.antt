@@ -7,5 +7,6 @@ pub mod Answers
 pub mod Into
 pub mod Branches
 pub mod Places
+pub mod Names
 pub mod Rules
 pub mod Outcomes

@@ -2,10 +2,10 @@
 use mathlib.Core.Path.{_≡_, refl, _∙_}
 use mathlib.Core.List.{List, [], _∷_}
 use mathlib.Core.Bool.{Bool, true, false}
-use Prim.Native.Nat.{ℕ, zero, suc, _<_}
-use native.Mathlib.Omega.{arith}
-use lib.ListN.{length, getD}
+use Prim.Native.Nat.{ℕ, suc}
+use lib.ListN.{length}
 use Rattle.lexer.specs.Faults.{clear}
+pub use Rattle.lexer.proofs.Every.{every-at}
 use Rattle.chunks.specs.Rules.{orElse, tooMany}
 use Rattle.chunks.proofs.Rules.{or-first, or-second}
 use Rattle.chunks.proofs.Given.{Every}
@@ -13,13 +13,6 @@ use Rattle.bac6_text.specs.Figure.{Figure}
 use Rattle.bac6_text.specs.Rules.{facesOf, countsOf, mosts, normalsFault, flagsOf, wholeList, parentsIn, bonesFault, verticesFault, firstBad, materialFine, faceFine, figureFault}
 use Rattle.bac6_text.proofs.Rows.{flags-count}
 use Rattle.bac6_text.proofs.Parents.{whole-length, fault-not-clear}
-
--- ---- lists
-
-pub every-at : {A : Type 0} (P : A → Type 0) (l : List A) (i : ℕ) (d : A) → Every P l → i < length l → P (getD l i d)
-every-at P [] i d h k = absurd (omega arith)
-every-at P (a ∷ l) zero d h k = h .0
-every-at P (a ∷ l) (suc i) d h k = every-at P l i d (h .1) (omega arith)
 
 -- where no row is bad, each passes the test
 all-pass : {A : Type 0} (n : ℕ) (t : A → Bool) (row : ℕ) (l : List A) → firstBad n t row l ≡ clear → Every (λ a. t a ≡ true) l

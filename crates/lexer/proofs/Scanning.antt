@@ -13,6 +13,9 @@ use Rattle.lexer.specs.Bytes.{Class, blank, opener, closer, quote, semic
 use Rattle.lexer.specs.Faults.{Fault, clear, fault, outside, comment, string, faultIn, begins, blankOrEnd}
 use Rattle.lexer.proofs.Runs.{run-yes, run-no}
 
+pub fault-not-clear : (n p : ℕ) → fault n p ≡ clear → ⊥
+fault-not-clear n p e = let z : _≡_ {A = ℕ} 0 1 = cc in omega arith
+
 -- a class whose bytes are passed over outside strings and comments
 unfoldable pub passes : Class → Bool
 passes blank = true
@@ -24,7 +27,7 @@ passes letter = true
 passes other = false
 
 -- a comment ends where its line does
-comment-end : (p : ℕ) (bs : List ℕ) → faultIn comment p bs ≡ faultIn outside (p + length (run inLine bs)) (drop (length (run inLine bs)) bs)
+pub comment-end : (p : ℕ) (bs : List ℕ) → faultIn comment p bs ≡ faultIn outside (p + length (run inLine bs)) (drop (length (run inLine bs)) bs)
 unfolding faultIn run inLine classOf isBlank
 comment-end p [] = refl
 comment-end p (b ∷ bs) = go (eqb b 10) refl (comment-end (suc p) bs)

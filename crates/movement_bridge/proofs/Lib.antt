@@ -1,6 +1,5 @@
 -- Sample from a movement's text.
 pub mod Laid
-pub mod Each
 pub mod Taken
 pub mod Channels
 pub mod Faultless

@@ -9,6 +9,7 @@ use borrow.Author.Tests.{lt-ltb}
 use lib.IntN.{ℤ, pos, natAbs}
 use lib.ListN.{length, drop, length-append}
 use Rattle.lexer.specs.Faults.{clear}
+use Rattle.lexer.proofs.Every.{every-append, every-first, every-last}
 use Rattle.chunks.specs.Outcomes.{accepted}
 use Rattle.chunks.proofs.Given.{Every}
 use Rattle.tra4_text.specs.Movement.{Key, Channel, Bone, Movement}
@@ -24,7 +25,6 @@ use Rattle.player.specs.Columns.{numberAt, rowsAt, isClear, keysBegin, holdsMov
 use Rattle.player.specs.Lookups.{onlyIf, isAsked, isRange, valuesFine, pairAt, channelKeys, canSample, sampleIn}
 use Rattle.movement_bridge.specs.Counts.{countsIn, channelOf}
 use Rattle.movement_bridge.proofs.Laid.{Laid, laid-part, rows-laid}
-use Rattle.movement_bridge.proofs.Each.{every-append, every-first, every-last}
 use Rattle.movement_bridge.proofs.Channels.{Found, in-rows}
 use Rattle.movement_bridge.proofs.Faultless.{one-clear, range-within, values-fine}
 use Rattle.movement_bridge.proofs.Tables.{countsRead, bone-number, keys-laid, keys-clear, whole-read, clean-read, table-read, movement-holds, total-stands, frame-asked}

@@ -3,7 +3,6 @@ use mathlib.Core.Path.{_≡_, refl}
 use mathlib.Core.List.{List}
 use mathlib.Core.Bool.{Bool, true, false}
 use Prim.Native.Nat.{ℕ, _≤_}
-use native.Mathlib.Omega.{arith}
 use borrow.Author.Tests.{leb-true}
 use lib.Dec.{leb}
 use lib.ListN.{length}
@@ -11,12 +10,10 @@ use lib.IntN.{ℤ}
 use Rattle.lexer.specs.Faults.{Fault, clear, fault, Format, textFault}
 use Rattle.lexer.specs.Tokens.{Lexeme, lex}
 use Rattle.chunks.specs.Readers.{Got, got, refused, Reader}
+use Rattle.chunks.proofs.Outcomes.{rejected-no}
 use Rattle.chunks.specs.Outcomes.{Outcome, rejected, accepted, ruled, shaped, checked, outcome, fitted}
 
 module _ {A : Type 0} where
-  rejected-no : (n p : ℕ) (a : A) → rejected n p ≡ accepted a → ⊥
-  rejected-no n p a e = let z : _≡_ {A = ℕ} 0 1 = cc in omega (arith, z)
-
   pub record Shaped (rules : A → Fault) (g : Got A) (a : A) : Type 0 where
     pub left : List Lexeme
     pub gives : g ≡ got a left

@@ -9,6 +9,7 @@ use lib.Dec.{ltb}
 use lib.IntN.{ℤ}
 use lib.ListN.{length}
 use Rattle.lexer.specs.Faults.{clear}
+use Rattle.lexer.specs.Strings.{StringAt}
 use Rattle.bac6_text.specs.Figure.{Figure}
 use Rattle.bac6_text.specs.Rules.{figureFault}
 use Rattle.bac6_text.specs.Layout as figures
@@ -28,7 +29,7 @@ use Rattle.figure_bridge.proofs.Parts.{counts}
 use Rattle.figure_bridge.proofs.Corners.{figure-holds}
 use Rattle.figure_bridge.proofs.Names as figure
 use Rattle.pair_bridge.specs.Playing.{labelAsked}
-use Rattle.pair_bridge.proofs.Names.{StringAt, figure-named, movement-named}
+use Rattle.pair_bridge.proofs.Names.{figure-named, movement-named}
 
 module _ (F : List ℕ) (f : Figure) (w : WholeFigure f) (c : figureFault f ≡ clear) (rest : List ℤ) (F-stands : (i : ℕ) → i < length (f .bones) → StringAt F (figure.boneName (f .bones) i .at) (figure.boneName (f .bones) i .bytes)) (M : List ℕ) (m : Movement) (v : WholeMovement m) (t beyond : List ℤ) (e : t ≡ movements.layoutOf m ++ beyond) (held : holdsMovement (countsRead m) t ≡ true) (M-stands : (i : ℕ) → i < length (m .bones) → StringAt M (movement.boneName (m .bones) i .at) (movement.boneName (m .bones) i .bytes)) where
   pub label-read : (bone : ℕ) → labelIn F (counts f) (figures.layoutOf f ++ rest) M (countsRead m) t bone ≡ labelAsked f m bone

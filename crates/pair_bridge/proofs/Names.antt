@@ -8,7 +8,7 @@ use native.Mathlib.Omega.{arith}
 use borrow.Author.Tests.{le-leb}
 use lib.IntN.{ℤ, pos}
 use lib.ListN.{length, getD, length-map}
-use Rattle.lexer.specs.Bytes.{part}
+use Rattle.lexer.specs.Strings.{StringAt}
 use Rattle.lexer.specs.Faults.{clear}
 use Rattle.chunks.specs.Readers.{Name, absent}
 use Rattle.chunks.specs.Fields.{isSome}
@@ -29,11 +29,6 @@ use Rattle.figure_bridge.proofs.Parts.{counts}
 use Rattle.figure_bridge.proofs.Corners.{figure-holds}
 use Rattle.figure_bridge.proofs.Names as figure
 use Rattle.pair_bridge.specs.Names.{namesFrom, allNamed, namesIn}
-
-pub record StringAt (text : List ℕ) (start : ℕ) (bs : List ℕ) : Type 0 where
-  pub is : part text start (start + length bs) ≡ bs
-  pub most : length bs ≤ 255
-  pub within : start + length bs ≤ length text
 
 -- a pair that says where a name stands is that name
 pub name-read : (text : List ℕ) (p l : ℤ) (n : Name) → StringAt text (n .at) (n .bytes) → p ≡ pos (n .at) → l ≡ pos (length (n .bytes)) → partAt text (nameSpan (length text) p l) ≡ some (n .bytes)

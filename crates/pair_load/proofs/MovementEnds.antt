@@ -1,5 +1,5 @@
 -- What loading a movement answers at each end of the code: the figure's names broken, the movement refused, its table too short, a rule of pairs broken, or all taken.
-use mathlib.Core.Path.{_≡_, refl, sym, _∙_}
+use mathlib.Core.Path.{_≡_, refl, ap, sym, _∙_}
 use mathlib.Core.List.{List}
 use mathlib.Core.Bool.{Bool, true, false, _&&_, false≢true}
 use mathlib.Core.Option.{none, some}
@@ -8,6 +8,7 @@ use lib.IntN.{ℤ}
 use lib.ListN.{length}
 use Rattle.lexer.specs.Faults.{clear, fault}
 use Rattle.lexer.proofs.Numerals.{and-true}
+use Rattle.lexer.specs.Strings.{StringAt}
 use Rattle.chunks.specs.Fields.{isSome}
 use Rattle.chunks.specs.Outcomes.{rejected, accepted}
 use Rattle.tra4_text.specs.Movement.{Movement}
@@ -21,10 +22,10 @@ use Rattle.movement_bridge.specs.Counts.{countsIn}
 use Rattle.movement_bridge.proofs.Tables.{countsRead, whole-read, table-read, patterns-stand}
 use Rattle.movement_bridge.proofs.Names.{boneName}
 use Rattle.pair_text.specs.Rules.{pairFault}
-use Rattle.pair_text.specs.Answer.{Loaded, refused, loaded, ifPaired, withMovement}
+use Rattle.pair_text.specs.Answer.{Loaded, refused, loaded, ifPaired, withMovement, movementLeft}
 use Rattle.pair_bridge.specs.Names.{namesFrom, allNamed, namesIn}
-use Rattle.pair_bridge.proofs.Names.{StringAt, names-length, movement-names-in}
-use Rattle.pair_load.specs.Answers.{withNames, movedAnswer}
+use Rattle.pair_bridge.proofs.Names.{names-length, movement-names-in}
+use Rattle.pair_load.specs.Answers.{withNames, movedAnswer, movedReply}
 use Rattle.pair_load.specs.Tables.{tablesFault}
 
 -- ---- the figure's names
@@ -81,3 +82,9 @@ module _ (text : List ℕ) (table : List ℤ) (m : Movement) (taken : movementAn
   unfolding tablesFault pairFault countsIn answerOf
   tables-are =
       rw (names-length (figureName figure n rows) 0 (n .bones), movement-names-in text m (whole-read text table m taken) (movementTable text table) _ (table-read text table m taken) stands, patterns-stand text table m taken)
+
+-- ---- a refusal, for the answer and the lent table
+
+pub refused-both : (l : Loaded Movement) (k p file : ℕ) → l ≡ refused k p file → (moves : List ℤ) → (movedReply (refused k p file) ≡ movedReply l) × (moves ≡ movementLeft moves l)
+unfolding movementLeft
+refused-both l k p file e moves = (ap movedReply (sym e), rw e)

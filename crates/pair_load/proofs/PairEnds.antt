@@ -6,6 +6,7 @@ use Prim.Native.Nat.{ℕ, _<_}
 use native.Mathlib.Omega.{arith}
 use lib.IntN.{ℤ}
 use lib.ListN.{length, drop}
+use Rattle.lexer.specs.Strings.{StringAt}
 use Rattle.chunks.specs.Outcomes.{rejected, accepted}
 use Rattle.bac6_text.specs.Figure.{Figure}
 use Rattle.bac6_text.specs.Layout as figures
@@ -20,10 +21,14 @@ use Rattle.figure_bridge.specs.Rows.{countsIn}
 use Rattle.figure_bridge.proofs.Names.{boneName}
 use Rattle.figure_bridge.proofs.Texts.{counts-are, figure-taken, whole-figure, figure-table}
 use Rattle.pair_text.specs.Rules.{figureNames}
-use Rattle.pair_text.specs.Answer.{Loaded, refused, loaded, withMovement, withFigure, paired, pairAnswer, movementOf}
+use Rattle.bac6.specs.declared.setting.FigureAnswer.{FigureAnswer}
+use Rattle.player.specs.declared.counts.FigureCounts.{FigureCounts}
+use Rattle.movement_bridge.specs.Counts as moving
+use Rattle.pair_text.specs.Answer.{Loaded, refused, loaded, withMovement, withFigure, paired, pairAnswer, movementOf, figureLeft, movementLeft}
+use Rattle.pair_load.specs.declared.pair.PairAnswer.{PairAnswer}
 use Rattle.pair_bridge.specs.Names.{namesIn}
-use Rattle.pair_bridge.proofs.Names.{StringAt, figure-names-in}
-use Rattle.pair_load.specs.Answers.{withNames, movedAnswer, movedReply}
+use Rattle.pair_bridge.proofs.Names.{figure-names-in}
+use Rattle.pair_load.specs.Answers.{withNames, movedAnswer, movedReply, pairReply}
 
 module _ (figure : List ℕ) (room : ℕ) (movement : List ℕ) (space : ℕ) where
   pub figure-refused : (n p : ℕ) → figureAnswer figure room ≡ rejected n p → pairAnswer figure room movement space ≡ refused n p 0
@@ -72,3 +77,21 @@ pub moved-taken : (l : Loaded Movement) (a : MovementAnswer) → a ≡ movedRepl
 unfolding movedReply
 moved-taken (refused n p file) a e z = absurd (z (ap (λ (x : MovementAnswer). x .total) e))
 moved-taken (loaded m) a e z = record { movement = m; is = refl; answer = e }
+
+-- ---- a refusal, for the answer and the figure's table; and what is loaded
+
+pub refused-pair : (l : Loaded (Figure × Movement)) (k p file : ℕ) → l ≡ refused k p file → (table : List ℤ) → (pairReply (refused k p file) ≡ pairReply l) × (table ≡ figureLeft table l)
+unfolding figureLeft
+refused-pair l k p file e table = (ap pairReply (sym e), rw e)
+
+pub refused-half : (l : Loaded (Figure × Movement)) (k p file : ℕ) → l ≡ refused k p file → (moves : List ℤ) → moves ≡ movementLeft moves (movementOf l)
+unfolding movementOf movementLeft
+refused-half l k p file e moves = rw e
+
+pub figure-kept : (f : Figure) (l : Loaded Movement) (k p file : ℕ) → l ≡ refused k p file → withFigure f l ≡ refused k p file
+unfolding withFigure
+figure-kept f l k p file e = rw e
+
+pub reply-is : (a : FigureAnswer) (n : FigureCounts) (b : MovementAnswer) (f : Figure) (m : Movement) → a ≡ bac6.answerOf (accepted f) → n ≡ countsIn a → b ≡ tra4.answerOf (accepted m) → _≡_ {A = PairAnswer} (record { refusal = 0; place = 0; file = 0; «figure_total» = a .total; figure = n; «movement_total» = b .total; movement = record { bones = b .bones; keys = b .keys; patterns = b .patterns } }) (pairReply (loaded (f, m)))
+unfolding pairReply bac6.answerOf tra4.answerOf moving.countsIn
+reply-is a n b f m e h g = rw (h, e, g)

@@ -76,6 +76,9 @@ module _ {A X : Type 0} {layout : A → List ℤ} {answerOf : Outcome A → X} (
     pub total-is : h .total x ≡ length (layout (r .value))
     total-is = ap (h .total) (r .answer) ∙ h .of-taken (r .value)
 
+    pub read-whole : Small layout most o → fitted layout most o ≡ accepted (r .value)
+    read-whole small = ap (fitted layout most) (r .alone) ∙ fitted-room layout (r .value) most (small (r .value) (r .alone) .1)
+
     pub room-short : (room : ℕ) → room < h .total x → fitted layout room o ≡ rejected 17 (h .total x)
     room-short room l = ap (fitted layout room) (r .alone) ∙ fitted-short layout (r .value) room (rw total-is at l) ∙ ap (rejected 17) (sym total-is)
 
@@ -117,8 +120,16 @@ figure-small text f e =
     let long = figure-long f w (parents-sound f (t .shape .clean)) in
     (omega (arith, figure-some f), omega (arith, figure-most f (t .shape .clean)))
 
-pub figure-held : Held figures-laid.layoutOf bac6.answerOf
-figure-held = record { total = λ x. x .total; refusal = λ x. x .refusal; place = λ x. x .place; of-refused = λ n p. unfold bac6.answerOf bac6.refusedWith in (refl, refl, refl); of-taken = λ a. unfold bac6.answerOf in refl }
+pub figure-fields : (n p : ℕ) → (bac6.answerOf (rejected n p) .total ≡ 0) × (bac6.answerOf (rejected n p) .refusal ≡ n) × (bac6.answerOf (rejected n p) .place ≡ p)
+unfolding bac6.answerOf bac6.refusedWith
+figure-fields n p = (refl, refl, refl)
+
+pub figure-total : (a : Figure) → bac6.answerOf (accepted a) .total ≡ length (figures-laid.layoutOf a)
+unfolding bac6.answerOf
+figure-total a = refl
+
+abbrev pub figure-held : Held figures-laid.layoutOf bac6.answerOf
+figure-held = record { total = λ x. x .total; refusal = λ x. x .refusal; place = λ x. x .place; of-refused = figure-fields; of-taken = figure-total }
 
 -- ---- a movement
 
@@ -138,5 +149,13 @@ movement-small text m e =
     let long = layout-length m w in
     (omega arith, omega (arith, movement-most m (t .shape .clean)))
 
-pub movement-held : Held movements-laid.layoutOf tra4.answerOf
-movement-held = record { total = λ x. x .total; refusal = λ x. x .refusal; place = λ x. x .place; of-refused = λ n p. unfold tra4.answerOf tra4.refusedWith in (refl, refl, refl); of-taken = λ a. unfold tra4.answerOf in refl }
+pub movement-fields : (n p : ℕ) → (tra4.answerOf (rejected n p) .total ≡ 0) × (tra4.answerOf (rejected n p) .refusal ≡ n) × (tra4.answerOf (rejected n p) .place ≡ p)
+unfolding tra4.answerOf tra4.refusedWith
+movement-fields n p = (refl, refl, refl)
+
+pub movement-total : (a : Movement) → tra4.answerOf (accepted a) .total ≡ length (movements-laid.layoutOf a)
+unfolding tra4.answerOf
+movement-total a = refl
+
+abbrev pub movement-held : Held movements-laid.layoutOf tra4.answerOf
+movement-held = record { total = λ x. x .total; refusal = λ x. x .refusal; place = λ x. x .place; of-refused = movement-fields; of-taken = movement-total }

@@ -33,6 +33,9 @@ module _ (name : ℕ → Option (List ℕ)) where
   unfolding allNamed
   named-next n row h = rw (next-left n row h, add-one row)
 
+  pub named-all : (n : ℕ) → allNamed name 0 n ≡ namedLeft n 0
+  named-all n = let z : n - 0 ≡ n = omega arith in rw z
+
   pub named-more : (n row : ℕ) → row < n → isSome (name row) ≡ true → namedLeft n row ≡ namedLeft n (row + 1)
   named-more n row h e = named-next n row h ∙ rw e
 
@@ -46,6 +49,9 @@ module _ (name : ℕ → Option (List ℕ)) where
 module _ (a b : ℕ → Option (List ℕ)) where
   abbrev pub faultLeft : ℕ → ℕ → Fault
   faultLeft n row = namesFault row (namesFrom a row (n - row)) (namesFrom b row (n - row))
+
+  pub names-all : (n k : ℕ) → n ≡ k → namesFault 0 (namesFrom a 0 n) (namesFrom b 0 k) ≡ faultLeft n 0
+  names-all n k e = let z : n - 0 ≡ n = omega arith in rw (← e, z)
 
   pub names-more : (n row : ℕ) → row < n → namesAgree (orEmpty (a row)) (orEmpty (b row)) ≡ true → faultLeft n row ≡ faultLeft n (row + 1)
   unfolding namesFrom namesFault

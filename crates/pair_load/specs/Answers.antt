@@ -19,6 +19,7 @@ use Rattle.movement_bridge.specs.Counts as movement
 use Rattle.figure_bridge.specs.Rows as figure
 use Rattle.pair_text.specs.Answer.{Loaded, refused, loaded, withMovement}
 use Rattle.pair_bridge.specs.Names.{namesIn}
+use Rattle.pair_load.specs.declared.pair.PairAnswer.{PairAnswer}
 
 -- ---- a movement, with a figure in a table
 
@@ -36,3 +37,24 @@ unfoldable pub movedReply : Loaded Movement → MovementAnswer
 movedReply (refused n p file) = record { refusal = n; place = p; file = file; total = 0; bones = 0; keys = 0; patterns = 0 }
 movedReply (loaded m) = tra4.answerOf (accepted m)
 
+-- ---- a pair
+
+unfoldable pub noFigure : FigureCounts
+noFigure = record { textures = 0; colours = 0; materials = 0; points = 0; normals = 0; bones = 0; uvs = 0; faces = 0; groups = 0 }
+
+unfoldable pub noMovement : MovementCounts
+noMovement = record { bones = 0; keys = 0; patterns = 0 }
+
+-- a refusal's number, place and file and zeros; or both totals and both readers' counts
+unfoldable pub pairReply : Loaded (Figure × Movement) → PairAnswer
+pairReply (refused n p file) = record { refusal = n; place = p; file = file; «figure_total» = 0; figure = noFigure; «movement_total» = 0; movement = noMovement }
+pairReply (loaded (f, m)) =
+    record {
+      refusal = 0;
+      place = 0;
+      file = 0;
+      «figure_total» = length (figures.layoutOf f);
+      figure = figure.countsIn (bac6.answerOf (accepted f));
+      «movement_total» = length (movements.layoutOf m);
+      movement = movement.countsIn (tra4.answerOf (accepted m));
+    }

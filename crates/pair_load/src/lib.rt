@@ -1,1 +1,9 @@
 // Loads a figure and a movement as a pair.
+mod fault;
+mod moving;
+mod names;
+mod pair;
+
+pub use moving::load_movement;
+pub use pair::PairAnswer;
+pub use pair::load;

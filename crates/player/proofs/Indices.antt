@@ -1,4 +1,4 @@
--- Where a vertex's point and owner and a texture coordinate stand: within the table, at a small index.
+-- Where a vertex's point and owner, a texture coordinate, a face and a bone stand: within the table, at a small index.
 use mathlib.Core.Path.{_≡_, refl, ap, sym, _∙_}
 use mathlib.Core.List.{List, [], _∷_}
 use Prim.Native.Nat.{ℕ, suc, _+_, _*_, _-_, _≤_, _<_}
@@ -54,6 +54,13 @@ module _ (n : FigureCounts) (table : List ℤ) (held : holdsFigure n table ≡ t
   pub face-place : (face : ℕ) → face < n .faces → (facesBegin n + face * 11 + 11 ≤ length table) × (facesBegin n + face * 11 + 11 ≤ 40000)
   unfolding facesBegin uvsBegin ownersBegin bonesBegin pointsBegin
   face-place face h =
+      let s = figure-small n table held in
+      let r = figure-room n table held in
+      (omega arith, omega arith)
+
+  pub bone-place : (bone : ℕ) → bone < n .bones → (bonesBegin n + bone * 14 + 14 ≤ length table) × (bonesBegin n + bone * 14 + 14 ≤ 40000)
+  unfolding bonesBegin pointsBegin
+  bone-place bone h =
       let s = figure-small n table held in
       let r = figure-room n table held in
       (omega arith, omega arith)

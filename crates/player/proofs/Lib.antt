@@ -1,4 +1,4 @@
--- Theorems on exact samples, and claims by computation.
+-- Laws that belong to no one function, and claims by computation.
 pub mod Mosts
 pub mod Numbers
 pub mod Factors
@@ -8,12 +8,11 @@ pub mod Walked
 pub mod Passes
 pub mod Terms
 pub mod Sizes
-pub mod Samples
-pub mod Between
 pub mod Examples
 pub mod Sampled
 pub mod FaceRows
 pub mod Indices
+pub mod BoneRows
 pub mod CornerTests
 pub mod PatternLines
 pub mod Flagged

@@ -2,6 +2,7 @@ pub mod Fractions
 pub mod Samples
 pub mod Faces
 pub mod Columns
+pub mod Bones
 pub mod Lookups
 pub mod Rows
 pub mod Pass

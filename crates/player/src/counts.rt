@@ -49,7 +49,7 @@ pub(crate) fn points_begin(n: FigureCounts) -> usize
     2 + n.textures * 2 + n.colours * 3 + n.materials * 9
 }
 
-fn bones_begin(n: FigureCounts) -> usize
+pub(crate) fn bones_begin(n: FigureCounts) -> usize
     requires { ⌜ WithinMosts n ⌝ }
     ensures { λ r. ⌜ r ≡ bonesBegin n ⌝ }
 {

@@ -1,4 +1,5 @@
 // Plays a movement's and a figure's tables.
+mod bones;
 mod corners;
 mod counts;
 mod face;
@@ -12,6 +13,8 @@ mod point;
 mod sampling;
 mod showing;
 
+pub use bones::figure_bone;
+pub use bones::movement_bone;
 pub use corners::Cornered;
 pub use corners::corner;
 pub use counts::FigureCounts;

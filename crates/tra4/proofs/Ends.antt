@@ -32,11 +32,11 @@ use Rattle.tra4_rules.specs.Order.{tablesFault}
 use Rattle.tra4_rules.proofs.Laid.{Tenfold, inTables, keys-beyond, tables-over, tables-within, tables-laid}
 use Rattle.tra4.specs.Parse.{valueOf}
 use Rattle.tra4.specs.Answers.{answerOf, totalOf, countsAnswer, downAnswer, downTable, partsOf, Fits, keyCount, rulesFault, Blank}
+use Rattle.tra4_text.proofs.Names.{movement-placed}
 use Rattle.tra4_text.proofs.Whole.{WholeBone, WholeMovement, movement-whole}
 use Rattle.tra4_text.proofs.Layouts.{all-wide, rows-wide, rows-count, layout-length}
 use Rattle.tra4.proofs.Parses.{Found, parsed-found, parsed-refused}
 use Rattle.tra4.proofs.Bones.{fold-bones, fold-over}
-use Rattle.tra4.proofs.MovementName.{name-within}
 use Rattle.tra4.proofs.Settings.{answer-is, table-is}
 
 -- what parsing answers, with the tables that it leaves
@@ -225,7 +225,7 @@ module _ (text : List ℕ) (b k g : List ℤ) (blank : Blank text b k g) (p : Pa
       pub rows-fit : Fits p b′ k′ g′
       unfolding totalOf placeOf
       rows-fit =
-          let n = name-within text read (found .left) (found .gives) in
+          let n = movement-placed text read (found .left) (found .gives) .own in
           let at : read .name .at ≡ p .place = ap (λ (x : ℕ × ℕ). x .0) name-is in
           let size : length (read .name .bytes) ≡ p .length = ap (λ (x : ℕ × ℕ). x .1) name-is in
           record {

@@ -1,6 +1,5 @@
 -- Laws that belong to no one function.
 pub mod Parses
 pub mod Bones
-pub mod MovementName
 pub mod Settings
 pub mod Ends

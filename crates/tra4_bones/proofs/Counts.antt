@@ -7,16 +7,15 @@ use Prim.Native.String.{String}
 use native.Mathlib.Omega.{arith}
 use lib.IntN.{ℤ}
 use lib.ListN.{length, getD, set, length-append}
-use Rattle.lexer.specs.Bytes.{bytes}
-use Rattle.lexer.specs.Numbers.{FLOAT}
-use Rattle.chunks.specs.Readers.{many⁺, rowOf}
+use Rattle.chunks.specs.Readers.{many⁺}
 use Rattle.chunks.specs.Fields.{kind, insideAt}
 use Rattle.chunks.specs.Into.{flat}
-use Rattle.chunks.proofs.Given.{Gives, Every, row-of-gives, some-give}
+use Rattle.chunks.proofs.Given.{GivesOn, AnyToken, gives-as}
 use Rattle.chunks.proofs.Widths.{Wide, flat-length}
-use Rattle.tra4_text.specs.Movement.{Key, Channel}
+use Rattle.tra4_text.specs.Movement.{Channel}
 use Rattle.tra4_text.specs.Grammar.{key, channel, channelNames, channelKinds, keysIn}
 use Rattle.tra4_text.specs.Rules.{allKeys}
+use Rattle.tra4_text.proofs.Whole.{channel-gives}
 use Rattle.tra4_bones.specs.Held.{keysRead}
 
 -- ---- keys are two numbers wide
@@ -24,9 +23,8 @@ use Rattle.tra4_bones.specs.Held.{keysRead}
 abbrev pub Pairs : Channel → Type 0
 Pairs c = Wide 2 c
 
-pub keys-give : Gives Pairs (many⁺ key)
-unfolding key
-keys-give = some-give (λ (r : Key). length r ≡ 2) (rowOf (bytes "kf") 1 FLOAT 1) (row-of-gives (bytes "kf") 1 FLOAT 1)
+pub keys-give : GivesOn AnyToken Pairs (many⁺ key)
+keys-give = gives-as channel-gives (λ _ c. c .wide)
 
 pub flat-pairs : (c : Channel) → Pairs c → length (flat c) ≡ length c * 2
 flat-pairs c h = flat-length 2 c h

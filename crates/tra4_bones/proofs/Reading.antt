@@ -50,7 +50,7 @@ module _ (text : List ℕ) (at k : ℕ) (ranges keys : List ℤ) (n : ℕ) (over
     table-is = ap (λ (v : ℕ × List ℤ). v .1) (found .kept o)
 
     wide : Pairs (found .value)
-    wide = given Pairs (many⁺ key) keys-give text r (lexAt text at) (found .value) (found .read) o
+    wide = given keys-give text r (lexAt text at) (found .value) (found .read) o
 
   pub keys-refused : (r .refusal ≡ 0 → ⊥) → (t : List ℤ × List ℤ × ℕ × Bool) → KeysRead text at k (ranges, keys, n, over) r t
   keys-refused off t fs seen l u h = record { value = found .value; read = read-inside; kept = λ o. absurd (off o) }

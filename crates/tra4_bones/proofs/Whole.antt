@@ -10,10 +10,9 @@ use lib.ListN.{length, getD}
 use Rattle.lexer.specs.Tokens.{Lexeme}
 use Rattle.chunks.specs.declared.cursor.Cursor.{Cursor}
 use Rattle.chunks.specs.Cursors.{reads}
-use Rattle.chunks.specs.Fields.{kind, isSome, unread, complete, fields}
+use Rattle.chunks.specs.Fields.{kind, isSome, complete, fields}
 use Rattle.chunks.proofs.Behind.{given}
-use Rattle.chunks.proofs.Given.{Gives, Every}
-use Rattle.chunks.proofs.FieldCounts.{fields-in-length}
+use Rattle.chunks.proofs.Given.{GivesOn, AnyToken, gives-as, Every}
 use Rattle.chunks.proofs.FieldFits.{AllGive, AllFit, Whole, fields-fit}
 use Rattle.tra4_text.specs.Movement.{Channel}
 use Rattle.tra4_text.specs.Grammar.{channel, channelNames, channelKinds, keysIn}
@@ -34,7 +33,7 @@ one-more n c gs p r = record { channels = c ∷ r .channels; are = ap (λ (l : L
 abbrev Fine : ℕ → Channel → Type 0
 Fine i c = Pairs c
 
-names-give : (i : ℕ) (ns : List String) → AllGive Fine i (map channel ns)
+names-give : (i : ℕ) (ns : List String) → AllGive Fine AnyToken i (map channel ns)
 unfolding channel kind
 names-give i [] = tt
 names-give i (n ∷ ns) = (keys-give, names-give (suc i) ns)
@@ -47,15 +46,17 @@ all-read i (n ∷ ns) [] h e l = absurd (omega arith)
 all-read i (n ∷ ns) (none ∷ gs) h e l = absurd (false≢true e)
 all-read i (n ∷ ns) (some c ∷ gs) h e l = one-more (length ns) c gs (h .0) (all-read (suc i) ns gs (h .1) e (omega arith))
 
-pub fields-read : Gives (AllRead 10) (fields channelKinds)
-unfolding fields unread channelKinds channelNames
-fields-read ms gs l e =
-    let w = fields-fit Fine channelKinds (names-give 0 channelNames) ms gs l e in
-    all-read 0 channelNames gs (w .0) (w .1) (fields-in-length 10 channelKinds (unread channelKinds) ms gs l e)
+ten-read : (gs : List (Option Channel)) → Whole Fine channelKinds gs → AllRead 10 gs
+unfolding channelKinds channelNames
+ten-read gs w = all-read 0 channelNames gs (w .fit) (w .stand) (w .count)
+
+pub fields-read : GivesOn AnyToken (AllRead 10) (fields channelKinds)
+unfolding channelKinds
+fields-read = gives-as (fields-fit Fine channelKinds (names-give 0 channelNames)) ten-read
 
 -- where a cursor has not refused
 pub read-all : (text : List ℕ) (r : Cursor) (ms : List Lexeme) (gs : List (Option Channel)) → reads text r gs ≡ fields channelKinds ms → r .refusal ≡ 0 → AllRead 10 gs
-read-all text r ms gs e o = given (AllRead 10) (fields channelKinds) fields-read text r ms gs e o
+read-all text r ms gs e o = given fields-read text r ms gs e o
 
 -- ---- fields that are channels
 

@@ -22,7 +22,8 @@ use Rattle.chunks.proofs.Branches.{trailing-yes, trailing-no, trailing-map}
 use Rattle.chunks.proofs.Vocabulary.{wordList, one-word}
 use Rattle.chunks.proofs.Tables.{overlayAt-append, overlayAt-same}
 use Rattle.chunks.proofs.Folds.{fold-rows}
-use Rattle.chunks.proofs.Given.{Every, numbers-give, many-gives, trailing-gives}
+use Rattle.chunks.proofs.Given.{Every, free, many-gives, trailing-gives}
+use Rattle.chunks.proofs.Ranges.{numbers-give}
 use Rattle.chunks.proofs.Many.{Keeps, Takes, takes-keeps, pure-keeps, bind-keeps, then-keeps, then-takes, word-takes, opened-takes, closed-keeps, numbers-keeps, one-of-takes}
 use Rattle.tra4_text.specs.Movement.{Pattern}
 use Rattle.tra4_text.specs.Grammar.{truth, pattern}
@@ -77,7 +78,7 @@ module _ (at : ℕ) (out : List ℤ) where
       ∙ after-when (numbers INT 2 l) _ _ (λ zs m e.
       after-after (truth m) _ _
       ∙ ap (λ (g : Got ℤ). after g (λ z. close-bracket >> pure (zs ++ (z ∷ [])) >>= λ row. pure (overlayAt at row out))) (truth-word m)
-      ∙ after-same (wordIn (bytes "false true") 2 m) _ _ (λ z n. after-after (close-bracket n) _ _ ∙ after-same (close-bracket n) _ _ (λ _ o. ap (λ (t : List ℤ). got t o) (row-steps zs (numbers-give INT 2 l zs m e) z))))
+      ∙ after-same (wordIn (bytes "false true") 2 m) _ _ (λ z n. after-after (close-bracket n) _ _ ∙ after-same (close-bracket n) _ _ (λ _ o. ap (λ (t : List ℤ). got t o) (row-steps zs (free (numbers-give INT 2) l zs m e .0) z))))
       ∙ sym (after-after (numbers INT 2 l) _ _))
 
   module _ (text : List ℕ) (c d e f r : Cursor) (t t′ : List ℤ) (z : ℤ) (i : ℕ) where
@@ -104,7 +105,7 @@ module _ (table : List ℤ) where
   unfolding folded fold patternsInto lines _>>=_ pure
   patterns-fold ms =
       sym (trailing-map "DynamicPolygons" [] (many pattern) (λ ps. fold (rowStep 3) (0, table) ps) ms)
-      ∙ after-when (trailing "DynamicPolygons" [] (many pattern) ms) _ _ (λ ps l e. ap (λ (v : ℕ × List ℤ). got v l) (fold-lines ps (trailing-gives (Every (λ r. length r ≡ 3)) "DynamicPolygons" [] tt (many pattern) (many-gives (λ r. length r ≡ 3) pattern pattern-wide) ms ps l e)))
+      ∙ after-when (trailing "DynamicPolygons" [] (many pattern) ms) _ _ (λ ps l e. ap (λ (v : ℕ × List ℤ). got v l) (fold-lines ps (free (trailing-gives "DynamicPolygons" [] tt (many-gives pattern-wide)) ms ps l e)))
 
   module _ (text : List ℕ) (c d : Cursor) (v : Bool) (p : reads text d v ≡ from text c (lastOf (bytes "DynamicPolygons"))) where
     pub patterns-some : v ≡ true → (r : Cursor) (s : ℕ × List ℤ) → reads text r s ≡ from text d (folded (rowStep 3) pattern (0, table)) → reads text r s ≡ from text c (patternsInto table)

@@ -1,7 +1,7 @@
--- What every movement that the grammar gives is: ten channels a bone, each with a key, keys and pattern lines of their width, values and flags in range; by one law a reader.
-use mathlib.Core.Path.{_≡_, refl, sym, _∙_}
+-- What every movement that the grammar gives is: ten channels a bone, each with a key, keys and pattern lines of their width, values and flags in range, and names that are strings of the text; by one law a reader.
+use mathlib.Core.Path.{_≡_, refl, _∙_}
 use mathlib.Core.List.{List, [], _∷_, _++_, map}
-use mathlib.Core.Bool.{Bool, true, false, false≢true}
+use mathlib.Core.Bool.{true, false≢true}
 use mathlib.Core.Option.{Option, none, some}
 use Prim.Native.Nat.{ℕ, zero, suc, _<_}
 use Prim.Native.String.{String}
@@ -10,16 +10,19 @@ use lib.ListN.{length, getD, drop, length-map, length-append}
 use lib.Seq.{getD-at}
 use lib.IntN.{ℤ, pos}
 use Rattle.lexer.specs.Bytes.{bytes}
+use Rattle.lexer.specs.Every.{Every}
 use Rattle.lexer.specs.Numbers.{INT, FLOAT}
-use Rattle.chunks.specs.Readers.{absent, Reader, pure, rest, head, opened, closed, string, number, optional, trailing, many, many⁺, starts, close-bracket, text-end}
-use Rattle.chunks.specs.Fields.{kind, isSome, unread, complete, fields}
-use Rattle.chunks.proofs.Given.{Gives, Every, any-gives, pure-gives, bind-gives, then-gives, closed-gives, numbers-give, row-of-gives, some-give, many-gives, trailing-gives}
+use Rattle.lexer.specs.Tokens.{Lexeme}
+use Rattle.lexer.proofs.Every.{every-as}
+use Rattle.chunks.specs.Readers.{Name, absent, Reader, pure, starts, many⁺}
+use Rattle.chunks.specs.Fields.{kind, isSome, complete, fields}
+use Rattle.chunks.proofs.Given.{GivesOn, Gives, free, Naming, AnyName, any-names, pure-gives, later-gives, either-gives, bind-gives, then-gives, gives-as, leaves-on, both-give, closed-gives, close-leaves, opened-leaves, end-leaves, head-leaves, more-give, many-gives, some-give, trailing-gives, name-gives}
+use Rattle.chunks.proofs.FieldFits.{AllGive, AllFit, Whole, fields-fit}
+use Rattle.chunks.proofs.Ranges.{InForm, number-gives, numbers-give, row-of-gives, choice-below, some-stand}
 use Rattle.chunks.proofs.Widths.{Wide}
-use Rattle.chunks.proofs.FieldCounts.{fields-in-length}
-use Rattle.chunks.proofs.FieldFits.{AllGive, AllFit, fields-fit}
 use Rattle.tra4_text.specs.Movement.{Key, Channel, Bone, Pattern, Movement}
 use Rattle.tra4_text.specs.Grammar.{repeatedIn, repeated, repeated⁺, key, channel, channelNames, channelKinds, keysIn, bone, truth, pattern, movement}
-use Rattle.chunks.proofs.Ranges.{InForm, row-in-form, choice-below, some-stand}
+use Rattle.tra4_text.specs.Names.{NamedMovement}
 
 -- a key's value is in FLOAT's range
 abbrev pub FloatValue : Key → Type 0
@@ -46,35 +49,58 @@ pub record WholeMovement (m : Movement) : Type 0 where
   pub patterns : Wide 3 (m .patterns)
   pub flags : Every Flagged (m .patterns)
 
--- ---- a key
-
-key-wide : Gives (λ k. length k ≡ 2) key
-unfolding key
-key-wide = row-of-gives (bytes "kf") 1 FLOAT 1
+-- ---- what has no name, of any tokens
 
 second : (k : Key) → length k ≡ 2 → Every (InForm FLOAT) (drop 1 k) → FloatValue k
 second [] e h = absurd (omega arith)
 second (a ∷ []) e h = absurd (omega arith)
 second (a ∷ b ∷ l) e h = h .0
 
-key-value : Gives FloatValue key
-unfolding key
-key-value ms k l e = second k (row-of-gives (bytes "kf") 1 FLOAT 1 ms k l e) (row-in-form 1 FLOAT 1 (bytes "kf") ms k l e)
+abbrev WholeKey : Key → Type 0
+WholeKey k = (length k ≡ 2) × FloatValue k
 
--- ---- a bone
+three : (zs : List ℤ) (z : ℤ) → length zs ≡ 2 → length (zs ++ (z ∷ [])) ≡ 3
+three zs z h = length-append zs (z ∷ []) ∙ omega (arith, h)
 
-channel-whole : Gives WholeChannel (many⁺ key)
-channel-whole ms c l e =
-    record {
-      wide = some-give (λ k. length k ≡ 2) key key-wide ms c l e;
-      values = some-give FloatValue key key-value ms c l e;
-      some-key = some-stand key ms c l e;
-    }
+abbrev Flag : ℤ → Type 0
+Flag z = (n : ℕ) × (z ≡ pos n) × (n < 2)
 
-all-give : (i : ℕ) (ns : List String) → AllGive (λ _. WholeChannel) i (map channel ns)
-unfolding channel kind
-all-give i [] = tt
-all-give i (n ∷ ns) = (channel-whole, all-give (suc i) ns)
+abbrev Line : Pattern → Type 0
+Line p = (length p ≡ 3) × Flagged p
+
+module _ {Q : Lexeme → Type 0} where
+  key-gives : GivesOn Q WholeKey key
+  unfolding key
+  key-gives = gives-as (row-of-gives (bytes "kf") 1 FLOAT 1) (λ k h. (h .0, second k (h .0) (h .1)))
+
+  pub channel-gives : GivesOn Q WholeChannel (many⁺ key)
+  channel-gives = gives-as (both-give (some-give key-gives) (some-stand (leaves-on key-gives))) (λ c h. record { wide = every-as (λ _ k. k .0) c (h .0); values = every-as (λ _ k. k .1) c (h .0); some-key = h .1 })
+
+  truth-gives : GivesOn Q Flag truth
+  unfolding truth
+  truth-gives = bind-gives (choice-below ("false" ∷ "true" ∷ [])) (λ n h. pure-gives {P = Flag} (pos n) (n, refl, h))
+
+  pattern-gives : GivesOn Q Line pattern
+  unfolding pattern
+  pattern-gives =
+      then-gives (opened-leaves "kgf") (closed-gives (bind-gives (numbers-give INT 2) (λ zs h. bind-gives truth-gives (λ z f.
+      pure-gives {P = Line} (zs ++ (z ∷ [])) (three zs z (h .0), record { flag = f .0; is = getD-at zs z [] (pos 0) 2 (h .0) ∙ f .1; below = f .2 })))))
+
+  pub pattern-wide : GivesOn Q (λ p. length p ≡ 3) pattern
+  pattern-wide = gives-as pattern-gives (λ _ h. h .0)
+
+  -- chunks of one keyword
+  module _ {A : Type 0} {P : A → Type 0} (k : String) {r : Reader A} (h : GivesOn Q P r) where
+    repeated-in : (n : ℕ) → GivesOn Q (Every P) (repeatedIn n k r)
+    unfolding repeatedIn pure
+    repeated-in zero = pure-gives {P = Every P} [] tt
+    repeated-in (suc n) = either-gives (starts (bytes k)) (later-gives (later-gives (more-give h (repeated-in n)))) (pure-gives {P = Every P} [] tt) (λ ms o. rw (o, repeatedIn)) (λ ms o. rw (o, repeatedIn))
+
+    repeated-gives : GivesOn Q (Every P) (repeated⁺ k r)
+    unfolding repeated⁺ repeated
+    repeated-gives = more-give (then-gives (opened-leaves k) h) (record { each = λ ms. repeated-in (length ms) .each ms })
+
+-- ---- the channels of a bone
 
 -- each channel must stand
 all-stand : (i : ℕ) (ns : List String) (fs : List (Option Channel)) → AllFit (λ _. WholeChannel) i fs → complete (map channel ns) fs ≡ true → length fs ≡ length ns → Every WholeChannel (map keysIn fs)
@@ -84,92 +110,45 @@ all-stand i [] (f ∷ fs) h e l = absurd (omega arith)
 all-stand i (n ∷ ns) (none ∷ fs) h e l = absurd (false≢true e)
 all-stand i (n ∷ ns) (some c ∷ fs) h e l = (h .0, all-stand (suc i) ns fs (h .1) e (omega arith))
 
-ten-fields : Gives (λ gs. length gs ≡ 10) (fields channelKinds)
-unfolding fields channelKinds channelNames channel unread
-ten-fields = fields-in-length 10 channelKinds (unread channelKinds)
+names-give : (Q : Lexeme → Type 0) (i : ℕ) (ns : List String) → AllGive (λ _. WholeChannel) Q i (map channel ns)
+unfolding channel kind
+names-give Q i [] = tt
+names-give Q i (n ∷ ns) = (channel-gives, names-give Q (suc i) ns)
 
-ten-names : length channelNames ≡ 10
-unfolding channelNames
-ten-names = refl
+ten : (gs : List (Option Channel)) → Whole (λ _. WholeChannel) channelKinds gs → (length gs ≡ 10) × Every WholeChannel (map keysIn gs)
+unfolding channelKinds channelNames
+ten gs w = (w .count, all-stand 0 channelNames gs (w .fit) (w .stand) (w .count))
 
-channels-whole : Gives (λ gs. Every WholeChannel (map keysIn gs)) (fields channelKinds)
+channels-give : {Q : Lexeme → Type 0} → GivesOn Q (λ gs. (length gs ≡ 10) × Every WholeChannel (map keysIn gs)) (fields channelKinds)
 unfolding channelKinds
-channels-whole ms gs l e =
-    let w = fields-fit (λ _. WholeChannel) channelKinds (all-give 0 channelNames) ms gs l e in
-    all-stand 0 channelNames gs (w .0) (w .1) (ten-fields ms gs l e ∙ sym ten-names)
+channels-give {Q} = gives-as (fields-fit (λ _. WholeChannel) channelKinds (names-give Q 0 channelNames)) ten
 
 pub wide-keys : (cs : List Channel) → Every WholeChannel cs → Every (Wide 2) cs
 wide-keys [] h = tt
 wide-keys (c ∷ cs) h = (h .0 .wide, wide-keys cs (h .1))
 
-pub bone-whole : Gives WholeBone bone
-unfolding bone
-bone-whole =
-    bind-gives (λ _. Unit {0}) WholeBone (any-gives (optional "name" absent (closed string))) (λ n _.
-    bind-gives (λ gs. (length gs ≡ 10) × Every WholeChannel (map keysIn gs)) WholeBone (λ ms gs l e. (ten-fields ms gs l e, channels-whole ms gs l e)) (λ gs h.
-    pure-gives WholeBone (record { name = n; channels = map keysIn gs }) (record { ten = length-map gs keysIn ∙ h .0; keys = wide-keys (map keysIn gs) (h .1); whole = h .1 })))
+-- ---- what has a name, of tokens whose strings are names of P
 
--- ---- a pattern line
+module _ (P : Name → Type 0) (empty : P absent) {Q : Lexeme → Type 0} (h : Naming Q P) where
+  bone-gives : GivesOn Q (λ b. WholeBone b × P (b .name)) bone
+  unfolding bone
+  bone-gives =
+      bind-gives (name-gives empty h) (λ n p. bind-gives channels-give (λ gs q.
+      pure-gives {P = λ b. WholeBone b × P (b .name)} _ (record { ten = length-map gs keysIn ∙ q .0; keys = wide-keys (map keysIn gs) (q .1); whole = q .1 }, p)))
 
-three : (zs : List ℤ) (z : ℤ) → length zs ≡ 2 → length (zs ++ (z ∷ [])) ≡ 3
-three zs z h = length-append zs (z ∷ []) ∙ omega (arith, h)
+  pub movement-gives : GivesOn Q (λ m. WholeMovement m × NamedMovement P m) movement
+  unfolding movement
+  movement-gives =
+      then-gives (head-leaves "traVersion" "4.0") (then-gives (opened-leaves "Figure")
+      (bind-gives (name-gives empty h) (λ n hn.
+      then-gives (opened-leaves "totalFrame")
+      (bind-gives (closed-gives (number-gives INT)) (λ t _.
+      bind-gives (repeated-gives "bone" bone-gives) (λ bs hbs.
+      bind-gives (trailing-gives "DynamicPolygons" [] tt (many-gives pattern-gives)) (λ ps hps.
+      then-gives close-leaves (then-gives end-leaves
+      (pure-gives _ (record { bones = every-as (λ _ b. b .0) bs hbs; patterns = every-as (λ _ p. p .0) ps hps; flags = every-as (λ _ p. p .1) ps hps }, record { own = hn; bones = every-as (λ _ b. b .1) bs hbs }))))))))))
 
-abbrev Flag : ℤ → Type 0
-Flag z = (n : ℕ) × (z ≡ pos n) × (n < 2)
-
-truth-flag : Gives Flag truth
-unfolding truth
-truth-flag = bind-gives (λ n. n < 2) Flag (choice-below ("false" ∷ "true" ∷ [])) (λ n h. pure-gives Flag (pos n) (n, refl, h))
-
-abbrev Line : Pattern → Type 0
-Line p = (length p ≡ 3) × Flagged p
-
-pattern-line : Gives Line pattern
-unfolding pattern
-pattern-line =
-    then-gives Line (opened "kgf") (closed-gives Line
-    (bind-gives (λ zs. length zs ≡ 2) Line (numbers-give INT 2) (λ zs h.
-    bind-gives Flag Line truth-flag (λ z f.
-    pure-gives Line (zs ++ (z ∷ [])) (three zs z h, record { flag = f .0; is = getD-at zs z [] (pos 0) 2 h ∙ f .1; below = f .2 })))))
-
-pub pattern-wide : Gives (λ p. length p ≡ 3) pattern
-pattern-wide ms p l e = pattern-line ms p l e .0
-
-pattern-flagged : Gives Flagged pattern
-pattern-flagged ms p l e = pattern-line ms p l e .1
-
--- ---- chunks of one keyword
-
-module _ {A : Type 0} (P : A → Type 0) (k : String) (r : Reader A) (h : Gives P r) where
-  in-gives : (n : ℕ) → Gives (Every P) (repeatedIn n k r)
-  unfolding repeatedIn
-  in-gives zero ms l j e = pure-gives (Every P) [] tt ms l j (unfold pure in e)
-  in-gives (suc n) ms l j e = go (starts (bytes k) ms) refl (in-gives n)
-    where
-      go : (v : Bool) → starts (bytes k) ms ≡ v → Gives (Every P) (repeatedIn n k r) → Every P l
-      go true o ih = bind-gives P (Every P) h (λ a p. bind-gives (Every P) (Every P) ih (λ m q. pure-gives (Every P) (a ∷ m) (p, q))) (rest (rest ms)) l j (rw (o, repeatedIn) at e)
-      go false o ih = pure-gives (Every P) [] tt ms l j (unfold pure in (rw (o, repeatedIn) at e))
-
-  repeated-gives : Gives (Every P) (repeated⁺ k r)
-  unfolding repeated⁺ repeated
-  repeated-gives = bind-gives P (Every P) (then-gives P (opened k) h) (λ a p. bind-gives (Every P) (Every P) (λ ms. in-gives (length ms) ms) (λ m q. pure-gives (Every P) (a ∷ m) (p, q)))
-
--- ---- a movement
-
-abbrev Lines : List Pattern → Type 0
-Lines ps = Wide 3 ps × Every Flagged ps
-
-lines-whole : Gives Lines (trailing "DynamicPolygons" [] (many pattern))
-lines-whole ms ps l e =
-    (trailing-gives (Wide 3) "DynamicPolygons" [] tt (many pattern) (many-gives (λ p. length p ≡ 3) pattern pattern-wide) ms ps l e, trailing-gives (Every Flagged) "DynamicPolygons" [] tt (many pattern) (many-gives Flagged pattern pattern-flagged) ms ps l e)
+-- ---- of any tokens, whatever the names
 
 pub movement-whole : Gives WholeMovement movement
-unfolding movement
-movement-whole =
-    then-gives WholeMovement (head "traVersion" "4.0") (then-gives WholeMovement (opened "Figure")
-    (bind-gives (λ _. Unit {0}) WholeMovement (any-gives (optional "name" absent (closed string))) (λ n _. then-gives WholeMovement (opened "totalFrame")
-    (bind-gives (λ _. Unit {0}) WholeMovement (any-gives (closed (number INT))) (λ t _.
-    bind-gives (Every WholeBone) WholeMovement (repeated-gives WholeBone "bone" bone bone-whole) (λ bs b.
-    bind-gives Lines WholeMovement lines-whole (λ ps p.
-    then-gives WholeMovement close-bracket (then-gives WholeMovement text-end
-    (pure-gives WholeMovement (record { totalFrames = t; name = n; bones = bs; patterns = ps }) (record { bones = b; patterns = p .0; flags = p .1 }))))))))))
+movement-whole ms m l e = free (movement-gives AnyName tt any-names) ms m l e .0

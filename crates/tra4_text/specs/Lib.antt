@@ -1,4 +1,5 @@
 pub mod Movement
+pub mod Names
 pub mod Grammar
 pub mod Rules
 pub mod Layout

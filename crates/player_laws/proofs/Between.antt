@@ -1,19 +1,18 @@
 -- Between two neighbouring keys the sample is not below the smaller value nor above the larger: the line is the first value and a share of the gap.
 use mathlib.Core.Path.{_≡_, refl, ap, sym, _∙_}
 use mathlib.Core.Logic.{_⊎_, inl, inr}
+use mathlib.Core.Bool.{Bool, true, false, false≢true, true≢false}
 use Prim.Native.Nat.{ℕ, zero, suc, _+_, _*_, _-_, _/_, _≤_, _<_}
 use native.Mathlib.Nat.{zero-mul, mul-zero, mul-suc, mul-pos, div-mul-cancel}
 use native.Mathlib.Omega.{arith}
-use lib.IntN.{ℤ, pos, negsuc, negℤ, natAbs, sucℤ, _+ℤ_, _-ℤ_, _*ℤ_, +ℤ-idr, +ℤ-assoc, +ℤ-comm, +ℤ-invl, -ℤ-+ℤ-cancel, *ℤ-zero, *ℤ-comm, sucℤ-*ℤ, pos-+ℤ-pos, pos-*ℤ-pos, +ℤ-negℤ-cancel, +ℤ-invr}
-use Rattle.player.specs.Fractions.{Fraction, factor, signedAs, lowest}
+use borrow.Author.Tests.{leb-true, leb-false, le-leb, lt-ltb, le-ltb}
+use lib.Signed.{leZ}
+use lib.IntN.{ℤ, pos, negsuc, negℤ, natAbs, _+ℤ_, _-ℤ_, _*ℤ_, +ℤ-idr, +ℤ-assoc, +ℤ-comm, +ℤ-invl, -ℤ-+ℤ-cancel, *ℤ-zero, *ℤ-comm, sucℤ-*ℤ, pos-+ℤ-pos, pos-*ℤ-pos, +ℤ-negℤ-cancel, +ℤ-invr}
+use Rattle.player.specs.Fractions.{factor, signedAs, lowest}
 use Rattle.tra4_text.specs.Movement.{Key}
 use Rattle.player.specs.Samples.{keyFrame, keyValue, line}
 use Rattle.player.proofs.Factors.{factor-divides, factor-some}
-
--- b is a and so many more
-pub record AtMost (a b : ℤ) : Type 0 where
-  pub gap : ℕ
-  pub is : b ≡ a +ℤ pos gap
+use Rattle.player_laws.specs.Bounds.{AtMost, Bounded, smaller, larger, Between}
 
 -- ---- products with a natural number
 
@@ -155,16 +154,11 @@ module _ (z : ℤ) (d : ℕ) (h : 0 < d) where
 
 -- ---- 2. between two neighbouring keys
 
--- a fraction that is not below one number nor above another
-pub record Bounded (low high : ℤ) (r : Fraction) : Type 0 where
-  pub above-low : AtMost (low *ℤ pos (r .denominator)) (r .numerator)
-  pub below-high : AtMost (r .numerator) (high *ℤ pos (r .denominator))
-
 module _ (k n : Key) (at : ℕ) (h : keyFrame k ≤ at) (l : at < keyFrame n) where
   span : (keyFrame n - at) + (at - keyFrame k) ≡ keyFrame n - keyFrame k
   span = omega arith
 
-  pub line-rising : AtMost (keyValue k) (keyValue n) → Bounded (keyValue k) (keyValue n) (line k n at)
+  line-rising : AtMost (keyValue k) (keyValue n) → Bounded (keyValue k) (keyValue n) (line k n at)
   unfolding line
   line-rising m =
       record {
@@ -175,7 +169,7 @@ module _ (k n : Key) (at : ℕ) (h : keyFrame k ≤ at) (l : at < keyFrame n) wh
   back : (at - keyFrame k) + (keyFrame n - at) ≡ keyFrame n - keyFrame k
   back = omega arith
 
-  pub line-falling : AtMost (keyValue n) (keyValue k) → Bounded (keyValue n) (keyValue k) (line k n at)
+  line-falling : AtMost (keyValue n) (keyValue k) → Bounded (keyValue n) (keyValue k) (line k n at)
   unfolding line
   line-falling m =
       let other = +ℤ-comm (keyValue n *ℤ pos (at - keyFrame k)) (keyValue k *ℤ pos (keyFrame n - at)) in
@@ -183,3 +177,34 @@ module _ (k n : Key) (at : ℕ) (h : keyFrame k ≤ at) (l : at < keyFrame n) wh
         above-low = above _ _ (omega arith) (keyValue n) (rw (back, other) at (share-above (keyValue n) (keyValue k) (at - keyFrame k) (keyFrame n - at) m));
         below-high = below _ _ (omega arith) (keyValue k) (rw (back, other) at (share-below (keyValue n) (keyValue k) (at - keyFrame k) (keyFrame n - at) m));
       }
+
+-- ---- whichever value is the smaller
+
+at-most : (a b : ℤ) → leZ a b ≡ true → AtMost a b
+at-most (pos a) (pos b) e =
+    let l = leb-true a b e in
+    let g : b ≡ a + (b - a) = omega arith in
+    record { gap = b - a; is = ap pos g }
+at-most (pos a) (negsuc b) e = absurd (false≢true e)
+at-most (negsuc a) (pos b) e =
+    let g : b ≡ suc a + b - suc a = omega arith in
+    record { gap = suc a + b; is = ap pos g ∙ sym (rw (le-ltb (suc a + b) (suc a) (omega arith))) }
+at-most (negsuc a) (negsuc b) e =
+    let l = leb-true b a e in
+    let g : b ≡ suc a - suc (a - b) = omega arith in
+    record { gap = a - b; is = ap negsuc g ∙ sym (rw (lt-ltb (a - b) (suc a) (omega arith))) }
+
+-- if not the one, then the other
+turned : (a b : ℤ) → leZ a b ≡ false → leZ b a ≡ true
+turned (pos a) (pos b) e = le-leb b a (let l = leb-false a b e in omega arith)
+turned (pos a) (negsuc b) e = refl
+turned (negsuc a) (pos b) e = absurd (true≢false e)
+turned (negsuc a) (negsuc b) e = le-leb a b (let l = leb-false b a e in omega arith)
+
+pub line-between : (k n : Key) (at : ℕ) → keyFrame k ≤ at → at < keyFrame n → Between (keyValue k) (keyValue n) (line k n at)
+unfolding smaller larger
+line-between k n at h l = go (leZ (keyValue k) (keyValue n)) refl
+  where
+    go : (v : Bool) → leZ (keyValue k) (keyValue n) ≡ v → Between (keyValue k) (keyValue n) (line k n at)
+    go true e = rw (e, smaller, larger) (line-rising k n at h l (at-most (keyValue k) (keyValue n) e))
+    go false e = rw (e, smaller, larger) (line-falling k n at h l (at-most (keyValue n) (keyValue k) (turned (keyValue k) (keyValue n) e)))

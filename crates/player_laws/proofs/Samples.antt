@@ -1,17 +1,14 @@
 -- On a key the sample is the key's value, between two neighbouring keys the line, past the last key the last key's: by induction on the keys before.
-use mathlib.Core.Path.{_≡_, refl, ap, sym, _∙_}
+use mathlib.Core.Path.{_≡_, refl, _∙_}
 use mathlib.Core.List.{List, [], _∷_, _++_}
-use mathlib.Core.Bool.{Bool, true, false}
-use Prim.Native.Nat.{ℕ, zero, suc, _+_, _*_, _-_, _≤_, _<_}
+use Prim.Native.Nat.{ℕ, _-_, _≤_, _<_}
 use native.Mathlib.Omega.{arith}
 use borrow.Author.Tests.{le-leb, lt-leb}
-use lib.Dec.{leb}
-use lib.IntN.{ℤ, pos, negsuc, _+ℤ_, _*ℤ_, *ℤ-zero, +ℤ-idr}
-use lib.ListN.{length}
-use Rattle.tra4_text.specs.Movement.{Key, Channel}
-use Rattle.player.specs.Fractions.{Fraction, lowest, whole}
+use lib.IntN.{pos, _*ℤ_, *ℤ-zero, +ℤ-idr}
+use Rattle.tra4_text.specs.Movement.{Key}
+use Rattle.player.specs.Fractions.{whole}
 use Rattle.player.specs.Samples.{keyFrame, keyValue, line, sampleFrom, sampleOf}
 use Rattle.player.proofs.Factors.{lowest-multiple}
 
 -- frames rise strictly from a key on
 abbrev pub Rising : Key → List Key → Type 0

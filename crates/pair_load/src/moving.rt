@@ -1,0 +1,66 @@
+// Loads a movement with a figure that already stands in a table.
+ghost use mathlib.Core.Path.{_≡_};
+ghost use lib.ListN.{length};
+ghost use Rattle.pair_text.specs.Answer.{refused as refusedAt, movementLeft};
+ghost use Rattle.pair_load.specs.Answers.{movedAnswer, movedReply};
+use crate::fault::pair_fault;
+use crate::names::has_names;
+use chunks::put;
+use lexer::Checked;
+use player::FigureCounts;
+use player::MovementCounts;
+use tra4::MovementAnswer;
+
+fn refused(number: usize, place: usize, file: usize) -> MovementAnswer
+    ensures { λ r. ⌜ r ≡ movedReply (refusedAt number place file) ⌝ }
+{
+    MovementAnswer {
+        refusal: number,
+        place,
+        file,
+        total: 0,
+        bones: 0,
+        keys: 0,
+        patterns: 0,
+    }
+}
+
+// The figure's text, table and counts are lent; the movement is refused with its own 1 to 17 (file 1), with 18 to 20 (file 2), or with 21
+// where the figure's counts, table or bone names break the rules. The movement's table is written where nothing refuses.
+pub fn load_movement(
+    figure: &[u8],
+    table: &[i64],
+    n: FigureCounts,
+    movement: &[u8],
+    moves: &mut [i64],
+) -> MovementAnswer
+    ensures answer { λ r. ⌜ r ≡ movedReply (movedAnswer (now (figure .entry)) n (now (table .entry)) (now (movement .entry)) (length (now (moves .entry)))) ⌝ }
+    ensures content { λ r. ⌜ now (moves .exit) ≡ movementLeft (now (moves .entry)) (movedAnswer (now (figure .entry)) n (now (table .entry)) (now (movement .entry)) (length (now (moves .entry)))) ⌝ }
+{
+    if !has_names(figure, table, n) {
+        return refused(21, 0, 0);
+    }
+    // As long as the longest layout, so that 17 is told by the lent table alone.
+    let mut rows = [0i64; 11779];
+    let answer = tra4::read(movement, &mut rows);
+    let total = answer.total;
+    // What is taken has a total of at least three.
+    if total == 0 {
+        return refused(answer.refusal, answer.place, 1);
+    }
+    if moves.len() < total {
+        return refused(17, total, 1);
+    }
+    let m = MovementCounts {
+        bones: answer.bones,
+        keys: answer.keys,
+        patterns: answer.patterns,
+    };
+    match pair_fault(figure, table, n, movement, &rows, m) {
+        Checked::Refused { number, offset } => refused(number as usize, offset, 2),
+        Checked::Clear => {
+            put(moves, 0, &rows[..total]);
+            answer
+        }
+    }
+}

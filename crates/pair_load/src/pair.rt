@@ -1,0 +1,108 @@
+// Loads a figure and a movement.
+ghost use mathlib.Core.Path.{_≡_};
+ghost use lib.ListN.{length};
+ghost use Rattle.bac6.specs.declared.setting.FigureAnswer.{FigureAnswer as Read};
+ghost use Rattle.figure_bridge.specs.Rows.{countsIn};
+ghost use Rattle.pair_text.specs.Answer.{refused as refusedAt, pairAnswer, figureLeft, movementOf, movementLeft};
+ghost use Rattle.pair_load.specs.Answers.{pairReply};
+use crate::moving::load_movement;
+use bac6::FigureAnswer;
+use chunks::put;
+use player::FigureCounts;
+use player::MovementCounts;
+
+// A refusal's number, place and file, and zeros; or how many numbers and rows each table holds.
+pub struct PairAnswer {
+    pub refusal: usize,
+    pub place: usize,
+    pub file: usize,
+    pub figure_total: usize,
+    pub figure: FigureCounts,
+    pub movement_total: usize,
+    pub movement: MovementCounts,
+}
+
+fn refused(number: usize, place: usize, file: usize) -> PairAnswer
+    ensures { λ r. ⌜ r ≡ pairReply (refusedAt number place file) ⌝ }
+{
+    let figure = FigureCounts {
+        textures: 0,
+        colours: 0,
+        materials: 0,
+        points: 0,
+        normals: 0,
+        bones: 0,
+        uvs: 0,
+        faces: 0,
+        groups: 0,
+    };
+    let movement = MovementCounts {
+        bones: 0,
+        keys: 0,
+        patterns: 0,
+    };
+    PairAnswer {
+        refusal: number,
+        place,
+        file,
+        figure_total: 0,
+        figure,
+        movement_total: 0,
+        movement,
+    }
+}
+
+fn counts_of(a: FigureAnswer) -> FigureCounts
+    ensures { λ r. ⌜ r ≡ countsIn a ⌝ }
+{
+    FigureCounts {
+        textures: a.textures,
+        colours: a.colours,
+        materials: a.materials,
+        points: a.points,
+        normals: a.normals,
+        bones: a.bones,
+        uvs: a.uvs,
+        faces: a.faces,
+        groups: a.groups,
+    }
+}
+
+// The answer is document 01's; each table holds its text's layout from its start on, or, where the pair is refused, what it held.
+pub fn load(figure: &[u8], movement: &[u8], table: &mut [i64], moves: &mut [i64]) -> PairAnswer
+    ensures answer { λ r. ⌜ r ≡ pairReply (pairAnswer (now (figure .entry)) (length (now (table .entry))) (now (movement .entry)) (length (now (moves .entry)))) ⌝ }
+    ensures figure { λ r. ⌜ now (table .exit) ≡ figureLeft (now (table .entry)) (pairAnswer (now (figure .entry)) (length (now (table .entry))) (now (movement .entry)) (length (now (moves .entry)))) ⌝ }
+    ensures movement { λ r. ⌜ now (moves .exit) ≡ movementLeft (now (moves .entry)) (movementOf (pairAnswer (now (figure .entry)) (length (now (table .entry))) (now (movement .entry)) (length (now (moves .entry))))) ⌝ }
+{
+    // As long as the longest layout, so that 17 is told by the lent table alone.
+    let mut rows = [0i64; 37026];
+    let answer = bac6::read(figure, &mut rows);
+    let total = answer.total;
+    // What is taken has a total of at least two.
+    if total == 0 {
+        return refused(answer.refusal, answer.place, 0);
+    }
+    if table.len() < total {
+        return refused(17, total, 0);
+    }
+    let n = counts_of(answer);
+    let moved = load_movement(figure, &rows, n, movement, moves);
+    if moved.total == 0 {
+        return refused(moved.refusal, moved.place, moved.file);
+    }
+    put(table, 0, &rows[..total]);
+    let m = MovementCounts {
+        bones: moved.bones,
+        keys: moved.keys,
+        patterns: moved.patterns,
+    };
+    PairAnswer {
+        refusal: 0,
+        place: 0,
+        file: 0,
+        figure_total: total,
+        figure: n,
+        movement_total: moved.total,
+        movement: m,
+    }
+}

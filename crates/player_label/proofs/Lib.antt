@@ -1,0 +1,4 @@
+-- Laws of names and labels.
+pub mod Spans
+pub mod Chosen
+pub mod Examples

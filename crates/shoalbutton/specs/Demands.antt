@@ -1,0 +1,114 @@
+-- The user's demands 2 and 3, as statements over the definitions that the calls of this crate equal. proofs/Demands.antt gives them.
+use mathlib.Core.Path.{_≡_}
+use mathlib.Core.List.{List, [], _++_}
+use mathlib.Core.Option.{some}
+use Prim.Native.Nat.{ℕ, suc, _≤_, _<_}
+use lib.IntN.{ℤ}
+use lib.ListN.{length, getD, drop}
+use Rattle.lexer.specs.Faults.{Fault, clear, Format, bac, tra, textFault}
+use Rattle.lexer.specs.Tokens.{Lexeme, lex}
+use Rattle.chunks.specs.Readers.{got, Reader}
+use Rattle.chunks.specs.Outcomes.{rejected, accepted}
+use Rattle.bac6_text.specs.Figure.{Figure}
+use Rattle.bac6_text.specs.Grammar.{figure}
+use Rattle.bac6_text.specs.Rules.{facesOf, figureFault}
+use Rattle.bac6_text.specs.Layout as figures
+use Rattle.bac6_text.specs.Answer.{figureAnswer, tableAfter}
+use Rattle.tra4_text.specs.Movement.{Movement}
+use Rattle.tra4_text.specs.Grammar.{movement}
+use Rattle.tra4_text.specs.Rules.{movementFault}
+use Rattle.tra4_text.specs.Layout as movements
+use Rattle.tra4_text.specs.Answer.{movementAnswer, movementTable}
+use Rattle.player.specs.Fractions.{whole}
+use Rattle.player.specs.Samples.{keyFrame, keyValue, sampleOf}
+use Rattle.player.specs.Faces.{cornerOf, shownOf}
+use Rattle.player.specs.Lookups.{sampleIn, cornerIn, shownIn}
+use Rattle.player.specs.Answers.{numbered}
+use Rattle.player_laws.specs.Bounds.{Between, LowestTerms, keyAt}
+use Rattle.player_label.specs.Labels.{labelBy, labelIn}
+use Rattle.movement_bridge.specs.Counts.{channelOf}
+use Rattle.figure_bridge.specs.Rows.{faceOf, groupedFaceOf}
+use Rattle.pair_text.specs.Rules.{figureNames, movementNames, pairFault}
+use Rattle.pair_text.specs.Answer.{Loaded, refused, loaded, pairAnswer, figureLeft, movementOf, movementLeft}
+use Rattle.pair_bridge.specs.Playing.{framesOf, sampleAsked, cornerAsked, shownAsked, labelAsked}
+use Rattle.pair_load.specs.Answers.{pairReply}
+use Rattle.pair_load.specs.declared.pair.PairAnswer.{PairAnswer}
+
+-- ---- 2: "A text is taken exactly when it keeps the rules, and the tables then hold what the text says, every decimal digit. A pair likewise."
+
+-- a text of a format keeps the rules and says what `a` holds, for a table of `room` numbers
+pub record Keeps {A : Type 0} (f : Format) (grammar : Reader A) (rules : A → Fault) (layout : A → List ℤ) (text : List ℕ) (room : ℕ) (a : A) : Type 0 where
+  -- 1 to 4
+  pub words : textFault f text ≡ clear
+  -- 5 to 7
+  pub left : List Lexeme
+  pub shape : grammar (lex text) ≡ got a left
+  -- 8 to 16
+  pub ruled : rules a ≡ clear
+  -- 17
+  pub fits : length (layout a) ≤ room
+
+abbrev pub KeepsFigure : List ℕ → ℕ → Figure → Type 0
+KeepsFigure text room f = Keeps bac figure figureFault figures.layoutOf text room f
+
+abbrev pub KeepsMovement : List ℕ → ℕ → Movement → Type 0
+KeepsMovement text room m = Keeps tra movement movementFault movements.layoutOf text room m
+
+pub record KeepsPair (F : List ℕ) (room : ℕ) (M : List ℕ) (space : ℕ) (f : Figure) (m : Movement) : Type 0 where
+  pub figure-kept : KeepsFigure F room f
+  pub movement-kept : KeepsMovement M space m
+  -- 18 to 20
+  pub paired : pairFault (figureNames f) (length (f .groups)) m ≡ clear
+
+pub record Demand2 : Type 0 where
+  pub figure-taken : (text : List ℕ) (room : ℕ) (f : Figure) → figureAnswer text room ≡ accepted f ↔ KeepsFigure text room f
+  pub figure-held : (text : List ℕ) (table : List ℤ) (f : Figure) → figureAnswer text (length table) ≡ accepted f → tableAfter text table ≡ figures.layoutOf f ++ drop (length (figures.layoutOf f)) table
+  pub figure-stays : (text : List ℕ) (table : List ℤ) (n p : ℕ) → figureAnswer text (length table) ≡ rejected n p → tableAfter text table ≡ table
+  pub movement-taken : (text : List ℕ) (room : ℕ) (m : Movement) → movementAnswer text room ≡ accepted m ↔ KeepsMovement text room m
+  pub movement-held : (text : List ℕ) (table : List ℤ) (m : Movement) → movementAnswer text (length table) ≡ accepted m → movementTable text table ≡ movements.layoutOf m ++ drop (length (movements.layoutOf m)) table
+  pub movement-stays : (text : List ℕ) (table : List ℤ) (n p : ℕ) → movementAnswer text (length table) ≡ rejected n p → movementTable text table ≡ table
+  pub pair-taken : (F : List ℕ) (room : ℕ) (M : List ℕ) (space : ℕ) (f : Figure) (m : Movement) → pairAnswer F room M space ≡ loaded (f, m) ↔ KeepsPair F room M space f m
+  -- where a pair is taken, each text is taken alone, and each table is what reading it alone leaves
+  pub pair-held : (F : List ℕ) (table : List ℤ) (M : List ℕ) (moves : List ℤ) (f : Figure) (m : Movement) (e : pairAnswer F (length table) M (length moves) ≡ loaded (f, m)) → (figureLeft table (loaded (f, m)) ≡ tableAfter F table) × (movementLeft moves (movementOf (loaded (f, m))) ≡ movementTable M moves)
+  pub pair-stays : (table moves : List ℤ) (n p file : ℕ) → (figureLeft table (refused n p file) ≡ table) × (movementLeft moves (movementOf (refused n p file)) ≡ moves)
+
+-- ---- 3: "For every loaded pair, every frame, bone, channel, face and corner, the player's answer equals the one worked out exactly from the two texts alone."
+
+-- the two texts, and what the two lent tables held
+module _ (F : List ℕ) (table : List ℤ) (M : List ℕ) (moves : List ℤ) where
+  abbrev pub answer : Loaded (Figure × Movement)
+  answer = pairAnswer F (length table) M (length moves)
+
+  -- what loading answers and leaves
+  abbrev pub reply : PairAnswer
+  reply = pairReply answer
+
+  abbrev pub tableLeft : List ℤ
+  tableLeft = figureLeft table answer
+
+  abbrev pub movesLeft : List ℤ
+  movesLeft = movementLeft moves (movementOf answer)
+
+  pub record Played (f : Figure) (m : Movement) : Type 0 where
+    pub sample : (bone channel at : ℕ) → bone < length (m .bones) → channel < 10 → at < framesOf m → numbered (sampleIn (reply .movement) movesLeft bone channel at) ≡ (0, 0, 0, some (sampleOf (channelOf m bone channel) at))
+    pub shown : (face at : ℕ) → face < length (facesOf f) → at < framesOf m → numbered (shownIn (reply .figure) tableLeft (reply .movement) movesLeft face at) ≡ (0, 0, 0, some (shownOf (f .bones) (m .patterns) (groupedFaceOf f face) at))
+    pub corner : (face k : ℕ) → face < length (facesOf f) → k < faceOf f face .size → numbered (cornerIn (reply .figure) tableLeft face k) ≡ (0, 0, 0, some (cornerOf f (faceOf f face) k))
+    pub label : (bone : ℕ) → bone < length (m .bones) → numbered (labelIn F (reply .figure) tableLeft M (reply .movement) movesLeft bone) ≡ (0, 0, 0, some (labelBy (getD (figureNames f) bone []) (getD (movementNames m) bone [])))
+    -- as many bones in the one as in the other
+    pub bones : length (f .bones) ≡ length (m .bones)
+
+    -- the sample itself: on a key the key's value, between two keys not below the smaller nor above the larger, past the last the last's; in lowest terms
+    pub on-key : (bone channel i : ℕ) → bone < length (m .bones) → channel < 10 → i < length (channelOf m bone channel) → sampleOf (channelOf m bone channel) (keyFrame (keyAt (channelOf m bone channel) i)) ≡ whole (keyValue (keyAt (channelOf m bone channel) i))
+    pub between : (bone channel i at : ℕ) → bone < length (m .bones) → channel < 10 → suc i < length (channelOf m bone channel) → keyFrame (keyAt (channelOf m bone channel) i) ≤ at → at < keyFrame (keyAt (channelOf m bone channel) (suc i)) → Between (keyValue (keyAt (channelOf m bone channel) i)) (keyValue (keyAt (channelOf m bone channel) (suc i))) (sampleOf (channelOf m bone channel) at)
+    pub past-last : (bone channel i at : ℕ) → bone < length (m .bones) → channel < 10 → suc i ≡ length (channelOf m bone channel) → keyFrame (keyAt (channelOf m bone channel) i) ≤ at → sampleOf (channelOf m bone channel) at ≡ whole (keyValue (keyAt (channelOf m bone channel) i))
+    pub lowest : (bone channel at : ℕ) → bone < length (m .bones) → channel < 10 → LowestTerms (sampleOf (channelOf m bone channel) at)
+
+    -- and whatever is asked: 21 exactly for what is not in the files
+    pub every-sample : (bone channel at : ℕ) → sampleIn (reply .movement) movesLeft bone channel at ≡ sampleAsked m bone channel at
+    pub every-shown : (face at : ℕ) → shownIn (reply .figure) tableLeft (reply .movement) movesLeft face at ≡ shownAsked f m face at
+    pub every-corner : (face k : ℕ) → cornerIn (reply .figure) tableLeft face k ≡ cornerAsked f face k
+    pub every-label : (bone : ℕ) → labelIn F (reply .figure) tableLeft M (reply .movement) movesLeft bone ≡ labelAsked f m bone
+
+-- for every two texts and every two tables
+abbrev pub Demand3 : Type 0
+Demand3 = (F : List ℕ) (table : List ℤ) (M : List ℕ) (moves : List ℤ) (f : Figure) (m : Movement) → pairAnswer F (length table) M (length moves) ≡ loaded (f, m) → Played F table M moves f m

@@ -1,0 +1,23 @@
+-- Every name of a movement stands in the movement's text, by the walk over the grammar with what the text's strings are.
+use mathlib.Core.Path.{_≡_}
+use mathlib.Core.List.{List}
+use Prim.Native.Nat.{ℕ}
+use lib.ListN.{length}
+use Rattle.lexer.specs.Faults.{clear, tra, textFault}
+use Rattle.lexer.specs.Tokens.{Lexeme, lex}
+use Rattle.chunks.specs.Names.{NameStands}
+use Rattle.chunks.specs.Readers.{got}
+use Rattle.chunks.proofs.Names.{absent-stands, names-stand, text-gives}
+use Rattle.chunks.proofs.Within.{Placed, absent-placed, names-placed, lex-within}
+use Rattle.tra4_text.specs.Movement.{Movement}
+use Rattle.tra4_text.specs.Grammar.{movement}
+use Rattle.tra4_text.specs.Names.{NamedMovement}
+use Rattle.tra4_text.proofs.Whole.{movement-gives}
+
+-- in a text that passes the refusals 1 to 4
+pub movement-names : (text : List ℕ) (m : Movement) (l : List Lexeme) → textFault tra text ≡ clear → movement (lex text) ≡ got m l → NamedMovement (NameStands text) m
+movement-names text m l c e = text-gives tra text c (movement-gives (NameStands text) (absent-stands text) (names-stand text)) m l e .1
+
+-- in any text their places and lengths are at most its length
+pub movement-placed : (text : List ℕ) (m : Movement) (l : List Lexeme) → movement (lex text) ≡ got m l → NamedMovement (Placed (length text)) m
+movement-placed text m l e = movement-gives (Placed (length text)) (absent-placed (length text)) (names-placed (length text)) .each (lex text) m l (lex-within text) e .0 .1
