@@ -1,2 +1,4 @@
 -- Laws that belong to no one function.
 pub mod Marked
+pub mod Taken
+pub mod Played

@@ -1,5 +1,6 @@
 -- The user's demands 2 and 3, as statements over the definitions that the calls of this crate equal. proofs/Demands.antt gives them.
 use mathlib.Core.Path.{_≡_}
+use mathlib.Core.Logic.{_↔_}
 use mathlib.Core.List.{List, [], _++_}
 use mathlib.Core.Option.{some}
 use Prim.Native.Nat.{ℕ, suc, _≤_, _<_}
