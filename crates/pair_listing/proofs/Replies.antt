@@ -29,7 +29,7 @@ module _ (refusal place file figure movement : ℕ) where
   unfolding replyLine
   reply-refused e = rw (e, replyLine)
 
-  reply-most : length reply ≤ 71
+  pub reply-most : length reply ≤ 71
   unfolding bytes
   reply-most = go (eqb refusal 0) refl
     where

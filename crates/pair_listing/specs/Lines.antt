@@ -5,7 +5,7 @@ use Prim.Native.Nat.{ℕ}
 use lib.Dec.{eqb}
 use Rattle.lexer.specs.Bytes.{bytes}
 use Rattle.report.specs.Text.{numeral, line}
-use Rattle.report.specs.Lists.{shown, textOf}
+use Rattle.report.specs.Lists.{shown}
 
 -- the totals of the figure and of the movement; or a refusal's number, place and file
 unfoldable pub replyLine : ℕ → ℕ → ℕ → ℕ → ℕ → List ℕ
@@ -14,6 +14,3 @@ replyLine refusal place file figure movement = elim (eqb refusal 0) [ true ↦ l
 -- a bone's row and its name's bytes, each after a tab, and a line feed
 unfoldable pub labelParts : ℕ → List ℕ → List (List ℕ)
 labelParts bone name = bytes "label" ∷ (9 ∷ []) ∷ numeral (shown bone) ∷ (9 ∷ []) ∷ name ∷ (10 ∷ []) ∷ []
-
-unfoldable pub labelText : ℕ → List ℕ → List ℕ
-labelText bone name = textOf (labelParts bone name)

@@ -4,8 +4,8 @@ ghost use Prim.Native.Nat.{_+_, _≤_};
 ghost use lib.ListN.{length, take};
 ghost use Rattle.io.specs.Counts.{Counts};
 ghost use Rattle.report.specs.Output.{output, appended};
-ghost use Rattle.report.specs.Lists.{appendedEach};
-ghost use Rattle.pair_listing.specs.Lines.{replyLine, labelParts, labelText};
+ghost use Rattle.report.specs.Lists.{appendedEach, textOf};
+ghost use Rattle.pair_listing.specs.Lines.{replyLine, labelParts};
 use report::append;
 use report::append_number;
 use report::append_row;
@@ -40,13 +40,12 @@ pub fn list_reply(
     )
 }
 
-// Puts a bone's row and its name at the start of buf. 28 bytes and the name's hold them.
-pub fn list_label(buf: &mut [u8], bone: usize, name: &[u8]) -> usize
-    ensures parts { λ r. ⌜ output r (now (buf .exit)) ≡ appendedEach (output 0 (now (buf .entry))) (labelParts bone (now (name .entry))) ⌝ }
-    ensures within { λ r. ⌜ Counts r (now (buf .exit)) ⌝ }
-    ensures whole { λ r. ⌜ (28 + length (now (name .entry)) ≤ length (now (buf .entry)) → take r (now (buf .exit)) ≡ labelText bone (now (name .entry))) ⌝ }
+// Puts a bone's row and its name after the first n bytes of buf, and answers how many bytes are filled then.
+pub fn append_label(buf: &mut [u8], n: usize, bone: usize, name: &[u8]) -> usize
+    ensures parts { λ r. ⌜ output r (now (buf .exit)) ≡ appendedEach (output n (now (buf .entry))) (labelParts bone (now (name .entry))) ⌝ }
+    ensures most { λ r. ⌜ length (textOf (labelParts bone (now (name .entry)))) ≤ 28 + length (now (name .entry)) ⌝ }
 {
-    let word = append(buf, 0, b"label");
+    let word = append(buf, n, b"label");
     let first = append(buf, word, b"\t");
     let row = append_number(buf, first, shown(bone));
     let second = append(buf, row, b"\t");

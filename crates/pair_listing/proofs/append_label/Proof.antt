@@ -1,4 +1,4 @@
--- `list_label` puts one part of the line after another.
+-- `append_label` puts one part of the line after another.
 use mathlib.Core.Path.{_≡_}
 use denote.Ref.{now}
 use mir.Syntax.{w64}
@@ -9,8 +9,8 @@ use Rattle.report.specs.Output.{output, appended}
 use Rattle.report.specs.Text.{numeral}
 use Rattle.report.proofs.Texts.{held}
 use Rattle.pair_listing.proofs.Labels.{label-put}
-use Rattle.pair_listing.proofs.list_label.Statement.{statement}
-use Rattle.pair_listing.proofs.list_label.Tie as tie
+use Rattle.pair_listing.proofs.append_label.Statement.{statement}
+use Rattle.pair_listing.proofs.append_label.Tie as tie
 
 slice-aggregate-append : tie.Need-slice-aggregate-append
 slice-aggregate-append c = search needs
@@ -60,10 +60,10 @@ returns c =
     let k1 = k2 .before .before .before .before .before in
     let a = k1 .before .before .before .before .before .args in
     let row : output (k3 .append-number .result) (k3 .append-number .last .0) ≡ appended (output (k2 .append2 .result) (k2 .append2 .last .0)) (numeral (toZ w64 (ofZ w64 (s .shown .result)))) = k3 .append-number .ensures in
-    label-put (a .bone) (now (a .name)) _ (now (a .buf)) _ _ _ _ _ _ (k1 .append .ensures) (k2 .append2 .ensures) (rw (held (a .bone) _ (s .shown .ensures)) at row) (k4 .append3 .ensures) (k5 .append4 .ensures) (k6 .append5 .ensures)
+    label-put (a .bone) (now (a .name)) (a .n) _ (now (a .buf)) _ _ _ _ _ _ (k1 .append .ensures) (k2 .append2 .ensures) (rw (held (a .bone) _ (s .shown .ensures)) at row) (k4 .append3 .ensures) (k5 .append4 .ensures) (k6 .append5 .ensures)
 
-pub list-label-spec : {M : Type 1} → statement M
-list-label-spec =
+pub append-label-spec : {M : Type 1} → statement M
+append-label-spec =
     tie.close
     (tie.spec
     slice-aggregate-append
