@@ -8,7 +8,7 @@ use native.Mathlib.Omega.{arith}
 use borrow.Author.Tests.{eq-eqb, ne-eqb}
 use lib.Dec.{eqb}
 use lib.IntN.{ℤ, pos, natAbs}
-use lib.ListN.{length, take, drop, getD}
+use lib.ListN.{length, take, drop, getD, length-take}
 use lib.Seq.{take-all, length-take-le}
 use Rattle.lexer.specs.Bytes.{isDigit, run, part}
 use Rattle.lexer.specs.Numbers.{INT, value, beyond, wrong, numberOf, intOf, intMost, signed, allDigits, decimal, negative, magnitude}
@@ -17,8 +17,11 @@ use Rattle.lexer.specs.declared.bytes.Run.the-variants.{Digits}
 use Rattle.lexer.specs.declared.number.Parsed.{Parsed}
 use Rattle.lexer.specs.declared.number.Parsed.the-variants.{Value, Beyond, Malformed}
 use Rattle.lexer.proofs.Runs.{run-length, run-take}
-use Rattle.lexer.proofs.Numerals.{negative-first, digits-at, digit-range, digits-short, digits-run, magnitude-no, lead-int, int-value, decimal-below}
+use Rattle.lexer.proofs.Numerals.{and-true, negative-first, digits-at, digit-range, digits-short, digits-run, magnitude-no, lead-int, int-value, decimal-below}
 use Rattle.pair_input.specs.Division.{isHead, headOf}
+use Rattle.pair_input.specs.Answers.{lengthNamed}
+use Rattle.pair_input.specs.declared.division.Head.{Head}
+use Rattle.pair_input.specs.declared.division.Head.the-variants.{Length}
 
 module _ (bs : List ℕ) where
   pub head-size : (length bs ≡ 9 → ⊥) → headOf bs ≡ none
@@ -36,6 +39,26 @@ module _ (bs : List ℕ) where
   pub head-is : length bs ≡ 9 → allDigits (take 8 bs) ≡ true → getD bs 8 0 ≡ 10 → headOf bs ≡ some (decimal (take 8 bs))
   unfolding headOf isHead
   head-is l d h = rw (eq-eqb (length bs) 9 l, d, eq-eqb (getD bs 8 0) 10 h, headOf)
+
+-- eight digits say less than a hundred million
+pub head-below : (bs : List ℕ) (h : Head) (n : ℕ) → lengthNamed h ≡ headOf bs → h ≡ Length n → n < 100000000
+unfolding lengthNamed headOf isHead
+head-below bs h n e q = go (isHead bs) refl
+  where
+    is : some n ≡ headOf bs
+    is = sym (ap lengthNamed q) ∙ e
+
+    go : (v : Bool) → isHead bs ≡ v → n < 100000000
+    go true t =
+        let a = and-true (eqb (length bs) 9) (allDigits (take 8 bs)) (and-true (eqb (length bs) 9 && allDigits (take 8 bs)) (eqb (getD bs 8 0) 10) t .0) in
+        let v : some n ≡ some (decimal (take 8 bs)) = is ∙ rw (t, headOf) in
+        let w : n ≡ decimal (take 8 bs) = cc in
+        let b : decimal (take 8 bs) < 10 ^ 8 = decimal-below (take 8 bs) 8 (a .1) (omega (arith, length-take 8 bs)) in
+        omega arith
+    go false t =
+        let v : some n ≡ none = is ∙ rw (t, headOf) in
+        let z : _≡_ {A = ℕ} 0 1 = cc in
+        absurd (omega (arith, z))
 
 -- eight bytes of which the first eight are a run of digits
 module _ (ds : List ℕ) (l : length ds ≡ 8) (r : 8 ≤ length (run isDigit ds)) where
