@@ -1,19 +1,19 @@
--- Document 01's listing example and its lines on bone flags, by computation.
+-- Document 01's listing example, by computation.
 use mathlib.Core.Path.{_≡_, refl}
-use mathlib.Core.List.{List, [], _∷_, _++_, map}
+use mathlib.Core.List.{List, [], _∷_, _++_}
 use Prim.Native.Nat.{ℕ}
 use lib.IntN.{ℤ, pos, negsuc}
 use lib.ListN.{replicate}
 use Rattle.lexer.specs.Bytes.{bytes, isBlank, between, isLetter, classOf, inLine, inString, inWord, isDigit, isContent, run, part, same}
 use Rattle.lexer.specs.Numbers.{refusalOf, decimalFrom, decimal, signed, notEmpty, allDigits, intMost, intOf, millionths, floatOf, numberFrom, afterDigits, unsigned, negative, magnitude, numberOf, inForm}
 use Rattle.lexer.specs.Tokens.{lexeme, tokens, lexAt, lex, first, bytesOf, widthOf, isKeyword}
-use Rattle.lexer.specs.Faults.{Fault, clear, fault, faultIn, markOf, blankOrEnd, begins, marked, textFault}
+use Rattle.lexer.specs.Faults.{faultIn, markOf, blankOrEnd, begins, marked, textFault}
 use Rattle.chunks.specs.Readers.{after, _>>=_, _>>_, pure, stop, tokenOf, rest, isOpening, isClosing, isPlain, isEnd, take-if, open-bracket, close-bracket, wordOf, keyword, text-end, openedOf, opened, closed, numberIn, numberAt, number, numbers, versionAt, version, absent, nameAt, string, oneFrom, oneOf, starts, optional, trailing, manyIn, many, many⁺, cells, rowOf, row, headOf, head}
 use Rattle.chunks.specs.Fields.{kind, isSome, unread, complete, kindFrom, fieldsIn, fields}
 use Rattle.chunks.specs.Into.{flat}
 use Rattle.bac6_text.specs.Grammar.{word, truth, blend, materialKinds, orZero, material, boneKinds, nameIn, flagIn, numbersIn, boneOf, bone, faceOf, faceBy, face, group, figure}
 use Rattle.chunks.specs.Rules.{orElse, tooMany}
-use Rattle.bac6_text.specs.Rules.{Flags, groupFaces, facesOf, countsOf, mosts, normalsFault, flagsOf, isSet, joined, thenIf, boneList, wholeList, placedFault, parentsIn, bonesFault, isRow, isNone, sameNumber, member, all, firstBad, entriesFine, verticesFault, ownerFrom, ownerOf, isLevel, materialFine, faceFine, figureFault}
+use Rattle.bac6_text.specs.Rules.{groupFaces, facesOf, countsOf, mosts, normalsFault, flagsOf, isSet, joined, thenIf, boneList, wholeList, placedFault, parentsIn, bonesFault, isRow, isNone, sameNumber, member, all, firstBad, entriesFine, verticesFault, ownerFrom, ownerOf, isLevel, materialFine, faceFine, figureFault}
 use Rattle.bac6_text.specs.Layout.{nameNumbers, boneRow, boneRows, ownersFrom, corners, faceRow, groupRows, faceRows, groupNames, layoutOf}
 use Rattle.bac6_text.specs.Answer.{figureOutcome, figureAnswer, tableAfter}
 use Rattle.chunks.specs.Outcomes.{ruled, shaped, checked, outcome, fitted, laid}
@@ -49,22 +49,3 @@ rows =
 pub listing-example : tableAfter text (replicate 60 (pos 7)) ≡ rows ++ replicate 3 (pos 7)
 unfolding bytes isBlank between isLetter classOf inLine inString inWord isDigit isContent run part same refusalOf decimalFrom decimal signed notEmpty allDigits intMost intOf millionths floatOf numberFrom afterDigits unsigned negative magnitude numberOf inForm lexeme tokens lexAt lex first bytesOf widthOf isKeyword faultIn markOf blankOrEnd begins marked textFault after _>>=_ _>>_ pure stop tokenOf rest isOpening isClosing isPlain isEnd take-if open-bracket close-bracket wordOf keyword text-end openedOf opened closed numberIn numberAt number numbers versionAt version absent nameAt string oneFrom oneOf starts optional trailing manyIn many many⁺ cells rowOf row headOf head kind isSome unread complete kindFrom fieldsIn fields flat word truth blend materialKinds orZero material boneKinds nameIn flagIn numbersIn boneOf bone faceOf faceBy face group figure orElse groupFaces facesOf countsOf mosts tooMany normalsFault flagsOf isSet joined thenIf boneList wholeList placedFault parentsIn bonesFault isRow isNone sameNumber member all firstBad entriesFine verticesFault ownerFrom ownerOf isLevel materialFine faceFine figureFault nameNumbers boneRow boneRows ownersFrom corners faceRow groupRows faceRows groupNames layoutOf ruled shaped checked outcome figureOutcome fitted figureAnswer laid tableAfter
 listing-example = refl
-
--- ---- child and brother flags: the fault, or the parents
-
-abbrev T : ℤ
-T = pos 1
-
-abbrev F : ℤ
-F = pos 0
-
-abbrev bones : List Flags → Fault × List ℤ
-bones flags = (bonesFault flags, parentsIn (wholeList flags))
-
-pub flags-example : map bones (((T, F) ∷ (F, T) ∷ (F, F) ∷ []) ∷ ((T, T) ∷ (F, F) ∷ (F, F) ∷ []) ∷ []) ≡ (clear, negsuc 0 ∷ pos 0 ∷ pos 0 ∷ []) ∷ (clear, negsuc 0 ∷ pos 0 ∷ negsuc 0 ∷ []) ∷ []
-unfolding bonesFault placedFault wholeList parentsIn isSet joined thenIf boneList
-flags-example = refl
-
-pub flags-refused : map bonesFault (((T, F) ∷ []) ∷ ((F, F) ∷ (F, F) ∷ []) ∷ []) ≡ fault 10 1 ∷ fault 10 1 ∷ []
-unfolding bonesFault placedFault wholeList isSet joined thenIf boneList
-flags-refused = refl

@@ -14,7 +14,7 @@ use Rattle.player.specs.Samples.{sampleOf}
 use Rattle.player.specs.Faces.{CornerOf, cornerOf, shownOf}
 use Rattle.player.specs.Lookups.{onlyIf}
 use Rattle.pair_text.specs.Rules.{figureNames, movementNames}
-use Rattle.player_label.specs.Labels.{labelBy}
+use Rattle.player_label.specs.Labels.{labelOf}
 use Rattle.movement_bridge.specs.Counts.{channelOf}
 use Rattle.figure_bridge.specs.Rows.{faceOf, groupedFaceOf}
 
@@ -35,4 +35,4 @@ shownAsked f m face at =
 
 unfoldable pub labelAsked : Figure → Movement → ℕ → Option (List ℕ)
 labelAsked f m bone =
-    onlyIf (ltb bone (length (f .bones)) && ltb bone (length (m .bones))) (labelBy (getD (figureNames f) bone []) (getD (movementNames m) bone []))
+    onlyIf (ltb bone (length (f .bones)) && ltb bone (length (m .bones))) (labelOf (getD (figureNames f) bone []) (getD (movementNames m) bone []))

@@ -1,4 +1,4 @@
--- Document 01's three samples of keys, and lookups on small tables, by computation.
+-- Lookups on small tables, by computation.
 use mathlib.Core.Path.{_≡_, refl}
 use mathlib.Core.List.{List, [], _∷_, map}
 use mathlib.Core.Option.{Option, none, some}
@@ -8,7 +8,7 @@ use lib.IntN.{ℤ, pos, negsuc}
 use Rattle.chunks.specs.Rules.{tooMany, orElse}
 use Rattle.bac6_text.specs.Rules as bac6
 use Rattle.tra4_text.specs.Rules as tra4
-use Rattle.tra4_text.specs.Movement.{Channel, frameOf, groupOf}
+use Rattle.tra4_text.specs.Movement.{frameOf, groupOf}
 use Rattle.references.specs.Index.{isIndex}
 use Rattle.player.specs.Fractions.{Fraction, factorIn, factor, signedAs, lowest, whole}
 use Rattle.player.specs.Samples.{keyFrame, keyValue, line, sampleFrom, sampleOf}
@@ -18,21 +18,10 @@ use Rattle.player.specs.Lookups.{onlyIf, isFloat, allFloat, isAsked, isR
 use Rattle.player.specs.declared.counts.MovementCounts.{MovementCounts}
 use Rattle.player.specs.declared.counts.FigureCounts.{FigureCounts}
 
-abbrev asked : List (Channel × ℕ)
-asked =
-    ((pos 0 ∷ pos 0 ∷ []) ∷ (pos 3 ∷ negsuc 0 ∷ []) ∷ [], 1)
-    ∷ ((pos 0 ∷ pos 0 ∷ []) ∷ (pos 3 ∷ pos 46406628 ∷ []) ∷ (pos 6 ∷ pos 132590363 ∷ []) ∷ [], 4)
-    ∷ ((pos 0 ∷ pos 0 ∷ []) ∷ (pos 8 ∷ pos 275800 ∷ []) ∷ (pos 10 ∷ pos 724176 ∷ []) ∷ [], 9)
-    ∷ []
-
 abbrev fraction : ℤ → ℕ → Fraction
 fraction n d = record { numerator = n; denominator = d }
 
-pub samples-example : map (λ (a : Channel × ℕ). sampleOf (a .0) (a .1)) asked ≡ fraction (negsuc 0) 3 ∷ fraction (pos 225403619) 3 ∷ fraction (pos 499988) 1 ∷ []
-unfolding sampleOf sampleFrom line keyFrame keyValue frameOf lowest factor factorIn signedAs whole
-samples-example = refl
-
--- ---- on tables: 01's listing, whose face is never shown, and a movement of one bone with two keys of roll
+-- 01's listing, whose face is never shown, and a movement of one bone with two keys of roll
 
 abbrev figure : List ℤ
 figure =

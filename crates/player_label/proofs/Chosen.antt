@@ -14,7 +14,7 @@ use Rattle.player.specs.declared.counts.MovementCounts.{MovementCounts}
 use Rattle.player.specs.declared.counts.FigureCounts.{FigureCounts}
 use Rattle.player.specs.Columns.{holdsMovement, holdsFigure}
 use Rattle.player_label.specs.Names.{partAt, figureSpan, movementSpan, figureName, movementName, ifTrue, figureNamed, movementNamed}
-use Rattle.player_label.specs.Labels.{labelBy, labelFrom, labelIn}
+use Rattle.player_label.specs.Labels.{labelOf, labelFrom, labelIn}
 use Rattle.player_label.proofs.Spans.{span-within}
 
 -- ---- the tests parted
@@ -52,8 +52,8 @@ part-long : (text : List ℕ) (from to : ℕ) → to ≤ length text → length 
 unfolding part
 part-long text from to h = rw (length-take (to - from) (drop from text), length-drop from text) (omega arith)
 
-goes-first : (figure movement : List ℕ) → 0 < length movement → labelBy figure movement ≡ movement
-unfolding labelBy
+goes-first : (figure movement : List ℕ) → 0 < length movement → labelOf figure movement ≡ movement
+unfolding labelOf
 goes-first figure [] h = absurd (omega arith)
 goes-first figure (b ∷ bs) h = refl
 
@@ -73,13 +73,13 @@ module _ (F : List ℕ) (n : FigureCounts) (T : List ℤ) (M : List ℕ) (m : Mo
   -- ---- both are names
 
   module _ (start end from to : ℕ) (e : some (start, end) ≡ figureNamed (length F) n T bone) (f : some (from, to) ≡ movementNamed (length M) m U bone) where
-    both : some (labelBy (part F start end) (part M from to)) ≡ labelIn F n T M m U bone
+    both : some (labelOf (part F start end) (part M from to)) ≡ labelIn F n T M m U bone
     unfolding partAt labelFrom
     both = ap (λ (s : Option (ℕ × ℕ)). labelFrom (partAt F s) (partAt M (some (from, to)))) e ∙ ap (λ (s : Option (ℕ × ℕ)). labelFrom (partAt F (figureNamed (length F) n T bone)) (partAt M s)) f ∙ by-spans
 
     pub by-figure : to ≤ from → some (part F start end) ≡ labelIn F n T M m U bone
-    unfolding labelBy
-    by-figure h = ap (λ (l : List ℕ). some (labelBy (part F start end) l)) (sym (part-none M from to h)) ∙ both
+    unfolding labelOf
+    by-figure h = ap (λ (l : List ℕ). some (labelOf (part F start end) l)) (sym (part-none M from to h)) ∙ both
 
     pub by-movement : from < to → some (part M from to) ≡ labelIn F n T M m U bone
     by-movement h =

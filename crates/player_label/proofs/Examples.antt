@@ -14,7 +14,7 @@ use Rattle.player.specs.declared.counts.FigureCounts.{FigureCounts}
 use Rattle.player.specs.Columns.{numberAt, isClear, keysBegin, patternsBegin, movementEnd, holdsMovement, pointsBegin, bonesBegin, ownersBegin, uvsBegin, facesBegin, figureEnd, holdsFigure}
 use Rattle.player.specs.Lookups.{onlyIf}
 use Rattle.player_label.specs.Names.{isName, nameSpan, partAt, figureSpan, figureName, movementSpan, movementName, ifTrue}
-use Rattle.player_label.specs.Labels.{labelBy, labelFrom, labelIn}
+use Rattle.player_label.specs.Labels.{labelOf, labelFrom, labelIn}
 
 -- ---- one bone and nothing else in each table
 
@@ -43,7 +43,7 @@ asked =
     ∷ []
 
 pub labels-example : map (λ (a : (ℤ × ℤ) × (ℤ × ℤ) × ℕ). labelIn (bytes "bone") counts (figure (a .0)) (bytes "move") moveCounts (moves (a .1)) (a .2)) asked ≡ some (bytes "mo") ∷ some (bytes "one") ∷ some (bytes "ve") ∷ none ∷ none ∷ none ∷ none ∷ []
-unfolding bytes part tooMany bac6.mosts tra4.mosts numberAt isClear keysBegin patternsBegin movementEnd holdsMovement pointsBegin bonesBegin ownersBegin uvsBegin facesBegin figureEnd holdsFigure onlyIf isName nameSpan partAt figureSpan figureName movementSpan movementName ifTrue labelBy labelFrom labelIn
+unfolding bytes part tooMany bac6.mosts tra4.mosts numberAt isClear keysBegin patternsBegin movementEnd holdsMovement pointsBegin bonesBegin ownersBegin uvsBegin facesBegin figureEnd holdsFigure onlyIf isName nameSpan partAt figureSpan figureName movementSpan movementName ifTrue labelOf labelFrom labelIn
 labels-example = refl
 
 -- ---- 255 bytes, up to the text's end

@@ -5,22 +5,16 @@ use mathlib.Core.Option.{Option, none, some}
 use Prim.Native.Nat.{ℕ}
 use lib.Dec.{ltb}
 use lib.IntN.{ℤ}
-use Rattle.bac6_text.specs.Figure as bac6
-use Rattle.tra4_text.specs.Movement as tra4
 use Rattle.player.specs.declared.counts.MovementCounts.{MovementCounts}
 use Rattle.player.specs.declared.counts.FigureCounts.{FigureCounts}
 use Rattle.player.specs.Columns.{holdsMovement, holdsFigure}
 use Rattle.player_label.specs.Names.{figureName, movementName, ifTrue}
 
--- of the figure's name and the movement's
-unfoldable pub labelBy : List ℕ → List ℕ → List ℕ
-labelBy figure [] = figure
-labelBy figure (b ∷ bs) = b ∷ bs
+-- ---- from the two texts: of the figure's name and the movement's, an absent one being empty
 
--- ---- from the two texts' lists
-
-unfoldable pub labelOf : bac6.Bone → tra4.Bone → List ℕ
-labelOf b c = labelBy (b .name .bytes) (c .name .bytes)
+unfoldable pub labelOf : List ℕ → List ℕ → List ℕ
+labelOf figure [] = figure
+labelOf figure (b ∷ bs) = b ∷ bs
 
 -- ---- on tables: none is 21
 
@@ -28,7 +22,7 @@ labelOf b c = labelBy (b .name .bytes) (c .name .bytes)
 unfoldable pub labelFrom : Option (List ℕ) → Option (List ℕ) → Option (List ℕ)
 labelFrom none movement = none
 labelFrom (some figure) none = none
-labelFrom (some figure) (some movement) = some (labelBy figure movement)
+labelFrom (some figure) (some movement) = some (labelOf figure movement)
 
 -- by the figure's text, counts and table and the movement's text, counts and table: the tables hold what their counts say, and the bone is a row of both
 unfoldable pub labelIn : List ℕ → FigureCounts → List ℤ → List ℕ → MovementCounts → List ℤ → ℕ → Option (List ℕ)

@@ -1,4 +1,3 @@
--- Laws that belong to no one function.
+-- The demands, and the marked cases.
+pub mod Demands
 pub mod Marked
-pub mod Taken
-pub mod Played

@@ -26,14 +26,13 @@ use Rattle.player.specs.Faces.{cornerOf, shownOf}
 use Rattle.player.specs.Lookups.{sampleIn, cornerIn, shownIn}
 use Rattle.player.specs.Answers.{numbered}
 use Rattle.player_laws.specs.Bounds.{Between, LowestTerms, keyAt}
-use Rattle.player_label.specs.Labels.{labelBy, labelIn}
+use Rattle.player_label.specs.Labels.{labelOf, labelIn}
 use Rattle.movement_bridge.specs.Counts.{channelOf}
 use Rattle.figure_bridge.specs.Rows.{faceOf, groupedFaceOf}
 use Rattle.pair_text.specs.Rules.{figureNames, movementNames, pairFault}
-use Rattle.pair_text.specs.Answer.{Loaded, refused, loaded, pairAnswer, figureLeft, movementOf, movementLeft}
+use Rattle.pair_text.specs.Answer.{refused, loaded, pairAnswer, figureLeft, movementOf, movementLeft}
 use Rattle.pair_bridge.specs.Playing.{framesOf, sampleAsked, cornerAsked, shownAsked, labelAsked}
-use Rattle.pair_load.specs.Answers.{pairReply}
-use Rattle.pair_load.specs.declared.pair.PairAnswer.{PairAnswer}
+use Rattle.pair_play.specs.Playing.{reply, tableLeft, movesLeft}
 
 -- ---- 2: "A text is taken exactly when it keeps the rules, and the tables then hold what the text says, every decimal digit. A pair likewise."
 
@@ -77,38 +76,23 @@ pub record Demand2 : Type 0 where
 
 -- the two texts, and what the two lent tables held
 module _ (F : List ℕ) (table : List ℤ) (M : List ℕ) (moves : List ℤ) where
-  abbrev pub answer : Loaded (Figure × Movement)
-  answer = pairAnswer F (length table) M (length moves)
-
-  -- what loading answers and leaves
-  abbrev pub reply : PairAnswer
-  reply = pairReply answer
-
-  abbrev pub tableLeft : List ℤ
-  tableLeft = figureLeft table answer
-
-  abbrev pub movesLeft : List ℤ
-  movesLeft = movementLeft moves (movementOf answer)
-
   pub record Played (f : Figure) (m : Movement) : Type 0 where
-    pub sample : (bone channel at : ℕ) → bone < length (m .bones) → channel < 10 → at < framesOf m → numbered (sampleIn (reply .movement) movesLeft bone channel at) ≡ (0, 0, 0, some (sampleOf (channelOf m bone channel) at))
-    pub shown : (face at : ℕ) → face < length (facesOf f) → at < framesOf m → numbered (shownIn (reply .figure) tableLeft (reply .movement) movesLeft face at) ≡ (0, 0, 0, some (shownOf (f .bones) (m .patterns) (groupedFaceOf f face) at))
-    pub corner : (face k : ℕ) → face < length (facesOf f) → k < faceOf f face .size → numbered (cornerIn (reply .figure) tableLeft face k) ≡ (0, 0, 0, some (cornerOf f (faceOf f face) k))
-    pub label : (bone : ℕ) → bone < length (m .bones) → numbered (labelIn F (reply .figure) tableLeft M (reply .movement) movesLeft bone) ≡ (0, 0, 0, some (labelBy (getD (figureNames f) bone []) (getD (movementNames m) bone [])))
+    pub sample : (bone channel at : ℕ) → bone < length (m .bones) → channel < 10 → at < framesOf m → numbered (sampleIn (reply F table M moves .movement) (movesLeft F table M moves) bone channel at) ≡ (0, 0, 0, some (sampleOf (channelOf m bone channel) at))
+    pub shown : (face at : ℕ) → face < length (facesOf f) → at < framesOf m → numbered (shownIn (reply F table M moves .figure) (tableLeft F table M moves) (reply F table M moves .movement) (movesLeft F table M moves) face at) ≡ (0, 0, 0, some (shownOf (f .bones) (m .patterns) (groupedFaceOf f face) at))
+    pub corner : (face k : ℕ) → face < length (facesOf f) → k < faceOf f face .size → numbered (cornerIn (reply F table M moves .figure) (tableLeft F table M moves) face k) ≡ (0, 0, 0, some (cornerOf f (faceOf f face) k))
+    pub label : (bone : ℕ) → bone < length (m .bones) → numbered (labelIn F (reply F table M moves .figure) (tableLeft F table M moves) M (reply F table M moves .movement) (movesLeft F table M moves) bone) ≡ (0, 0, 0, some (labelOf (getD (figureNames f) bone []) (getD (movementNames m) bone [])))
     -- as many bones in the one as in the other
     pub bones : length (f .bones) ≡ length (m .bones)
-
     -- the sample itself: on a key the key's value, between two keys not below the smaller nor above the larger, past the last the last's; in lowest terms
     pub on-key : (bone channel i : ℕ) → bone < length (m .bones) → channel < 10 → i < length (channelOf m bone channel) → sampleOf (channelOf m bone channel) (keyFrame (keyAt (channelOf m bone channel) i)) ≡ whole (keyValue (keyAt (channelOf m bone channel) i))
     pub between : (bone channel i at : ℕ) → bone < length (m .bones) → channel < 10 → suc i < length (channelOf m bone channel) → keyFrame (keyAt (channelOf m bone channel) i) ≤ at → at < keyFrame (keyAt (channelOf m bone channel) (suc i)) → Between (keyValue (keyAt (channelOf m bone channel) i)) (keyValue (keyAt (channelOf m bone channel) (suc i))) (sampleOf (channelOf m bone channel) at)
     pub past-last : (bone channel i at : ℕ) → bone < length (m .bones) → channel < 10 → suc i ≡ length (channelOf m bone channel) → keyFrame (keyAt (channelOf m bone channel) i) ≤ at → sampleOf (channelOf m bone channel) at ≡ whole (keyValue (keyAt (channelOf m bone channel) i))
     pub lowest : (bone channel at : ℕ) → bone < length (m .bones) → channel < 10 → LowestTerms (sampleOf (channelOf m bone channel) at)
-
     -- and whatever is asked: 21 exactly for what is not in the files
-    pub every-sample : (bone channel at : ℕ) → sampleIn (reply .movement) movesLeft bone channel at ≡ sampleAsked m bone channel at
-    pub every-shown : (face at : ℕ) → shownIn (reply .figure) tableLeft (reply .movement) movesLeft face at ≡ shownAsked f m face at
-    pub every-corner : (face k : ℕ) → cornerIn (reply .figure) tableLeft face k ≡ cornerAsked f face k
-    pub every-label : (bone : ℕ) → labelIn F (reply .figure) tableLeft M (reply .movement) movesLeft bone ≡ labelAsked f m bone
+    pub every-sample : (bone channel at : ℕ) → sampleIn (reply F table M moves .movement) (movesLeft F table M moves) bone channel at ≡ sampleAsked m bone channel at
+    pub every-shown : (face at : ℕ) → shownIn (reply F table M moves .figure) (tableLeft F table M moves) (reply F table M moves .movement) (movesLeft F table M moves) face at ≡ shownAsked f m face at
+    pub every-corner : (face k : ℕ) → cornerIn (reply F table M moves .figure) (tableLeft F table M moves) face k ≡ cornerAsked f face k
+    pub every-label : (bone : ℕ) → labelIn F (reply F table M moves .figure) (tableLeft F table M moves) M (reply F table M moves .movement) (movesLeft F table M moves) bone ≡ labelAsked f m bone
 
 -- for every two texts and every two tables
 abbrev pub Demand3 : Type 0

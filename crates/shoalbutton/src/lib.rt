@@ -1,1 +1,206 @@
-// The page.
+// Every call of the reader and player, with all that is promised of it. Demands 2 and 3 are stated in specs/Demands.antt, the cases that
+// document 01 marks in specs/Marked.antt.
+ghost use mathlib.Core.Path.{_≡_};
+ghost use lib.ListN.{length};
+ghost use Rattle.bac6_text.specs.Answer.{figureAnswer, tableAfter};
+ghost use Rattle.tra4_text.specs.Answer.{movementAnswer, movementTable};
+ghost use Rattle.bac6.specs.Answers.{answerOf as figureReply};
+ghost use Rattle.tra4.specs.Answers.{answerOf as movementReply};
+ghost use Rattle.player.specs.Lookups.{sampleIn, shownIn, cornerIn};
+ghost use Rattle.player.specs.Answers.{numbered, sampled, showed, cornered};
+ghost use Rattle.player_label.specs.Labels.{labelIn, orEmpty};
+ghost use Rattle.pair_text.specs.Answer.{pairAnswer, figureLeft, movementOf, movementLeft};
+ghost use Rattle.pair_bridge.specs.Playing.{sampleAsked, cornerAsked, shownAsked, labelAsked};
+ghost use Rattle.pair_play.specs.Playing.{played, sampleTold, cornerTold, shownTold, refusalOf, bytesOf};
+ghost use Rattle.pair_load.specs.Answers.{pairReply, movedAnswer, movedReply};
+use bac6::FigureAnswer;
+use pair_load::PairAnswer;
+use pair_play::PlayedCorner;
+use pair_play::PlayedSample;
+use pair_play::PlayedShown;
+use pair_play::Refusal;
+use player::Cornered;
+use player::FigureCounts;
+use player::MovementCounts;
+use player::Sampled;
+use player::Visibility;
+use tra4::MovementAnswer;
+
+// ---- reading
+
+// A figure's text: the answer is document 01's, and the table holds the layout from its start on, or what it held.
+pub fn read_figure(text: &[u8], table: &mut [i64]) -> FigureAnswer
+    ensures answer { λ r. ⌜ r ≡ figureReply (figureAnswer (now (text .entry)) (length (now (table .entry)))) ⌝ }
+    ensures content { λ r. ⌜ now (table .exit) ≡ tableAfter (now (text .entry)) (now (table .entry)) ⌝ }
+{
+    bac6::read(text, table)
+}
+
+// A movement's text, likewise.
+pub fn read_movement(text: &[u8], table: &mut [i64]) -> MovementAnswer
+    ensures answer { λ r. ⌜ r ≡ movementReply (movementAnswer (now (text .entry)) (length (now (table .entry)))) ⌝ }
+    ensures content { λ r. ⌜ now (table .exit) ≡ movementTable (now (text .entry)) (now (table .entry)) ⌝ }
+{
+    tra4::read(text, table)
+}
+
+// A figure and a movement as a pair: both tables are written, or neither.
+pub fn load(figure: &[u8], movement: &[u8], table: &mut [i64], moves: &mut [i64]) -> PairAnswer
+    ensures answer { λ r. ⌜ r ≡ pairReply (pairAnswer (now (figure .entry)) (length (now (table .entry))) (now (movement .entry)) (length (now (moves .entry)))) ⌝ }
+    ensures figure { λ r. ⌜ now (table .exit) ≡ figureLeft (now (table .entry)) (pairAnswer (now (figure .entry)) (length (now (table .entry))) (now (movement .entry)) (length (now (moves .entry)))) ⌝ }
+    ensures movement { λ r. ⌜ now (moves .exit) ≡ movementLeft (now (moves .entry)) (movementOf (pairAnswer (now (figure .entry)) (length (now (table .entry))) (now (movement .entry)) (length (now (moves .entry))))) ⌝ }
+{
+    pair_load::load(figure, movement, table, moves)
+}
+
+// A movement with a figure that already stands in a table.
+pub fn load_movement(
+    figure: &[u8],
+    table: &[i64],
+    n: FigureCounts,
+    movement: &[u8],
+    moves: &mut [i64],
+) -> MovementAnswer
+    ensures answer { λ r. ⌜ r ≡ movedReply (movedAnswer (now (figure .entry)) n (now (table .entry)) (now (movement .entry)) (length (now (moves .entry)))) ⌝ }
+    ensures content { λ r. ⌜ now (moves .exit) ≡ movementLeft (now (moves .entry)) (movedAnswer (now (figure .entry)) n (now (table .entry)) (now (movement .entry)) (length (now (moves .entry)))) ⌝ }
+{
+    pair_load::load_movement(figure, table, n, movement, moves)
+}
+
+// ---- playing, on any tables and counts
+
+// A channel's value at a frame.
+pub fn sample(table: &[i64], n: MovementCounts, bone: usize, channel: usize, at: usize) -> Sampled
+    ensures { λ r. ⌜ sampled r ≡ numbered (sampleIn n (now (table .entry)) bone channel at) ⌝ }
+{
+    player::sample(table, n, bone, channel, at)
+}
+
+// Whether a face is shown at a frame.
+pub fn shown(
+    table: &[i64],
+    n: FigureCounts,
+    moves: &[i64],
+    m: MovementCounts,
+    face: usize,
+    at: usize,
+) -> Visibility
+    ensures { λ r. ⌜ showed r ≡ numbered (shownIn n (now (table .entry)) m (now (moves .entry)) face at) ⌝ }
+{
+    player::shown(table, n, moves, m, face, at)
+}
+
+// A face's corner.
+pub fn corner(table: &[i64], n: FigureCounts, face: usize, k: usize) -> Cornered
+    ensures { λ r. ⌜ cornered r ≡ numbered (cornerIn n (now (table .entry)) face k) ⌝ }
+{
+    player::corner(table, n, face, k)
+}
+
+// A bone's name, a part of one of the two lent texts; at 21 it is empty.
+pub fn label<'a>(
+    figure: &'a [u8],
+    table: &[i64],
+    n: FigureCounts,
+    movement: &'a [u8],
+    moves: &[i64],
+    m: MovementCounts,
+    bone: usize,
+) -> &'a [u8]
+    ensures { λ r. ⌜ now r ≡ orEmpty (labelIn (now (figure .entry)) n (now (table .entry)) (now (movement .entry)) m (now (moves .entry)) bone) ⌝ }
+{
+    player_label::label(figure, table, n, movement, moves, m, bone)
+}
+
+// Label's number, 0 or 21.
+pub fn label_number(
+    figure: &[u8],
+    table: &[i64],
+    n: FigureCounts,
+    movement: &[u8],
+    moves: &[i64],
+    m: MovementCounts,
+    bone: usize,
+) -> usize
+    ensures { λ r. ⌜ r ≡ numbered (labelIn (now (figure .entry)) n (now (table .entry)) (now (movement .entry)) m (now (moves .entry)) bone) .0 ⌝ }
+{
+    player_label::label_number(figure, table, n, movement, moves, m, bone)
+}
+
+// ---- loading a pair and then playing it: the answer speaks of the two texts alone
+
+pub fn played_sample(
+    figure: &[u8],
+    movement: &[u8],
+    table: &mut [i64],
+    moves: &mut [i64],
+    bone: usize,
+    channel: usize,
+    at: usize,
+) -> PlayedSample
+    ensures answer { λ r. ⌜ sampleTold r ≡ played (pairAnswer (now (figure .entry)) (length (now (table .entry))) (now (movement .entry)) (length (now (moves .entry)))) (λ f m. sampleAsked m bone channel at) ⌝ }
+    ensures figure { λ r. ⌜ now (table .exit) ≡ figureLeft (now (table .entry)) (pairAnswer (now (figure .entry)) (length (now (table .entry))) (now (movement .entry)) (length (now (moves .entry)))) ⌝ }
+    ensures movement { λ r. ⌜ now (moves .exit) ≡ movementLeft (now (moves .entry)) (movementOf (pairAnswer (now (figure .entry)) (length (now (table .entry))) (now (movement .entry)) (length (now (moves .entry))))) ⌝ }
+{
+    pair_play::played_sample(figure, movement, table, moves, bone, channel, at)
+}
+
+pub fn played_corner(
+    figure: &[u8],
+    movement: &[u8],
+    table: &mut [i64],
+    moves: &mut [i64],
+    face: usize,
+    k: usize,
+) -> PlayedCorner
+    ensures answer { λ r. ⌜ cornerTold r ≡ played (pairAnswer (now (figure .entry)) (length (now (table .entry))) (now (movement .entry)) (length (now (moves .entry)))) (λ f m. cornerAsked f face k) ⌝ }
+    ensures figure { λ r. ⌜ now (table .exit) ≡ figureLeft (now (table .entry)) (pairAnswer (now (figure .entry)) (length (now (table .entry))) (now (movement .entry)) (length (now (moves .entry)))) ⌝ }
+    ensures movement { λ r. ⌜ now (moves .exit) ≡ movementLeft (now (moves .entry)) (movementOf (pairAnswer (now (figure .entry)) (length (now (table .entry))) (now (movement .entry)) (length (now (moves .entry))))) ⌝ }
+{
+    pair_play::played_corner(figure, movement, table, moves, face, k)
+}
+
+pub fn played_shown(
+    figure: &[u8],
+    movement: &[u8],
+    table: &mut [i64],
+    moves: &mut [i64],
+    face: usize,
+    at: usize,
+) -> PlayedShown
+    ensures answer { λ r. ⌜ shownTold r ≡ played (pairAnswer (now (figure .entry)) (length (now (table .entry))) (now (movement .entry)) (length (now (moves .entry)))) (λ f m. shownAsked f m face at) ⌝ }
+    ensures figure { λ r. ⌜ now (table .exit) ≡ figureLeft (now (table .entry)) (pairAnswer (now (figure .entry)) (length (now (table .entry))) (now (movement .entry)) (length (now (moves .entry)))) ⌝ }
+    ensures movement { λ r. ⌜ now (moves .exit) ≡ movementLeft (now (moves .entry)) (movementOf (pairAnswer (now (figure .entry)) (length (now (table .entry))) (now (movement .entry)) (length (now (moves .entry))))) ⌝ }
+{
+    pair_play::played_shown(figure, movement, table, moves, face, at)
+}
+
+// A part of one of the two texts; where the pair is refused or has no such bone, an empty one.
+pub fn played_label<'a>(
+    figure: &'a [u8],
+    movement: &'a [u8],
+    table: &mut [i64],
+    moves: &mut [i64],
+    bone: usize,
+) -> &'a [u8]
+    ensures answer { λ r. ⌜ now r ≡ bytesOf (played (pairAnswer (now (figure .entry)) (length (now (table .entry))) (now (movement .entry)) (length (now (moves .entry)))) (λ f m. labelAsked f m bone)) ⌝ }
+    ensures figure { λ r. ⌜ now (table .exit) ≡ figureLeft (now (table .entry)) (pairAnswer (now (figure .entry)) (length (now (table .entry))) (now (movement .entry)) (length (now (moves .entry)))) ⌝ }
+    ensures movement { λ r. ⌜ now (moves .exit) ≡ movementLeft (now (moves .entry)) (movementOf (pairAnswer (now (figure .entry)) (length (now (table .entry))) (now (movement .entry)) (length (now (moves .entry))))) ⌝ }
+{
+    pair_play::played_label(figure, movement, table, moves, bone)
+}
+
+// Its number, place and file.
+pub fn played_label_number(
+    figure: &[u8],
+    movement: &[u8],
+    table: &mut [i64],
+    moves: &mut [i64],
+    bone: usize,
+) -> Refusal
+    ensures answer { λ r. ⌜ r ≡ refusalOf (played (pairAnswer (now (figure .entry)) (length (now (table .entry))) (now (movement .entry)) (length (now (moves .entry)))) (λ f m. labelAsked f m bone)) ⌝ }
+    ensures figure { λ r. ⌜ now (table .exit) ≡ figureLeft (now (table .entry)) (pairAnswer (now (figure .entry)) (length (now (table .entry))) (now (movement .entry)) (length (now (moves .entry)))) ⌝ }
+    ensures movement { λ r. ⌜ now (moves .exit) ≡ movementLeft (now (moves .entry)) (movementOf (pairAnswer (now (figure .entry)) (length (now (table .entry))) (now (movement .entry)) (length (now (moves .entry))))) ⌝ }
+{
+    pair_play::played_label_number(figure, movement, table, moves, bone)
+}

@@ -1,30 +1,45 @@
--- Demand 2: a text is taken exactly when it keeps the rules, by going back through the answer's steps and forth again; a pair likewise.
+-- Demands 2 and 3. A text is taken exactly when it keeps the rules, by going back through the answer's steps and forth again; a pair likewise. Each lookup on a loaded pair is the texts' own answer.
 use mathlib.Core.Path.{_≡_, refl, ap, sym, _∙_}
 use mathlib.Core.Logic.{_↔_}
 use mathlib.Core.List.{List, _++_}
-use Prim.Native.Nat.{ℕ}
+use mathlib.Core.Bool.{Bool, true, false, _&&_}
+use mathlib.Core.Option.{none, some}
+use Prim.Native.Nat.{ℕ, _<_}
+use borrow.Author.Tests.{lt-ltb, eqb-true}
+use lib.Dec.{eqb}
 use lib.IntN.{ℤ}
-use lib.ListN.{length, drop}
-use Rattle.lexer.specs.Faults.{Fault, Format, bac, tra}
+use lib.ListN.{length, drop, length-map}
+use Rattle.lexer.specs.Faults.{Fault, clear, Format, bac, tra}
+use Rattle.lexer.proofs.Scanning.{fault-not-clear}
 use Rattle.chunks.specs.Readers.{Reader}
 use Rattle.chunks.specs.Outcomes.{Outcome, rejected, accepted, outcome, fitted, laid}
 use Rattle.chunks.proofs.Outcomes.{text-clear, all-taken, fitted-room, accepted-clear, laid-rejected}
 use Rattle.bac6_text.specs.Figure.{Figure}
 use Rattle.bac6_text.specs.Grammar.{figure}
-use Rattle.bac6_text.specs.Rules.{figureFault}
+use Rattle.bac6_text.specs.Rules.{facesOf, figureFault}
 use Rattle.bac6_text.specs.Layout as figures
 use Rattle.bac6_text.specs.Answer.{figureOutcome, figureAnswer, tableAfter}
 use Rattle.tra4_text.specs.Movement.{Movement}
 use Rattle.tra4_text.specs.Grammar.{movement}
-use Rattle.tra4_text.specs.Rules.{movementFault}
+use Rattle.tra4_text.specs.Rules.{framesFault, keyFine, movementFault}
 use Rattle.tra4_text.specs.Layout as movements
 use Rattle.tra4_text.specs.Answer.{movementOutcome, movementAnswer, movementTable}
 use Rattle.movement_bridge.proofs.Taken.{taken}
+use Rattle.player.specs.Lookups.{onlyIf}
+use Rattle.player.specs.Answers.{numbered}
+use Rattle.player_laws.proofs.Keys.{on-key-at, between-at, past-last-at, sample-lowest}
+use Rattle.movement_bridge.specs.Counts.{channelOf}
+use Rattle.movement_bridge.proofs.Sampling.{channel-sound}
 use Rattle.movement_bridge.proofs.Tables.{table-read}
+use Rattle.figure_bridge.specs.Rows.{faceOf}
 use Rattle.figure_bridge.proofs.Texts.{figure-table}
 use Rattle.pair_text.specs.Answer.{refused, loaded, paired, pairAnswer, figureLeft, movementOf, movementLeft}
 use Rattle.pair_text.proofs.Taken as pairs
-use Rattle.shoalbutton.specs.Demands.{Keeps, KeepsFigure, KeepsMovement, KeepsPair, Demand2}
+use Rattle.pair_text.specs.Rules.{figureNames, bonesFault}
+use Rattle.pair_bridge.specs.Playing.{framesOf, sampleAsked, cornerAsked, shownAsked, labelAsked}
+use Rattle.pair_play.proofs.Parts.{parts-taken, figure-left, moves-left}
+use Rattle.pair_play.proofs.Loaded.{every-sample, every-corner, every-shown, every-label}
+use Rattle.shoalbutton.specs.Demands.{Keeps, KeepsFigure, KeepsMovement, KeepsPair, Demand2, Played, Demand3}
 
 -- ---- over a format
 
@@ -34,11 +49,8 @@ module _ {A : Type 0} (f : Format) (grammar : Reader A) (rules : A → Fault) (l
       let t = taken f grammar rules layout text room a e in
       record { words = accepted-clear f grammar rules layout text room a e; left = t .shape .left; shape = t .shape .gives; ruled = t .shape .clean; fits = t .room-is }
 
-  keeps-alone : Keeps f grammar rules layout text room a → outcome f grammar rules text ≡ accepted a
-  keeps-alone k = text-clear f grammar rules text (k .words) ∙ all-taken rules (k .shape) (k .ruled)
-
   keeps-taken : Keeps f grammar rules layout text room a → fitted layout room (outcome f grammar rules text) ≡ accepted a
-  keeps-taken k = ap (fitted layout room) (keeps-alone k) ∙ fitted-room layout a room (k .fits)
+  keeps-taken k = ap (fitted layout room) (text-clear f grammar rules text (k .words) ∙ all-taken rules (k .shape) (k .ruled)) ∙ fitted-room layout a room (k .fits)
 
 figure-exactly : (text : List ℕ) (room : ℕ) (f : Figure) → figureAnswer text room ≡ accepted f ↔ KeepsFigure text room f
 unfolding figureAnswer figureOutcome
@@ -48,26 +60,12 @@ movement-exactly : (text : List ℕ) (room : ℕ) (m : Movement) → movementAns
 unfolding movementAnswer movementOutcome
 movement-exactly text room m = (taken-keeps tra movement movementFault movements.layoutOf text room m, keeps-taken tra movement movementFault movements.layoutOf text room m)
 
--- whatever the table, the text alone is taken
-
-pub figure-alone : (text : List ℕ) (room : ℕ) (f : Figure) → figureAnswer text room ≡ accepted f → figureOutcome text ≡ accepted f
-unfolding figureOutcome
-figure-alone text room f e = keeps-alone bac figure figureFault figures.layoutOf text room f (figure-exactly text room f .0 e)
-
-pub movement-alone : (text : List ℕ) (room : ℕ) (m : Movement) → movementAnswer text room ≡ accepted m → movementOutcome text ≡ accepted m
-unfolding movementOutcome
-movement-alone text room m e = keeps-alone tra movement movementFault movements.layoutOf text room m (movement-exactly text room m .0 e)
-
 -- ---- a pair
 
 module _ (F : List ℕ) (room : ℕ) (M : List ℕ) (space : ℕ) (f : Figure) (m : Movement) where
-  pub parts-taken : pairAnswer F room M space ≡ loaded (f, m) → pairs.PairTaken (figureAnswer F room) (movementAnswer M space) f m
-  unfolding pairAnswer
-  parts-taken e = pairs.pair-taken _ _ f m e
-
   pair-keeps : pairAnswer F room M space ≡ loaded (f, m) → KeepsPair F room M space f m
   pair-keeps e =
-      let t = parts-taken e in
+      let t = parts-taken F room M space f m e in
       record { figure-kept = figure-exactly F room f .0 (t .figure); movement-kept = movement-exactly M space m .0 (t .movement); paired = t .rules }
 
   keeps-pair : KeepsPair F room M space f m → pairAnswer F room M space ≡ loaded (f, m)
@@ -75,18 +73,6 @@ module _ (F : List ℕ) (room : ℕ) (M : List ℕ) (space : ℕ) (f : Figure) (
   keeps-pair k = pairs.pair-loads (record { figure = figure-exactly F room f .1 (k .figure-kept); movement = movement-exactly M space m .1 (k .movement-kept); rules = k .paired })
 
 -- ---- the tables
-
-module _ (F : List ℕ) (table : List ℤ) (M : List ℕ) (moves : List ℤ) (f : Figure) (m : Movement) (e : pairAnswer F (length table) M (length moves) ≡ loaded (f, m)) where
-  abbrev parts : pairs.PairTaken (figureAnswer F (length table)) (movementAnswer M (length moves)) f m
-  parts = parts-taken F (length table) M (length moves) f m e
-
-  pub figure-left : figureLeft table (loaded (f, m)) ≡ tableAfter F table
-  unfolding figureLeft
-  figure-left = sym (figure-table F table f (parts .figure))
-
-  pub moves-left : movementLeft moves (movementOf (loaded (f, m))) ≡ movementTable M moves
-  unfolding movementLeft movementOf
-  moves-left = sym (table-read M moves m (parts .movement))
 
 figure-stays : (text : List ℕ) (table : List ℤ) (n p : ℕ) → figureAnswer text (length table) ≡ rejected n p → tableAfter text table ≡ table
 unfolding tableAfter
@@ -113,3 +99,46 @@ demand-2 =
       pair-held = λ F table M moves f m e. (figure-left F table M moves f m e, moves-left F table M moves f m e);
       pair-stays = pair-stays;
     }
+
+-- ---- demand 3
+
+module _ (F : List ℕ) (table : List ℤ) (M : List ℕ) (moves : List ℤ) (f : Figure) (m : Movement) (e : pairAnswer F (length table) M (length moves) ≡ loaded (f, m)) where
+  abbrev parts : pairs.PairTaken (figureAnswer F (length table)) (movementAnswer M (length moves)) f m
+  parts = parts-taken F (length table) M (length moves) f m e
+
+  -- rule 18
+  same-bones : length (f .bones) ≡ length (m .bones)
+  unfolding bonesFault figureNames
+  same-bones = sym (length-map (f .bones) _) ∙ go (eqb (length (figureNames f)) (length (m .bones))) refl
+    where
+      go : (v : Bool) → eqb (length (figureNames f)) (length (m .bones)) ≡ v → length (figureNames f) ≡ length (m .bones)
+      go true p = eqb-true _ _ p
+      go false p = absurd (fault-not-clear _ _ (rw (p, bonesFault) at (pairs.bones-kept (figureNames f) (length (f .groups)) m (parts .rules))))
+
+  -- ---- what exists
+
+  module _ (bone channel : ℕ) (h : bone < length (m .bones)) (k : channel < 10) where
+    abbrev sound : framesFault 15 (keyFine (m .totalFrames)) none 0 (channelOf m bone channel) ≡ clear
+    sound = channel-sound M moves m (parts .movement) bone channel h k
+
+  pub played : Played F table M moves f m
+  unfolding numbered sampleAsked shownAsked cornerAsked labelAsked onlyIf
+  played =
+      record {
+        sample = λ bone channel at h k l. ap numbered (every-sample F table M moves f m e bone channel at) ∙ rw (lt-ltb bone (length (m .bones)) h, lt-ltb channel 10 k, lt-ltb at (framesOf m) l);
+        shown = λ face at h l. ap numbered (every-shown F table M moves f m e face at) ∙ rw (lt-ltb face (length (facesOf f)) h, lt-ltb at (framesOf m) l);
+        corner = λ face k h l. ap numbered (every-corner F table M moves f m e face k) ∙ rw (lt-ltb face (length (facesOf f)) h, lt-ltb k (faceOf f face .size) l);
+        label = λ bone h. ap numbered (every-label F table M moves f m e bone) ∙ rw (lt-ltb bone (length (f .bones)) (rw same-bones h), lt-ltb bone (length (m .bones)) h);
+        bones = same-bones;
+        on-key = λ bone channel i h k l. on-key-at (m .totalFrames) _ (sound bone channel h k) i l;
+        between = λ bone channel i at h k l a b. between-at (m .totalFrames) _ (sound bone channel h k) i l at a b;
+        past-last = λ bone channel i at h k l a. past-last-at (m .totalFrames) _ (sound bone channel h k) i l at a;
+        lowest = λ bone channel at h k. sample-lowest (m .totalFrames) _ at (sound bone channel h k);
+        every-sample = every-sample F table M moves f m e;
+        every-shown = every-shown F table M moves f m e;
+        every-corner = every-corner F table M moves f m e;
+        every-label = every-label F table M moves f m e;
+      }
+
+pub demand-3 : Demand3
+demand-3 = played

@@ -1,48 +1,35 @@
--- Demand 3: on what loading leaves, each lookup is what the two texts' lists say; by the theorems on each taken text, joined by rule 20 for Shown and by the names for Label.
-use mathlib.Core.Path.{_≡_, refl, ap, ap₂, sym, _∙_}
-use mathlib.Core.List.{List, _++_}
-use mathlib.Core.Bool.{Bool, true, false, _&&_}
-use mathlib.Core.Option.{Option, none, some}
-use Prim.Native.Nat.{ℕ, suc, _≤_, _<_}
-use borrow.Author.Tests.{lt-ltb, eqb-true}
-use native.Mathlib.Omega.{arith}
-use lib.Dec.{eqb}
+-- On what loading leaves, each lookup is what the two texts' lists say, whatever is asked; by the theorems on each taken text, joined by rule 20 for Shown and by the names for Label.
+use mathlib.Core.Path.{_≡_, ap, ap₂, _∙_}
+use mathlib.Core.List.{List}
+use Prim.Native.Nat.{ℕ}
 use lib.IntN.{ℤ}
-use lib.ListN.{length, drop, length-map}
-use Rattle.lexer.specs.Faults.{clear, fault}
-use Rattle.lexer.proofs.Scanning.{fault-not-clear}
+use lib.ListN.{length, drop}
 use Rattle.chunks.specs.Outcomes.{accepted}
 use Rattle.bac6_text.specs.Figure.{Figure}
-use Rattle.bac6_text.specs.Rules.{facesOf, figureFault}
 use Rattle.bac6_text.specs.Layout as figures
 use Rattle.bac6_text.specs.Answer.{figureAnswer, tableAfter}
 use Rattle.bac6.specs.Answers as bac6
 use Rattle.tra4_text.specs.Movement.{Movement}
-use Rattle.tra4_text.specs.Rules.{framesFault, keyFine}
-use Rattle.tra4_text.specs.Layout as movements
 use Rattle.tra4_text.specs.Answer.{movementAnswer, movementTable}
 use Rattle.tra4.specs.Answers as tra4
 use Rattle.player.specs.declared.counts.FigureCounts.{FigureCounts}
 use Rattle.player.specs.declared.counts.MovementCounts.{MovementCounts}
-use Rattle.player.specs.Lookups.{onlyIf, sampleIn, cornerIn, shownIn}
-use Rattle.player.specs.Answers.{numbered}
-use Rattle.player_laws.proofs.Keys.{on-key-at, between-at, past-last-at, sample-lowest}
+use Rattle.player.specs.Lookups.{sampleIn, cornerIn, shownIn}
 use Rattle.player_label.specs.Labels.{labelIn}
 use Rattle.movement_bridge.specs.Counts as movement
 use Rattle.movement_bridge.proofs.Tables.{movement-holds, whole-read, table-read}
-use Rattle.movement_bridge.proofs.Sampling.{channel-sound}
 use Rattle.figure_bridge.specs.Rows as figure
 use Rattle.figure_bridge.proofs.Texts.{counts-are, figure-taken, whole-figure, figure-table}
-use Rattle.pair_text.specs.Rules.{figureNames, bonesFault}
+use Rattle.pair_text.specs.Rules.{figureNames}
 use Rattle.pair_text.specs.Answer.{Loaded, loaded, pairAnswer, figureLeft, movementOf, movementLeft}
 use Rattle.pair_text.proofs.Taken as pairs
-use Rattle.pair_bridge.specs.Playing.{framesOf, sampleAsked, cornerAsked, shownAsked, labelAsked}
+use Rattle.pair_bridge.specs.Playing.{sampleAsked, cornerAsked, shownAsked, labelAsked}
 use Rattle.pair_bridge.proofs.Lookups.{sample-asked, corner-asked, shown-asked}
 use Rattle.pair_bridge.proofs.Labels.{label-read}
 use Rattle.pair_load.specs.Answers.{pairReply}
 use Rattle.pair_load.proofs.Standing.{figure-stands, movement-stands}
-use Rattle.shoalbutton.specs.Demands.{answer, reply, tableLeft, movesLeft, Played, Demand3}
-use Rattle.shoalbutton.proofs.Taken.{figure-alone, movement-alone, parts-taken, figure-left, moves-left}
+use Rattle.pair_play.specs.Playing.{reply, tableLeft, movesLeft}
+use Rattle.pair_play.proofs.Parts.{figure-alone, movement-alone, parts-taken, figure-left, moves-left}
 
 module _ (F : List ℕ) (table : List ℤ) (M : List ℕ) (moves : List ℤ) (f : Figure) (m : Movement) (e : pairAnswer F (length table) M (length moves) ≡ loaded (f, m)) where
   abbrev parts : pairs.PairTaken (figureAnswer F (length table)) (movementAnswer M (length moves)) f m
@@ -93,39 +80,11 @@ module _ (F : List ℕ) (table : List ℤ) (M : List ℕ) (moves : List ℤ) (f 
       ∙ ap₂ (λ (k : MovementCounts) (u : List ℤ). labelIn F (figure.countsIn (bac6.answerOf (accepted f))) (tableAfter F table) M k u bone) movement-counts moves-is
       ∙ label-alone bone
 
-  -- rule 18
-  same-bones : length (f .bones) ≡ length (m .bones)
-  unfolding bonesFault figureNames
-  same-bones = sym (length-map (f .bones) _) ∙ go (eqb (length (figureNames f)) (length (m .bones))) refl
-    where
-      go : (v : Bool) → eqb (length (figureNames f)) (length (m .bones)) ≡ v → length (figureNames f) ≡ length (m .bones)
-      go true p = eqb-true _ _ p
-      go false p = absurd (fault-not-clear _ _ (rw (p, bonesFault) at (pairs.bones-kept (figureNames f) (length (f .groups)) m (parts .rules))))
+  -- ---- the same of counts and tables that are those of loading
 
-  -- ---- what exists
+  module _ (n : FigureCounts) (t : List ℤ) (k : MovementCounts) (u : List ℤ) (a : n ≡ reply F table M moves .figure) (b : t ≡ tableLeft F table M moves) (c : k ≡ reply F table M moves .movement) (d : u ≡ movesLeft F table M moves) where
+    pub shown-of : (face at : ℕ) → shownIn n t k u face at ≡ shownAsked f m face at
+    shown-of face at = rw (a, b, c, d) (every-shown face at)
 
-  module _ (bone channel : ℕ) (h : bone < length (m .bones)) (k : channel < 10) where
-    abbrev sound : framesFault 15 (keyFine (m .totalFrames)) none 0 (movement.channelOf m bone channel) ≡ clear
-    sound = channel-sound M moves m (parts .movement) bone channel h k
-
-  pub played : Played F table M moves f m
-  unfolding numbered sampleAsked shownAsked cornerAsked labelAsked onlyIf
-  played =
-      record {
-        sample = λ bone channel at h k l. ap numbered (every-sample bone channel at) ∙ rw (lt-ltb bone (length (m .bones)) h, lt-ltb channel 10 k, lt-ltb at (framesOf m) l);
-        shown = λ face at h l. ap numbered (every-shown face at) ∙ rw (lt-ltb face (length (facesOf f)) h, lt-ltb at (framesOf m) l);
-        corner = λ face k h l. ap numbered (every-corner face k) ∙ rw (lt-ltb face (length (facesOf f)) h, lt-ltb k (figure.faceOf f face .size) l);
-        label = λ bone h. ap numbered (every-label bone) ∙ rw (lt-ltb bone (length (f .bones)) (rw same-bones h), lt-ltb bone (length (m .bones)) h);
-        bones = same-bones;
-        on-key = λ bone channel i h k l. on-key-at (m .totalFrames) _ (sound bone channel h k) i l;
-        between = λ bone channel i at h k l a b. between-at (m .totalFrames) _ (sound bone channel h k) i l at a b;
-        past-last = λ bone channel i at h k l a. past-last-at (m .totalFrames) _ (sound bone channel h k) i l at a;
-        lowest = λ bone channel at h k. sample-lowest (m .totalFrames) _ at (sound bone channel h k);
-        every-sample = every-sample;
-        every-shown = every-shown;
-        every-corner = every-corner;
-        every-label = every-label;
-      }
-
-pub demand-3 : Demand3
-demand-3 = played
+    pub label-of : (bone : ℕ) → labelIn F n t M k u bone ≡ labelAsked f m bone
+    label-of bone = rw (a, b, c, d) (every-label bone)

@@ -1,0 +1,233 @@
+// Calls that load a pair and then play it: the two texts are lent with two tables, and the answer speaks of the texts alone.
+ghost use mathlib.Core.Path.{_≡_};
+ghost use lib.ListN.{length};
+ghost use Rattle.bac6_text.specs.Figure.{Figure};
+ghost use Rattle.tra4_text.specs.Movement.{Movement};
+ghost use Rattle.player.specs.Answers.{sampled, cornered, showed};
+ghost use Rattle.pair_text.specs.Answer.{pairAnswer, figureLeft, movementOf, movementLeft};
+ghost use Rattle.pair_bridge.specs.Playing.{sampleAsked, cornerAsked, shownAsked, labelAsked};
+ghost use Rattle.pair_play.specs.Playing.{played, sampleTold, cornerTold, shownTold, refusalOf, bytesOf};
+use lexer::part;
+use pair_load::load;
+use player::Cornered;
+use player::Sampled;
+use player::Visibility;
+
+// A refusal's number, place and file, and a refused value; or zeros and the value.
+pub struct PlayedSample {
+    pub refusal: usize,
+    pub place: usize,
+    pub file: usize,
+    pub value: Sampled,
+}
+
+pub struct PlayedCorner {
+    pub refusal: usize,
+    pub place: usize,
+    pub file: usize,
+    pub value: Cornered,
+}
+
+pub struct PlayedShown {
+    pub refusal: usize,
+    pub place: usize,
+    pub file: usize,
+    pub value: Visibility,
+}
+
+pub struct Refusal {
+    pub number: usize,
+    pub place: usize,
+    pub file: usize,
+}
+
+fn sample_number(value: Sampled) -> usize
+    ensures { λ r. ⌜ r ≡ sampled value .0 ⌝ }
+{
+    match value {
+        Sampled::Refused => 21,
+        Sampled::Value {
+            numerator,
+            denominator,
+        } => 0,
+    }
+}
+
+fn corner_number(value: Cornered) -> usize
+    ensures { λ r. ⌜ r ≡ cornered value .0 ⌝ }
+{
+    match value {
+        Cornered::Refused => 21,
+        Cornered::Plain {
+            x,
+            y,
+            z,
+            owner,
+            material,
+        } => 0,
+        Cornered::Textured {
+            x,
+            y,
+            z,
+            owner,
+            material,
+            u,
+            v,
+        } => 0,
+    }
+}
+
+fn shown_number(value: Visibility) -> usize
+    ensures { λ r. ⌜ r ≡ showed value .0 ⌝ }
+{
+    match value {
+        Visibility::Refused => 21,
+        Visibility::Shown => 0,
+        Visibility::Hidden => 0,
+    }
+}
+
+pub fn played_sample(
+    figure: &[u8],
+    movement: &[u8],
+    table: &mut [i64],
+    moves: &mut [i64],
+    bone: usize,
+    channel: usize,
+    at: usize,
+) -> PlayedSample
+    ensures answer { λ r. ⌜ sampleTold r ≡ played (pairAnswer (now (figure .entry)) (length (now (table .entry))) (now (movement .entry)) (length (now (moves .entry)))) (λ f m. sampleAsked m bone channel at) ⌝ }
+    ensures figure { λ r. ⌜ now (table .exit) ≡ figureLeft (now (table .entry)) (pairAnswer (now (figure .entry)) (length (now (table .entry))) (now (movement .entry)) (length (now (moves .entry)))) ⌝ }
+    ensures movement { λ r. ⌜ now (moves .exit) ≡ movementLeft (now (moves .entry)) (movementOf (pairAnswer (now (figure .entry)) (length (now (table .entry))) (now (movement .entry)) (length (now (moves .entry))))) ⌝ }
+{
+    let a = load(figure, movement, table, moves);
+    if a.figure_total == 0 {
+        return PlayedSample {
+            refusal: a.refusal,
+            place: a.place,
+            file: a.file,
+            value: Sampled::Refused,
+        };
+    }
+    let m = a.movement;
+    let value = player::sample(moves, m, bone, channel, at);
+    PlayedSample {
+        refusal: sample_number(value),
+        place: 0,
+        file: 0,
+        value,
+    }
+}
+
+pub fn played_corner(
+    figure: &[u8],
+    movement: &[u8],
+    table: &mut [i64],
+    moves: &mut [i64],
+    face: usize,
+    k: usize,
+) -> PlayedCorner
+    ensures answer { λ r. ⌜ cornerTold r ≡ played (pairAnswer (now (figure .entry)) (length (now (table .entry))) (now (movement .entry)) (length (now (moves .entry)))) (λ f m. cornerAsked f face k) ⌝ }
+    ensures figure { λ r. ⌜ now (table .exit) ≡ figureLeft (now (table .entry)) (pairAnswer (now (figure .entry)) (length (now (table .entry))) (now (movement .entry)) (length (now (moves .entry)))) ⌝ }
+    ensures movement { λ r. ⌜ now (moves .exit) ≡ movementLeft (now (moves .entry)) (movementOf (pairAnswer (now (figure .entry)) (length (now (table .entry))) (now (movement .entry)) (length (now (moves .entry))))) ⌝ }
+{
+    let a = load(figure, movement, table, moves);
+    if a.figure_total == 0 {
+        return PlayedCorner {
+            refusal: a.refusal,
+            place: a.place,
+            file: a.file,
+            value: Cornered::Refused,
+        };
+    }
+    let n = a.figure;
+    let value = player::corner(table, n, face, k);
+    PlayedCorner {
+        refusal: corner_number(value),
+        place: 0,
+        file: 0,
+        value,
+    }
+}
+
+pub fn played_shown(
+    figure: &[u8],
+    movement: &[u8],
+    table: &mut [i64],
+    moves: &mut [i64],
+    face: usize,
+    at: usize,
+) -> PlayedShown
+    ensures answer { λ r. ⌜ shownTold r ≡ played (pairAnswer (now (figure .entry)) (length (now (table .entry))) (now (movement .entry)) (length (now (moves .entry)))) (λ f m. shownAsked f m face at) ⌝ }
+    ensures figure { λ r. ⌜ now (table .exit) ≡ figureLeft (now (table .entry)) (pairAnswer (now (figure .entry)) (length (now (table .entry))) (now (movement .entry)) (length (now (moves .entry)))) ⌝ }
+    ensures movement { λ r. ⌜ now (moves .exit) ≡ movementLeft (now (moves .entry)) (movementOf (pairAnswer (now (figure .entry)) (length (now (table .entry))) (now (movement .entry)) (length (now (moves .entry))))) ⌝ }
+{
+    let a = load(figure, movement, table, moves);
+    if a.figure_total == 0 {
+        return PlayedShown {
+            refusal: a.refusal,
+            place: a.place,
+            file: a.file,
+            value: Visibility::Refused,
+        };
+    }
+    let n = a.figure;
+    let m = a.movement;
+    let value = player::shown(table, n, moves, m, face, at);
+    PlayedShown {
+        refusal: shown_number(value),
+        place: 0,
+        file: 0,
+        value,
+    }
+}
+
+// A part of one of the two texts; where the pair is refused or has no such bone, an empty one.
+pub fn played_label<'a>(
+    figure: &'a [u8],
+    movement: &'a [u8],
+    table: &mut [i64],
+    moves: &mut [i64],
+    bone: usize,
+) -> &'a [u8]
+    ensures answer { λ r. ⌜ now r ≡ bytesOf (played (pairAnswer (now (figure .entry)) (length (now (table .entry))) (now (movement .entry)) (length (now (moves .entry)))) (λ f m. labelAsked f m bone)) ⌝ }
+    ensures figure { λ r. ⌜ now (table .exit) ≡ figureLeft (now (table .entry)) (pairAnswer (now (figure .entry)) (length (now (table .entry))) (now (movement .entry)) (length (now (moves .entry)))) ⌝ }
+    ensures movement { λ r. ⌜ now (moves .exit) ≡ movementLeft (now (moves .entry)) (movementOf (pairAnswer (now (figure .entry)) (length (now (table .entry))) (now (movement .entry)) (length (now (moves .entry))))) ⌝ }
+{
+    let a = load(figure, movement, table, moves);
+    if a.figure_total == 0 {
+        return part(figure, 0, 0);
+    }
+    let n = a.figure;
+    let m = a.movement;
+    player_label::label(figure, table, n, movement, moves, m, bone)
+}
+
+// Its number, place and file.
+pub fn played_label_number(
+    figure: &[u8],
+    movement: &[u8],
+    table: &mut [i64],
+    moves: &mut [i64],
+    bone: usize,
+) -> Refusal
+    ensures answer { λ r. ⌜ r ≡ refusalOf (played (pairAnswer (now (figure .entry)) (length (now (table .entry))) (now (movement .entry)) (length (now (moves .entry)))) (λ f m. labelAsked f m bone)) ⌝ }
+    ensures figure { λ r. ⌜ now (table .exit) ≡ figureLeft (now (table .entry)) (pairAnswer (now (figure .entry)) (length (now (table .entry))) (now (movement .entry)) (length (now (moves .entry)))) ⌝ }
+    ensures movement { λ r. ⌜ now (moves .exit) ≡ movementLeft (now (moves .entry)) (movementOf (pairAnswer (now (figure .entry)) (length (now (table .entry))) (now (movement .entry)) (length (now (moves .entry))))) ⌝ }
+{
+    let a = load(figure, movement, table, moves);
+    if a.figure_total == 0 {
+        return Refusal {
+            number: a.refusal,
+            place: a.place,
+            file: a.file,
+        };
+    }
+    let n = a.figure;
+    let m = a.movement;
+    Refusal {
+        number: player_label::label_number(figure, table, n, movement, moves, m, bone),
+        place: 0,
+        file: 0,
+    }
+}
