@@ -1,5 +1,5 @@
 #!/usr/bin/env bash
-# The programs against the independent reader and player: the papers' samples, sound and damaged texts, and the time.
+# The programs against the independent reader and player: the papers' samples, sound and damaged texts and pairs, and the time.
 # It runs once the programs are built. It needs cargo and rustc, and no network.
 set -eu
 cd "$(dirname "$0")/.."
@@ -8,8 +8,9 @@ figures=${LISTING:-target/bin/listing}
 movements=${MOVEMENT_LISTING:-target/bin/movement_listing}
 corners=${CORNERS:-target/bin/corners}
 samples=${SAMPLES:-target/bin/samples}
+pair=${PAIR:-target/bin/pair}
 shown=${SHOWN:-target/bin/shown}
-for program in "$figures" "$movements" "$corners" "$samples" "$shown"; do
+for program in "$figures" "$movements" "$corners" "$samples" "$pair" "$shown"; do
     [ -x "$program" ] || { echo "$program is not there to run"; exit 1; }
 done
 
@@ -34,4 +35,11 @@ play_kind() { # PROGRAM KIND MEASURED
 }
 play_kind "$corners" figures corners
 play_kind "$samples" movements play
-"$programs/compare" --play "$shown" sound-pairs 3 200
+
+pair_kind() { # HOW PROGRAM MEASURED
+    "$programs/compare" "$1" "$2" sound-pairs 5 200
+    "$programs/compare" "$1" "$2" damaged-pairs 6 300
+    "$programs/measure" "$2" "$3"
+}
+pair_kind --pair "$pair" pairs
+pair_kind --play "$shown" shown

@@ -1,45 +1,10 @@
-// Prints whether each face of a pair is shown at each frame. On standard input stand eight decimal digits giving the figure's
-// length, a line feed, the figure, and then the movement.
-ghost use Prim.Native.Nat.{_≤_};
-ghost use lib.ListN.{length};
-use lexer::Parsed;
+// Loads the pair on standard input and prints whether each face is shown at each frame, or why the pair is refused. The pair
+// is eight decimal digits giving the figure's length, a line feed, the figure, and then the movement.
 use libc::STDIN_FILENO;
 use libc::STDOUT_FILENO;
+use pair_input::Division;
 use player::FigureCounts;
 use player::MovementCounts;
-
-// A length after the first nine bytes, or 0 where it lies past size.
-fn bounded(length: usize, size: usize) -> usize
-    ensures { λ r. ⌜ r ≤ size ⌝ }
-{
-    if size < 9 {
-        return 0;
-    }
-    if size - 9 < length {
-        return 0;
-    }
-    9 + length
-}
-
-// Where the figure ends, or 0 where no such length stands first or the text is shorter.
-fn figure_end(text: &[u8]) -> usize
-    ensures { λ r. ⌜ r ≤ length (now (text .entry)) ⌝ }
-{
-    if text.len() < 9 {
-        return 0;
-    }
-    if text[0] == b'-' {
-        return 0;
-    }
-    if text[8] != b'\n' {
-        return 0;
-    }
-    match lexer::int(&text[0..8]) {
-        Parsed::Value(value) => bounded(lexer::magnitude(value) as usize, text.len()),
-        Parsed::Beyond => 0,
-        Parsed::Malformed => 0,
-    }
-}
 
 // 256 frames at a time, for which 17,664 bytes are enough. What is written to a file no contract can say.
 fn tell_face(
@@ -66,60 +31,40 @@ fn tell_faces(table: &[i64], n: FigureCounts, moves: &[i64], m: MovementCounts, 
     }
 }
 
-fn tell_refusal(number: usize, place: usize) {
-    let mut out = [0u8; 64];
-    let filled = report::first_line(&mut out, b"pair", number, place, 0);
+fn tell_refusal(number: usize, place: usize, file: usize) {
+    let mut out = [0u8; 71];
+    let filled = pair_listing::list_reply(&mut out, number, place, file, 0, 0);
     io::write_all(STDOUT_FILENO, &out[..filled]);
-}
-
-fn tell_movement(table: &[i64], n: FigureCounts, movement: &[u8]) {
-    let mut moves = [0i64; 11779];
-    let answer = tra4::read(movement, &mut moves);
-    if answer.refusal != 0 {
-        tell_refusal(answer.refusal, answer.place);
-        return;
-    }
-    let m = MovementCounts {
-        bones: answer.bones,
-        keys: answer.keys,
-        patterns: answer.patterns,
-    };
-    let total = lexer::magnitude(moves[0]) as usize;
-    tell_faces(table, n, &moves, m, total);
 }
 
 fn tell_pair(figure: &[u8], movement: &[u8]) {
     let mut table = [0i64; 8192];
-    let answer = bac6::read(figure, &mut table);
+    let mut moves = [0i64; 11779];
+    let answer = pair_load::load(figure, movement, &mut table, &mut moves);
     if answer.refusal != 0 {
-        tell_refusal(answer.refusal, answer.place);
+        tell_refusal(answer.refusal, answer.place, answer.file);
         return;
     }
-    let n = FigureCounts {
-        textures: answer.textures,
-        colours: answer.colours,
-        materials: answer.materials,
-        points: answer.points,
-        normals: answer.normals,
-        bones: answer.bones,
-        uvs: answer.uvs,
-        faces: answer.faces,
-        groups: answer.groups,
-    };
-    tell_movement(&table, n, movement);
+    let total = lexer::magnitude(moves[0]) as usize;
+    let n = answer.figure;
+    let m = answer.movement;
+    tell_faces(&table, n, &moves, m, total);
 }
 
-fn tell_text(text: &[u8]) {
-    let end = figure_end(text);
-    if end < 9 {
-        tell_refusal(2, 0);
-        return;
+fn tell_text(text: &[u8], more: usize) {
+    match pair_input::divide(text, more) {
+        Division::Refused(number) => tell_refusal(number, 0, 0),
+        Division::Figure(end) => tell_pair(
+            lexer::part(text, 9, end),
+            lexer::part(text, end, text.len()),
+        ),
     }
-    tell_pair(&text[9..end], &text[end..]);
 }
 
+// The head, the longest figure, and one byte more than the longest movement has.
 fn main() {
-    let mut text = [0u8; 131083];
-    let size = io::read_full(STDIN_FILENO, &mut text);
-    tell_text(&text[..size]);
+    let mut text = [0u8; 131082];
+    let input = pair_input::read_input(STDIN_FILENO, &mut text);
+    let size = input.size;
+    tell_text(&text[..size], input.more);
 }
