@@ -3,13 +3,12 @@ use mathlib.Core.Path.{_≡_, refl, ap, sym, _∙_}
 use mathlib.Core.Logic.{_↔_}
 use mathlib.Core.List.{List}
 use mathlib.Core.Bool.{Bool, true, false}
-use mathlib.Core.Option.{none}
 use Prim.Native.Nat.{ℕ, _<_}
 use borrow.Author.Tests.{lt-ltb, eqb-true}
 use lib.Dec.{eqb}
 use lib.IntN.{ℤ}
 use lib.ListN.{length, length-map}
-use Rattle.lexer.specs.Faults.{Fault, clear, Format, bac, tra}
+use Rattle.lexer.specs.Faults.{Fault, Format, bac, tra}
 use Rattle.lexer.proofs.Scanning.{fault-not-clear}
 use Rattle.chunks.specs.Readers.{Reader}
 use Rattle.chunks.specs.Outcomes.{rejected, accepted, outcome, fitted}
@@ -21,7 +20,7 @@ use Rattle.bac6_text.specs.Layout as figures
 use Rattle.bac6_text.specs.Answer.{figureOutcome, figureAnswer, tableAfter}
 use Rattle.tra4_text.specs.Movement.{Movement}
 use Rattle.tra4_text.specs.Grammar.{movement}
-use Rattle.tra4_text.specs.Rules.{framesFault, keyFine, movementFault}
+use Rattle.tra4_text.specs.Rules.{movementFault}
 use Rattle.tra4_text.specs.Layout as movements
 use Rattle.tra4_text.specs.Answer.{movementOutcome, movementAnswer, movementTable}
 use Rattle.movement_bridge.proofs.Taken.{taken}
@@ -29,7 +28,7 @@ use Rattle.player.specs.Lookups.{onlyIf}
 use Rattle.player.specs.Answers.{numbered}
 use Rattle.player_laws.proofs.Keys.{on-key-at, between-at, past-last-at, sample-lowest}
 use Rattle.movement_bridge.specs.Counts.{channelOf}
-use Rattle.movement_bridge.proofs.Sampling.{channel-sound}
+use Rattle.movement_bridge.proofs.Sampling.{channel-sound, channel-whole}
 use Rattle.movement_bridge.proofs.Tables.{table-read}
 use Rattle.figure_bridge.specs.Rows.{faceOf}
 use Rattle.figure_bridge.proofs.Texts.{figure-table}
@@ -41,7 +40,7 @@ use Rattle.refusal_laws.proofs.Refusals.{figure-refusal, movement-refusal, pair
 use Rattle.refusal_laws.proofs.Answers.{figure-zero, movement-zero, pair-zero}
 use Rattle.pair_play.proofs.Parts.{parts-taken, figure-left, moves-left}
 use Rattle.pair_play.proofs.Loaded.{every-sample, every-corner, every-shown, every-label}
-use Rattle.shoalbutton.specs.Demands.{Keeps, KeepsFigure, KeepsMovement, KeepsPair, Demand1, Demand2, Played, Demand3}
+use Rattle.shoalbutton.specs.Demands.{Keeps, KeepsFigure, KeepsMovement, KeepsPair, Demand1, Demand2, SampleLaws, Played, Demand3}
 
 -- ---- over a format
 
@@ -130,23 +129,27 @@ module _ (F : List ℕ) (table : List ℤ) (M : List ℕ) (moves : List ℤ) (f 
 
   -- ---- what exists
 
-  module _ (bone channel : ℕ) (h : bone < length (m .bones)) (k : channel < 10) where
-    abbrev sound : framesFault 15 (keyFine (m .totalFrames)) none 0 (channelOf m bone channel) ≡ clear
-    sound = channel-sound M moves m (parts .movement) bone channel h k
+  laws : (bone channel : ℕ) → bone < length (m .bones) → channel < 10 → SampleLaws (channelOf m bone channel)
+  laws bone channel h k =
+      let sound = channel-sound M moves m (parts .movement) bone channel h k in
+      record {
+        some-key = channel-whole M moves m (parts .movement) bone channel h k .some-key;
+        on-key = λ i l. on-key-at (m .totalFrames) _ sound i l;
+        between = λ i at l a b. between-at (m .totalFrames) _ sound i l at a b;
+        past-last = λ i at l a. past-last-at (m .totalFrames) _ sound i l at a;
+        lowest = λ at. sample-lowest (m .totalFrames) _ at sound;
+      }
 
-  pub played : Played F table M moves f m
+  played : Played F table M moves f m
   unfolding numbered sampleAsked shownAsked cornerAsked labelAsked onlyIf
   played =
       record {
         sample = λ bone channel at h k l. ap numbered (every-sample F table M moves f m e bone channel at) ∙ rw (lt-ltb bone (length (m .bones)) h, lt-ltb channel 10 k, lt-ltb at (framesOf m) l);
         shown = λ face at h l. ap numbered (every-shown F table M moves f m e face at) ∙ rw (lt-ltb face (length (facesOf f)) h, lt-ltb at (framesOf m) l);
-        corner = λ face k h l. ap numbered (every-corner F table M moves f m e face k) ∙ rw (lt-ltb face (length (facesOf f)) h, lt-ltb k (faceOf f face .size) l);
+        corner = λ face i h l. ap numbered (every-corner F table M moves f m e face i) ∙ rw (lt-ltb face (length (facesOf f)) h, lt-ltb i (faceOf f face .size) l);
         label = λ bone h. ap numbered (every-label F table M moves f m e bone) ∙ rw (lt-ltb bone (length (f .bones)) (rw same-bones h), lt-ltb bone (length (m .bones)) h);
         bones = same-bones;
-        on-key = λ bone channel i h k l. on-key-at (m .totalFrames) _ (sound bone channel h k) i l;
-        between = λ bone channel i at h k l a b. between-at (m .totalFrames) _ (sound bone channel h k) i l at a b;
-        past-last = λ bone channel i at h k l a. past-last-at (m .totalFrames) _ (sound bone channel h k) i l at a;
-        lowest = λ bone channel at h k. sample-lowest (m .totalFrames) _ at (sound bone channel h k);
+        laws = laws;
         every-sample = every-sample F table M moves f m e;
         every-shown = every-shown F table M moves f m e;
         every-corner = every-corner F table M moves f m e;

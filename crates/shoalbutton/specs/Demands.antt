@@ -16,11 +16,13 @@ use Rattle.bac6_text.specs.Grammar.{figure}
 use Rattle.bac6_text.specs.Rules.{facesOf, figureFault}
 use Rattle.bac6_text.specs.Layout as figures
 use Rattle.bac6_text.specs.Answer.{figureAnswer, tableAfter}
-use Rattle.tra4_text.specs.Movement.{Movement}
+use Rattle.tra4_text.specs.Movement.{Channel, Movement}
 use Rattle.tra4_text.specs.Grammar.{movement}
 use Rattle.tra4_text.specs.Rules.{movementFault}
 use Rattle.tra4_text.specs.Layout as movements
 use Rattle.tra4_text.specs.Answer.{movementAnswer, movementTable}
+use Rattle.player.specs.declared.counts.FigureCounts.{FigureCounts}
+use Rattle.player.specs.declared.counts.MovementCounts.{MovementCounts}
 use Rattle.player.specs.Fractions.{whole}
 use Rattle.player.specs.Samples.{keyFrame, keyValue, sampleOf}
 use Rattle.player.specs.Faces.{cornerOf, shownOf}
@@ -91,25 +93,43 @@ pub record Demand2 : Type 0 where
 
 -- ---- 3: "For every loaded pair, every frame, bone, channel, face and corner, the player's answer equals the one worked out exactly from the two texts alone."
 
+-- a channel's exact sample: on a key the key's value, between two keys not below the smaller nor above the larger, past the last the last's; in lowest terms
+pub record SampleLaws (c : Channel) : Type 0 where
+  pub some-key : 0 < length c
+  pub on-key : (i : ℕ) → i < length c → sampleOf c (keyFrame (keyAt c i)) ≡ whole (keyValue (keyAt c i))
+  pub between : (i at : ℕ) → suc i < length c → keyFrame (keyAt c i) ≤ at → at < keyFrame (keyAt c (suc i)) → Between (keyValue (keyAt c i)) (keyValue (keyAt c (suc i))) (sampleOf c at)
+  pub past-last : (i at : ℕ) → suc i ≡ length c → keyFrame (keyAt c i) ≤ at → sampleOf c at ≡ whole (keyValue (keyAt c i))
+  pub lowest : (at : ℕ) → LowestTerms (sampleOf c at)
+
 -- the two texts, and what the two lent tables held
 module _ (F : List ℕ) (table : List ℤ) (M : List ℕ) (moves : List ℤ) where
+  -- the counts that loading answers, and the tables that it leaves
+  abbrev pub n : FigureCounts
+  n = reply F table M moves .figure
+
+  abbrev pub T : List ℤ
+  T = tableLeft F table M moves
+
+  abbrev pub k : MovementCounts
+  k = reply F table M moves .movement
+
+  abbrev pub U : List ℤ
+  U = movesLeft F table M moves
+
   pub record Played (f : Figure) (m : Movement) : Type 0 where
-    pub sample : (bone channel at : ℕ) → bone < length (m .bones) → channel < 10 → at < framesOf m → numbered (sampleIn (reply F table M moves .movement) (movesLeft F table M moves) bone channel at) ≡ (0, 0, 0, some (sampleOf (channelOf m bone channel) at))
-    pub shown : (face at : ℕ) → face < length (facesOf f) → at < framesOf m → numbered (shownIn (reply F table M moves .figure) (tableLeft F table M moves) (reply F table M moves .movement) (movesLeft F table M moves) face at) ≡ (0, 0, 0, some (shownOf (f .bones) (m .patterns) (groupedFaceOf f face) at))
-    pub corner : (face k : ℕ) → face < length (facesOf f) → k < faceOf f face .size → numbered (cornerIn (reply F table M moves .figure) (tableLeft F table M moves) face k) ≡ (0, 0, 0, some (cornerOf f (faceOf f face) k))
-    pub label : (bone : ℕ) → bone < length (m .bones) → numbered (labelIn F (reply F table M moves .figure) (tableLeft F table M moves) M (reply F table M moves .movement) (movesLeft F table M moves) bone) ≡ (0, 0, 0, some (labelOf (getD (figureNames f) bone []) (getD (movementNames m) bone [])))
+    -- what is in the files
+    pub sample : (bone channel at : ℕ) → bone < length (m .bones) → channel < 10 → at < framesOf m → numbered (sampleIn k U bone channel at) ≡ (0, 0, 0, some (sampleOf (channelOf m bone channel) at))
+    pub shown : (face at : ℕ) → face < length (facesOf f) → at < framesOf m → numbered (shownIn n T k U face at) ≡ (0, 0, 0, some (shownOf (f .bones) (m .patterns) (groupedFaceOf f face) at))
+    pub corner : (face i : ℕ) → face < length (facesOf f) → i < faceOf f face .size → numbered (cornerIn n T face i) ≡ (0, 0, 0, some (cornerOf f (faceOf f face) i))
+    pub label : (bone : ℕ) → bone < length (m .bones) → numbered (labelIn F n T M k U bone) ≡ (0, 0, 0, some (labelOf (getD (figureNames f) bone []) (getD (movementNames m) bone [])))
     -- as many bones in the one as in the other
     pub bones : length (f .bones) ≡ length (m .bones)
-    -- the sample itself: on a key the key's value, between two keys not below the smaller nor above the larger, past the last the last's; in lowest terms
-    pub on-key : (bone channel i : ℕ) → bone < length (m .bones) → channel < 10 → i < length (channelOf m bone channel) → sampleOf (channelOf m bone channel) (keyFrame (keyAt (channelOf m bone channel) i)) ≡ whole (keyValue (keyAt (channelOf m bone channel) i))
-    pub between : (bone channel i at : ℕ) → bone < length (m .bones) → channel < 10 → suc i < length (channelOf m bone channel) → keyFrame (keyAt (channelOf m bone channel) i) ≤ at → at < keyFrame (keyAt (channelOf m bone channel) (suc i)) → Between (keyValue (keyAt (channelOf m bone channel) i)) (keyValue (keyAt (channelOf m bone channel) (suc i))) (sampleOf (channelOf m bone channel) at)
-    pub past-last : (bone channel i at : ℕ) → bone < length (m .bones) → channel < 10 → suc i ≡ length (channelOf m bone channel) → keyFrame (keyAt (channelOf m bone channel) i) ≤ at → sampleOf (channelOf m bone channel) at ≡ whole (keyValue (keyAt (channelOf m bone channel) i))
-    pub lowest : (bone channel at : ℕ) → bone < length (m .bones) → channel < 10 → LowestTerms (sampleOf (channelOf m bone channel) at)
-    -- and whatever is asked: 21 exactly for what is not in the files
-    pub every-sample : (bone channel at : ℕ) → sampleIn (reply F table M moves .movement) (movesLeft F table M moves) bone channel at ≡ sampleAsked m bone channel at
-    pub every-shown : (face at : ℕ) → shownIn (reply F table M moves .figure) (tableLeft F table M moves) (reply F table M moves .movement) (movesLeft F table M moves) face at ≡ shownAsked f m face at
-    pub every-corner : (face k : ℕ) → cornerIn (reply F table M moves .figure) (tableLeft F table M moves) face k ≡ cornerAsked f face k
-    pub every-label : (bone : ℕ) → labelIn F (reply F table M moves .figure) (tableLeft F table M moves) M (reply F table M moves .movement) (movesLeft F table M moves) bone ≡ labelAsked f m bone
+    pub laws : (bone channel : ℕ) → bone < length (m .bones) → channel < 10 → SampleLaws (channelOf m bone channel)
+    -- whatever is asked: 21 exactly for what is not in the files
+    pub every-sample : (bone channel at : ℕ) → sampleIn k U bone channel at ≡ sampleAsked m bone channel at
+    pub every-shown : (face at : ℕ) → shownIn n T k U face at ≡ shownAsked f m face at
+    pub every-corner : (face i : ℕ) → cornerIn n T face i ≡ cornerAsked f face i
+    pub every-label : (bone : ℕ) → labelIn F n T M k U bone ≡ labelAsked f m bone
 
 -- for every two texts and every two tables
 abbrev pub Demand3 : Type 0
