@@ -18,7 +18,7 @@ use Rattle.player.specs.declared.counts.FigureCounts.{FigureCounts}
 use Rattle.player.specs.declared.counts.MovementCounts.{MovementCounts}
 use Rattle.player.specs.Lookups.{onlyIf}
 use Rattle.player_label.specs.Names.{isName, nameSpan, partAt, figureSpan, figureName, movementSpan, movementName, ifTrue}
-use Rattle.player_label.specs.Labels.{labelBy, labelFrom, labelIn, orEmpty}
+use Rattle.player_label.specs.Labels.{labelOf, labelFrom, labelIn, orEmpty}
 use Rattle.pair_listing.specs.Lines.{labelParts}
 
 long-most : (size : ℕ) (place long : ℤ) → isName size place long ≡ true → natAbs long ≤ 255
@@ -35,8 +35,8 @@ span-most text place long = go (isName (length text) place long) refl
     go true e = omega (arith, part-length text (natAbs place) (natAbs place + natAbs long), long-most (length text) place long e)
     go false e = omega arith
 
-by-most : (figure movement : List ℕ) → length figure ≤ 255 → length movement ≤ 255 → length (labelBy figure movement) ≤ 255
-unfolding labelBy
+by-most : (figure movement : List ℕ) → length figure ≤ 255 → length movement ≤ 255 → length (labelOf figure movement) ≤ 255
+unfolding labelOf
 by-most figure [] h k = h
 by-most figure (b ∷ bs) h k = k
 
