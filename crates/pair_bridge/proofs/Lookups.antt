@@ -2,10 +2,9 @@
 use mathlib.Core.Path.{_≡_, refl, ap, sym, _∙_}
 use mathlib.Core.List.{List}
 use mathlib.Core.Bool.{Bool, true, false, _&&_}
-use mathlib.Core.Option.{Option, none, some}
+use mathlib.Core.Option.{Option, none}
 use Prim.Native.Nat.{ℕ, _≤_, _<_}
-use native.Mathlib.Omega.{arith}
-use borrow.Author.Tests.{ltb-true, ltb-false, le-ltb}
+use borrow.Author.Tests.{ltb-true, ltb-false}
 use lib.Dec.{ltb}
 use lib.IntN.{ℤ, pos, natAbs}
 use lib.ListN.{length, getD, drop}
@@ -30,12 +29,12 @@ use Rattle.player.proofs.Sampled as samples
 use Rattle.player.proofs.CornerTests as corners
 use Rattle.player.proofs.ShownTests as shown
 use Rattle.movement_bridge.specs.Counts as movement
-use Rattle.movement_bridge.proofs.Tables.{clean-read, total-clear, movement-holds, total-stands}
+use Rattle.movement_bridge.proofs.Tables.{movement-holds, total-stands}
 use Rattle.movement_bridge.proofs.Sampling.{sample-from-text}
 use Rattle.figure_bridge.specs.Rows as figure
 use Rattle.figure_bridge.specs.Rows.{faceOf, groupedFaceOf}
 use Rattle.figure_bridge.proofs.Parts.{counts}
-use Rattle.figure_bridge.proofs.Grouped.{groupNumber, rowOf, face-grouped}
+use Rattle.figure_bridge.proofs.Grouped.{groupNumber, face-grouped}
 use Rattle.figure_bridge.proofs.FaceRows.{row-size}
 use Rattle.figure_bridge.proofs.Corners.{figure-holds, face-stands}
 use Rattle.figure_bridge.proofs.Texts.{counts-are, figure-taken, whole-figure, figure-table, corner-from-text, shown-from-text}

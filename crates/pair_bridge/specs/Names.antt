@@ -1,14 +1,14 @@
 -- The names of all bones by the pairs of place and length in a figure's and a movement's table.
 use mathlib.Core.List.{List, [], _∷_}
 use mathlib.Core.Bool.{Bool, true, _&&_}
-use mathlib.Core.Option.{Option, none, some}
+use mathlib.Core.Option.{Option}
 use Prim.Native.Nat.{ℕ, zero, suc}
 use lib.IntN.{ℤ}
 use Rattle.chunks.specs.Fields.{isSome}
 use Rattle.player.specs.declared.counts.FigureCounts.{FigureCounts}
 use Rattle.player.specs.Columns.{holdsFigure}
 use Rattle.player.specs.Lookups.{onlyIf}
-use Rattle.player_label.specs.Names.{figureName, movementName}
+use Rattle.player_label.specs.Names.{figureName}
 use Rattle.player_label.specs.Labels.{orEmpty}
 
 -- so many names from a row on, of what gives a row's name

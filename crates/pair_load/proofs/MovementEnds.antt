@@ -26,7 +26,7 @@ use Rattle.pair_text.specs.Answer.{Loaded, refused, loaded, ifPaired, withMovem
 use Rattle.pair_bridge.specs.Names.{namesFrom, allNamed, namesIn}
 use Rattle.pair_bridge.proofs.Names.{names-length, movement-names-in}
 use Rattle.pair_load.specs.Answers.{withNames, movedAnswer, movedReply}
-use Rattle.pair_load.specs.Tables.{tablesFault}
+use Rattle.pair_rules.specs.Tables.{rowsFault}
 
 -- ---- the figure's names
 
@@ -78,8 +78,8 @@ module _ (figure : List ℕ) (n : FigureCounts) (table : List ℤ) where
 -- ---- a movement that was taken: the rules over the two tables are those of the texts
 
 module _ (text : List ℕ) (table : List ℤ) (m : Movement) (taken : movementAnswer text (length table) ≡ accepted m) (stands : (i : ℕ) → i < length (m .bones) → StringAt text (boneName (m .bones) i .at) (boneName (m .bones) i .bytes)) (figure : List ℕ) (n : FigureCounts) (rows : List ℤ) where
-  pub tables-are : tablesFault figure n rows text (countsRead m) (movementTable text table) ≡ pairFault (names figure n rows) (n .groups) m
-  unfolding tablesFault pairFault countsIn answerOf
+  pub tables-are : rowsFault figure n rows text (countsRead m) (movementTable text table) ≡ pairFault (names figure n rows) (n .groups) m
+  unfolding rowsFault pairFault countsIn answerOf
   tables-are =
       rw (names-length (figureName figure n rows) 0 (n .bones), movement-names-in text m (whole-read text table m taken) (movementTable text table) _ (table-read text table m taken) stands, patterns-stand text table m taken)
 

@@ -1,6 +1,6 @@
 -- What loading a pair answers at each end of the code: the figure refused or its table too short, the movement refused, or both taken; the second half is the movement's with the figure's own table.
-use mathlib.Core.Path.{_≡_, refl, ap, sym, _∙_}
-use mathlib.Core.List.{List, _++_}
+use mathlib.Core.Path.{_≡_, refl, ap, sym}
+use mathlib.Core.List.{List}
 use mathlib.Core.Option.{some}
 use Prim.Native.Nat.{ℕ, _<_}
 use native.Mathlib.Omega.{arith}

@@ -1,5 +1,5 @@
 -- The names of the bones of a text that is taken stand in it, row by row: a taken text passes the refusals 1 to 4, and its grammar gives the names.
-use mathlib.Core.Path.{_≡_, refl, ap, sym, _∙_}
+use mathlib.Core.Path.{_≡_, ap, _∙_}
 use mathlib.Core.List.{List, [], _∷_, map}
 use Prim.Native.Nat.{ℕ, zero, suc, _<_}
 use native.Mathlib.Nat.{le-refl}
@@ -7,9 +7,8 @@ use native.Mathlib.Omega.{arith}
 use lib.ListN.{length, getD}
 use Rattle.lexer.specs.Every.{Every}
 use Rattle.lexer.specs.Strings.{StringAt}
-use Rattle.lexer.specs.Faults.{Fault, Format, bac, tra}
-use Rattle.lexer.specs.Tokens.{lex}
-use Rattle.chunks.specs.Readers.{Reader, Name, absent}
+use Rattle.lexer.specs.Faults.{bac, tra}
+use Rattle.chunks.specs.Readers.{Name, absent}
 use Rattle.chunks.specs.Outcomes.{accepted, fitted}
 use Rattle.chunks.proofs.Outcomes.{fitted-room, accepted-clear}
 use Rattle.bac6_text.specs.Figure as bac6

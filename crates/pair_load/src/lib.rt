@@ -1,7 +1,5 @@
 // Loads a figure and a movement as a pair.
-mod fault;
 mod moving;
-mod names;
 mod pair;
 
 pub use moving::load_movement;

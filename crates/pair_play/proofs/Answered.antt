@@ -1,5 +1,5 @@
 -- What loading a pair and then playing it answers: the pair's refusal, or what is asked of the two texts. A total of 0 is a refusal's.
-use mathlib.Core.Path.{_≡_, refl, ap, sym, _∙_}
+use mathlib.Core.Path.{_≡_, refl, ap, _∙_}
 use mathlib.Core.List.{List}
 use mathlib.Core.Option.{Option, none, some}
 use Prim.Native.Nat.{ℕ, _<_}
@@ -8,8 +8,6 @@ use lib.ListN.{length}
 use Rattle.bac6_text.specs.Figure.{Figure}
 use Rattle.bac6_text.specs.Layout.{layoutOf, nameNumbers}
 use Rattle.tra4_text.specs.Movement.{Movement}
-use Rattle.player.specs.Fractions.{Fraction}
-use Rattle.player.specs.Faces.{CornerOf}
 use Rattle.player.specs.Answers.{numbered}
 use Rattle.player_label.specs.Labels.{orEmpty}
 use Rattle.pair_text.specs.Answer.{Loaded, refused, loaded}

@@ -1,20 +1,19 @@
 -- Worked pairs, by computation: both sides of the rules 18 to 20, each with its place, which of two faults comes first, and the file of each.
 use mathlib.Core.Path.{_≡_, refl}
 use mathlib.Core.List.{List, [], _∷_, map}
-use mathlib.Core.Bool.{Bool, true, false}
 use Prim.Native.Nat.{ℕ}
 use Prim.Native.String.{String}
-use lib.IntN.{ℤ, pos, negsuc}
+use lib.IntN.{ℤ, pos}
 use Rattle.lexer.specs.Bytes.{bytes, same}
 use Rattle.lexer.specs.Faults.{Fault, clear, fault}
 use Rattle.chunks.specs.Readers.{absent}
 use Rattle.chunks.specs.Rules.{orElse}
-use Rattle.chunks.specs.Outcomes.{Outcome, rejected, accepted}
+use Rattle.chunks.specs.Outcomes.{rejected, accepted}
 use Rattle.bac6_text.specs.Figure.{Figure}
 use Rattle.bac6_text.specs.Rules.{isRow, firstBad}
 use Rattle.tra4_text.specs.Movement.{Bone, Movement, groupOf}
 use Rattle.pair_text.specs.Rules.{bonesFault, namesAgree, namesFault, groupsFault, movementNames, pairFault}
-use Rattle.pair_text.specs.Answer.{Loaded, refused, ifPaired, withMovement, withFigure, paired}
+use Rattle.pair_text.specs.Answer.{refused, withMovement, withFigure, paired}
 
 abbrev named : String → Bone
 named s = record { name = record { at = 0; bytes = bytes s }; channels = [] }

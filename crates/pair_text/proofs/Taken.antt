@@ -1,5 +1,5 @@
 -- A pair is loaded exactly where both texts are taken and no rule of pairs is broken, by going back through the answer's steps.
-use mathlib.Core.Path.{_≡_, refl, ap, sym, _∙_}
+use mathlib.Core.Path.{_≡_, refl, ap}
 use mathlib.Core.List.{List}
 use Prim.Native.Nat.{ℕ}
 use native.Mathlib.Omega.{arith}

@@ -1,18 +1,18 @@
--- Demands 2 and 3. A text is taken exactly when it keeps the rules, by going back through the answer's steps and forth again; a pair likewise. Each lookup on a loaded pair is the texts' own answer.
+-- The demands. A text is taken exactly when it keeps the rules, by going back through the answer's steps and forth again; a pair likewise. Each lookup on a loaded pair is the texts' own answer.
 use mathlib.Core.Path.{_≡_, refl, ap, sym, _∙_}
 use mathlib.Core.Logic.{_↔_}
-use mathlib.Core.List.{List, _++_}
-use mathlib.Core.Bool.{Bool, true, false, _&&_}
-use mathlib.Core.Option.{none, some}
+use mathlib.Core.List.{List}
+use mathlib.Core.Bool.{Bool, true, false}
+use mathlib.Core.Option.{none}
 use Prim.Native.Nat.{ℕ, _<_}
 use borrow.Author.Tests.{lt-ltb, eqb-true}
 use lib.Dec.{eqb}
 use lib.IntN.{ℤ}
-use lib.ListN.{length, drop, length-map}
+use lib.ListN.{length, length-map}
 use Rattle.lexer.specs.Faults.{Fault, clear, Format, bac, tra}
 use Rattle.lexer.proofs.Scanning.{fault-not-clear}
 use Rattle.chunks.specs.Readers.{Reader}
-use Rattle.chunks.specs.Outcomes.{Outcome, rejected, accepted, outcome, fitted, laid}
+use Rattle.chunks.specs.Outcomes.{rejected, accepted, outcome, fitted}
 use Rattle.chunks.proofs.Outcomes.{text-clear, all-taken, fitted-room, accepted-clear, laid-rejected}
 use Rattle.bac6_text.specs.Figure.{Figure}
 use Rattle.bac6_text.specs.Grammar.{figure}
@@ -37,9 +37,11 @@ use Rattle.pair_text.specs.Answer.{refused, loaded, paired, pairAnswer, figureL
 use Rattle.pair_text.proofs.Taken as pairs
 use Rattle.pair_text.specs.Rules.{figureNames, bonesFault}
 use Rattle.pair_bridge.specs.Playing.{framesOf, sampleAsked, cornerAsked, shownAsked, labelAsked}
+use Rattle.refusal_laws.proofs.Refusals.{figure-refusal, movement-refusal, pair-refusal}
+use Rattle.refusal_laws.proofs.Answers.{figure-zero, movement-zero, pair-zero}
 use Rattle.pair_play.proofs.Parts.{parts-taken, figure-left, moves-left}
 use Rattle.pair_play.proofs.Loaded.{every-sample, every-corner, every-shown, every-label}
-use Rattle.shoalbutton.specs.Demands.{Keeps, KeepsFigure, KeepsMovement, KeepsPair, Demand2, Played, Demand3}
+use Rattle.shoalbutton.specs.Demands.{Keeps, KeepsFigure, KeepsMovement, KeepsPair, Demand1, Demand2, Played, Demand3}
 
 -- ---- over a format
 
@@ -86,18 +88,29 @@ pair-stays : (table moves : List ℤ) (n p file : ℕ) → (figureLeft table (re
 unfolding figureLeft movementLeft movementOf
 pair-stays table moves n p file = (refl, refl)
 
+pub demand-1 : Demand1
+demand-1 =
+    record {
+      figure-refused = figure-refusal;
+      movement-refused = movement-refusal;
+      pair-refused = pair-refusal;
+      figure-zero = figure-zero;
+      movement-zero = movement-zero;
+      pair-zero = pair-zero;
+      figure-stays = figure-stays;
+      movement-stays = movement-stays;
+      pair-stays = pair-stays;
+    }
+
 pub demand-2 : Demand2
 demand-2 =
     record {
       figure-taken = figure-exactly;
       figure-held = figure-table;
-      figure-stays = figure-stays;
       movement-taken = movement-exactly;
       movement-held = table-read;
-      movement-stays = movement-stays;
       pair-taken = λ F room M space f m. (pair-keeps F room M space f m, keeps-pair F room M space f m);
       pair-held = λ F table M moves f m e. (figure-left F table M moves f m e, moves-left F table M moves f m e);
-      pair-stays = pair-stays;
     }
 
 -- ---- demand 3

@@ -1,4 +1,5 @@
--- The user's demands 2 and 3, as statements over the definitions that the calls of this crate equal. proofs/Demands.antt gives them.
+-- The user's demands, as statements over the definitions that the calls of this crate equal. proofs/Demands.antt gives them.
+-- That every call ends and answers is what a proved crate is; each call's contract has no `requires`.
 use mathlib.Core.Path.{_≡_}
 use mathlib.Core.Logic.{_↔_}
 use mathlib.Core.List.{List, [], _++_}
@@ -32,7 +33,26 @@ use Rattle.figure_bridge.specs.Rows.{faceOf, groupedFaceOf}
 use Rattle.pair_text.specs.Rules.{figureNames, movementNames, pairFault}
 use Rattle.pair_text.specs.Answer.{refused, loaded, pairAnswer, figureLeft, movementOf, movementLeft}
 use Rattle.pair_bridge.specs.Playing.{framesOf, sampleAsked, cornerAsked, shownAsked, labelAsked}
+use Rattle.bac6.specs.Answers as bac6
+use Rattle.tra4.specs.Answers as tra4
+use Rattle.pair_load.specs.Answers.{pairReply}
+use Rattle.refusal_laws.specs.Numbers.{figureNumbers, movementNumbers, Refusal, numbersOf, textOf, IsTaken, IsLoaded}
 use Rattle.pair_play.specs.Playing.{reply, tableLeft, movesLeft}
+
+-- ---- 1: "a refusal has its fixed number and place, and lent tables stay untouched": the number is one that 01 gives for the file, never 0
+
+pub record Demand1 : Type 0 where
+  pub figure-refused : (text : List ℕ) (room n p : ℕ) → figureAnswer text room ≡ rejected n p → Refusal figureNumbers text n p
+  pub movement-refused : (text : List ℕ) (room n p : ℕ) → movementAnswer text room ≡ rejected n p → Refusal movementNumbers text n p
+  pub pair-refused : (F : List ℕ) (room : ℕ) (M : List ℕ) (space n p file : ℕ) → pairAnswer F room M space ≡ refused n p file → Refusal (numbersOf file) (textOf file F M) n p
+  -- so an answer's refusal is 0 exactly where the text is taken
+  pub figure-zero : (text : List ℕ) (room : ℕ) → bac6.answerOf (figureAnswer text room) .refusal ≡ 0 ↔ IsTaken (figureAnswer text room)
+  pub movement-zero : (text : List ℕ) (room : ℕ) → tra4.answerOf (movementAnswer text room) .refusal ≡ 0 ↔ IsTaken (movementAnswer text room)
+  pub pair-zero : (F : List ℕ) (room : ℕ) (M : List ℕ) (space : ℕ) → pairReply (pairAnswer F room M space) .refusal ≡ 0 ↔ IsLoaded (pairAnswer F room M space)
+  -- and a table stays as it was where the text is refused
+  pub figure-stays : (text : List ℕ) (table : List ℤ) (n p : ℕ) → figureAnswer text (length table) ≡ rejected n p → tableAfter text table ≡ table
+  pub movement-stays : (text : List ℕ) (table : List ℤ) (n p : ℕ) → movementAnswer text (length table) ≡ rejected n p → movementTable text table ≡ table
+  pub pair-stays : (table moves : List ℤ) (n p file : ℕ) → (figureLeft table (refused n p file) ≡ table) × (movementLeft moves (movementOf (refused n p file)) ≡ moves)
 
 -- ---- 2: "A text is taken exactly when it keeps the rules, and the tables then hold what the text says, every decimal digit. A pair likewise."
 
@@ -63,14 +83,11 @@ pub record KeepsPair (F : List ℕ) (room : ℕ) (M : List ℕ) (space : ℕ) (f
 pub record Demand2 : Type 0 where
   pub figure-taken : (text : List ℕ) (room : ℕ) (f : Figure) → figureAnswer text room ≡ accepted f ↔ KeepsFigure text room f
   pub figure-held : (text : List ℕ) (table : List ℤ) (f : Figure) → figureAnswer text (length table) ≡ accepted f → tableAfter text table ≡ figures.layoutOf f ++ drop (length (figures.layoutOf f)) table
-  pub figure-stays : (text : List ℕ) (table : List ℤ) (n p : ℕ) → figureAnswer text (length table) ≡ rejected n p → tableAfter text table ≡ table
   pub movement-taken : (text : List ℕ) (room : ℕ) (m : Movement) → movementAnswer text room ≡ accepted m ↔ KeepsMovement text room m
   pub movement-held : (text : List ℕ) (table : List ℤ) (m : Movement) → movementAnswer text (length table) ≡ accepted m → movementTable text table ≡ movements.layoutOf m ++ drop (length (movements.layoutOf m)) table
-  pub movement-stays : (text : List ℕ) (table : List ℤ) (n p : ℕ) → movementAnswer text (length table) ≡ rejected n p → movementTable text table ≡ table
   pub pair-taken : (F : List ℕ) (room : ℕ) (M : List ℕ) (space : ℕ) (f : Figure) (m : Movement) → pairAnswer F room M space ≡ loaded (f, m) ↔ KeepsPair F room M space f m
   -- where a pair is taken, each text is taken alone, and each table is what reading it alone leaves
   pub pair-held : (F : List ℕ) (table : List ℤ) (M : List ℕ) (moves : List ℤ) (f : Figure) (m : Movement) (e : pairAnswer F (length table) M (length moves) ≡ loaded (f, m)) → (figureLeft table (loaded (f, m)) ≡ tableAfter F table) × (movementLeft moves (movementOf (loaded (f, m))) ≡ movementTable M moves)
-  pub pair-stays : (table moves : List ℤ) (n p file : ℕ) → (figureLeft table (refused n p file) ≡ table) × (movementLeft moves (movementOf (refused n p file)) ≡ moves)
 
 -- ---- 3: "For every loaded pair, every frame, bone, channel, face and corner, the player's answer equals the one worked out exactly from the two texts alone."
 

@@ -7,7 +7,7 @@ use Rattle.lexer.specs.Bytes.{bytes}
 use Rattle.lexer.specs.Numbers.{Number, value, beyond, wrong, Form, INT, FLOAT, numberOf, refusalOf}
 use Rattle.lexer.specs.Faults.{Fault, clear, fault}
 use Rattle.bac6_text.specs.Rules.{Flags, bonesFault, wholeList, parentsIn}
-use Rattle.tra4_text.specs.Movement.{Channel, Key}
+use Rattle.tra4_text.specs.Movement.{Channel}
 use Rattle.player.specs.Fractions.{Fraction}
 use Rattle.player.specs.Samples.{sampleOf}
 

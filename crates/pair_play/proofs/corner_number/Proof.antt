@@ -1,5 +1,4 @@
 -- `corner_number` is the answer's number, by its cases.
-use mathlib.Core.Path.{refl}
 use Rattle.player.specs.Answers.{cornered}
 use borrow.Author.Needs.{needs}
 use Rattle.pair_play.proofs.corner_number.Statement.{statement}

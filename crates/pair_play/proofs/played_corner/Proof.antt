@@ -1,12 +1,11 @@
 -- `played_corner` answers what the two texts say, or the pair's refusal; the tables are as loading left them.
-use mathlib.Core.Path.{_≡_, refl, ap, ap₂, sym, _∙_}
+use mathlib.Core.Path.{ap, ap₂, _∙_}
 use mathlib.Core.List.{List}
 use denote.Ref.{now}
 use lib.IntN.{ℤ}
 use Rattle.bac6_text.specs.Figure.{Figure}
 use Rattle.tra4_text.specs.Movement.{Movement}
 use Rattle.player.specs.declared.counts.FigureCounts.{FigureCounts}
-use Rattle.player.specs.declared.counts.MovementCounts.{MovementCounts}
 use Rattle.pair_load.specs.declared.pair.PairAnswer.{PairAnswer}
 use Rattle.player.specs.Lookups.{cornerIn}
 use Rattle.player.specs.Answers.{cornered}

@@ -1,17 +1,12 @@
 -- `played_label` answers what the two texts say, or the pair's refusal; the tables are as loading left them.
-use mathlib.Core.Path.{_≡_, refl, ap, ap₂, sym, _∙_}
-use mathlib.Core.List.{List}
+use mathlib.Core.Path.{ap, _∙_}
 use denote.Ref.{now}
-use lib.IntN.{ℤ}
 use Rattle.bac6_text.specs.Figure.{Figure}
 use Rattle.tra4_text.specs.Movement.{Movement}
-use Rattle.player.specs.declared.counts.FigureCounts.{FigureCounts}
-use Rattle.player.specs.declared.counts.MovementCounts.{MovementCounts}
 use Rattle.pair_load.specs.declared.pair.PairAnswer.{PairAnswer}
 use Rattle.lexer.proofs.Parts.{part-none}
 use native.Mathlib.Omega.{arith}
-use Rattle.player_label.specs.Labels.{orEmpty, labelIn}
-use Rattle.player.specs.Answers.{numbered}
+use Rattle.player_label.specs.Labels.{orEmpty}
 use Rattle.pair_bridge.specs.Playing.{labelAsked}
 use Rattle.pair_play.specs.Playing.{bytesOf}
 use Rattle.pair_play.proofs.Loaded.{label-of}

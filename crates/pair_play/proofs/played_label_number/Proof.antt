@@ -1,17 +1,11 @@
 -- `played_label_number` answers what the two texts say, or the pair's refusal; the tables are as loading left them.
-use mathlib.Core.Path.{_≡_, refl, ap, ap₂, sym, _∙_}
-use mathlib.Core.List.{List}
+use mathlib.Core.Path.{ap, _∙_}
 use denote.Ref.{now}
-use lib.IntN.{ℤ}
 use Rattle.bac6_text.specs.Figure.{Figure}
 use Rattle.tra4_text.specs.Movement.{Movement}
-use Rattle.player.specs.declared.counts.FigureCounts.{FigureCounts}
-use Rattle.player.specs.declared.counts.MovementCounts.{MovementCounts}
 use Rattle.pair_load.specs.declared.pair.PairAnswer.{PairAnswer}
-use Rattle.player_label.specs.Labels.{labelIn}
 use Rattle.pair_bridge.specs.Playing.{labelAsked}
 use Rattle.pair_play.specs.Playing.{refusalOf}
-use Rattle.pair_play.specs.declared.Refusal.{Refusal}
 use Prim.Native.Nat.{ℕ}
 use Rattle.pair_play.proofs.Loaded.{label-of}
 use Rattle.pair_play.proofs.Answered.{pair-refused, pair-loaded, by-texts, number-zeros}

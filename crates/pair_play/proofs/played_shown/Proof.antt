@@ -1,14 +1,9 @@
 -- `played_shown` answers what the two texts say, or the pair's refusal; the tables are as loading left them.
-use mathlib.Core.Path.{_≡_, refl, ap, ap₂, sym, _∙_}
-use mathlib.Core.List.{List}
+use mathlib.Core.Path.{ap}
 use denote.Ref.{now}
-use lib.IntN.{ℤ}
 use Rattle.bac6_text.specs.Figure.{Figure}
 use Rattle.tra4_text.specs.Movement.{Movement}
-use Rattle.player.specs.declared.counts.FigureCounts.{FigureCounts}
-use Rattle.player.specs.declared.counts.MovementCounts.{MovementCounts}
 use Rattle.pair_load.specs.declared.pair.PairAnswer.{PairAnswer}
-use Rattle.player.specs.Lookups.{shownIn}
 use Rattle.player.specs.Answers.{showed}
 use Rattle.pair_bridge.specs.Playing.{shownAsked}
 use Rattle.pair_play.specs.Playing.{shownTold}

@@ -1,5 +1,4 @@
 -- `sample_number` is the answer's number, by its cases.
-use mathlib.Core.Path.{refl}
 use Rattle.player.specs.Answers.{sampled}
 use borrow.Author.Needs.{needs}
 use Rattle.pair_play.proofs.sample_number.Statement.{statement}

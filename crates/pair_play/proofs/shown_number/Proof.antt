@@ -1,5 +1,4 @@
 -- `shown_number` is the answer's number, by its cases.
-use mathlib.Core.Path.{refl}
 use Rattle.player.specs.Answers.{showed}
 use borrow.Author.Needs.{needs}
 use Rattle.pair_play.proofs.shown_number.Statement.{statement}

@@ -1,5 +1,5 @@
 -- `load_movement` is the definition: each return is one law of MovementEnds, on what reading gave into a table that holds every layout.
-use mathlib.Core.Path.{_≡_, refl, ap, ap₂, sym, _∙_}
+use mathlib.Core.Path.{_≡_, ap, ap₂, sym, _∙_}
 use mathlib.Core.List.{List, _++_}
 use mathlib.Core.Bool.{true}
 use Prim.Native.Nat.{ℕ, _≤_}
@@ -7,7 +7,7 @@ use native.Mathlib.Omega.{arith}
 use borrow.Author.Tests.{not-true, not-false}
 use denote.Ref.{now}
 use lib.IntN.{ℤ, pos}
-use lib.ListN.{length, take, drop, replicate, length-replicate, length-append, length-take}
+use lib.ListN.{length, drop, replicate, length-replicate, length-append, length-take}
 use Rattle.chunks.specs.Fields.{isSome}
 use Rattle.chunks.specs.Outcomes.{accepted, fitted, laid}
 use Rattle.chunks.proofs.Rules.{refused-by, clear-by}
@@ -21,7 +21,8 @@ use Rattle.pair_text.specs.Rules.{pairFault}
 use Rattle.pair_text.specs.Answer.{movementLeft}
 use Rattle.pair_bridge.specs.Names.{namesIn}
 use Rattle.pair_load.specs.Answers.{movedReply}
-use Rattle.pair_load.specs.Tables.{tablesFault}
+use Rattle.pair_rules.specs.Tables.{rowsFault, tablesFault}
+use Rattle.pair_rules.proofs.Faults.{held-tables}
 use Rattle.pair_load.proofs.Rooms.{movement-held, movement-small, Read, read-refused, read-taken, total-is, read-whole, room-short, room-enough, left-is}
 use Rattle.pair_load.proofs.Standing.{movement-stands}
 use Rattle.pair_load.proofs.MovementEnds.{names, names-some, tables-are, moved-unnamed, moved-rejected, moved-fault, moved-loaded, refused-both}
@@ -70,7 +71,7 @@ module _ (e : tie.Else2) where
   long = let a = ap length laid-down ∙ length-append (layoutOf (took .value)) _ in let b = total-is movement-held 11779 _ _ took in omega arith
 
   ruled : tablesFault (now (e .before .before .before .before .before .before .before .before .args .figure)) (e .before .before .before .before .before .before .before .before .args .n) (now (e .before .before .before .before .before .before .before .before .args .table)) text (countsIn (e .before .before .read .result)) last ≡ pairFault (names (now (e .before .before .before .before .before .before .before .before .args .figure)) (e .before .before .before .before .before .before .before .before .args .n) (now (e .before .before .before .before .before .before .before .before .args .table))) (e .before .before .before .before .before .before .before .before .args .n .groups) (took .value)
-  ruled = ap₂ (tablesFault _ _ _ text) counted left ∙ (tables-are text zeros (took .value) taken (movement-stands text (took .value) (took .alone)) _ _ _)
+  ruled = held-tables _ _ _ _ _ _ (names-some _ _ _ (named (e .before .before .before .before)) .1) holds ∙ ap₂ (rowsFault _ _ _ text) counted left ∙ (tables-are text zeros (took .value) taken (movement-stands text (took .value) (took .alone)) _ _ _)
 
 has-names-requires : tie.Need-has-names-requires
 has-names-requires c κs = search needs
@@ -105,8 +106,7 @@ slice-aggregate-pair-fault : tie.Need-slice-aggregate-pair-fault
 slice-aggregate-pair-fault c = search needs
 
 pair-fault-requires : tie.Need-pair-fault-requires
-unfolding countsIn
-pair-fault-requires c κs = let e = c .before .before in (names-some _ _ _ (named (e .before .before .before .before)) .1, holds e)
+pair-fault-requires c κs = search needs
 
 enum-known-number : tie.Need-enum-known-number
 enum-known-number c = search needs

@@ -1,11 +1,11 @@
 -- `load` is the definition: the figure read into a table that holds every layout, then the movement with it; each return is one law of PairEnds.
-use mathlib.Core.Path.{_≡_, refl, ap, ap₂, sym, _∙_}
+use mathlib.Core.Path.{_≡_, ap, ap₂, sym, _∙_}
 use mathlib.Core.List.{List, _++_}
 use Prim.Native.Nat.{ℕ, _≤_}
 use native.Mathlib.Omega.{arith}
 use denote.Ref.{now}
 use lib.IntN.{ℤ, pos}
-use lib.ListN.{length, take, drop, replicate, length-replicate, length-append, length-take}
+use lib.ListN.{length, drop, replicate, length-replicate, length-append, length-take}
 use Rattle.chunks.specs.Outcomes.{accepted, fitted, laid}
 use Rattle.bac6_text.specs.Layout.{layoutOf}
 use Rattle.bac6_text.specs.Answer.{figureOutcome, figureAnswer, tableAfter}
@@ -16,10 +16,10 @@ use Rattle.player.specs.declared.counts.FigureCounts.{FigureCounts}
 use Rattle.pair_text.specs.Answer.{Loaded, loaded, withFigure, pairAnswer, figureLeft, movementOf, movementLeft}
 use Rattle.bac6_text.specs.Figure.{Figure}
 use Rattle.tra4_text.specs.Movement.{Movement}
-use Rattle.pair_load.specs.Answers.{movedAnswer, movedReply, pairReply}
+use Rattle.pair_load.specs.Answers.{movedAnswer, pairReply}
 use Rattle.pair_load.proofs.Rooms.{figure-held, figure-small, Read, read-refused, read-taken, total-is, read-whole, room-short, room-enough, left-is}
 use Rattle.pair_load.proofs.Standing.{figure-stands}
-use Rattle.pair_load.proofs.PairEnds.{figure-refused, pair-is, half-is, moved-refused, Moved, moved-taken, refused-pair, refused-half, figure-kept, reply-is}
+use Rattle.pair_load.proofs.PairEnds.{figure-refused, pair-is, half-is, moved-refused, moved-taken, refused-pair, refused-half, figure-kept, reply-is}
 use borrow.Author.Needs.{needs}
 use Rattle.pair_load.proofs.pair.load.Statement.{statement}
 use Rattle.pair_load.proofs.pair.load.Tie as tie

@@ -1,0 +1,88 @@
+// The rules 18 to 20 over two tables, their counts and their texts.
+ghost use mathlib.Core.Path.{_≡_};
+ghost use mathlib.Core.Bool.{true};
+ghost use Prim.Native.Nat.{_*_, _≤_};
+ghost use lib.ListN.{length};
+ghost use Rattle.lexer.specs.Answers.{refusal};
+ghost use Rattle.player.specs.Columns.{rowsAt, holdsFigure, holdsMovement};
+ghost use Rattle.pair_text.specs.Rules.{groupsFault};
+ghost use Rattle.pair_rules.specs.Tables.{rowsFault, tablesFault};
+use crate::names::names_fault;
+use lexer::Checked;
+use player::FigureCounts;
+use player::MovementCounts;
+
+// 20, at the first pattern line whose group is none of so many; lines are rows of three numbers.
+fn groups_fault(lines: &[i64], count: usize, groups: usize) -> Checked
+    requires { ⌜ (length (now lines) ≡ count * 3) × (count ≤ 256) ⌝ }
+    ensures { λ r. ⌜ refusal r ≡ groupsFault groups (rowsAt 3 (now (lines .entry)) 0 count) ⌝ }
+{
+    let mut row = 0;
+    while row < count {
+        let group = lines[row * 3 + 1];
+        if !references::is_row(groups, group) {
+            return Checked::Refused {
+                number: 20,
+                offset: row,
+            };
+        }
+        row += 1;
+    }
+    Checked::Clear
+}
+
+// In tables that hold what their counts say.
+fn rows_fault(
+    figure: &[u8],
+    table: &[i64],
+    n: FigureCounts,
+    movement: &[u8],
+    moves: &[i64],
+    m: MovementCounts,
+) -> Checked
+    requires { ⌜ (holdsFigure n (now table) ≡ true) × (holdsMovement m (now moves) ≡ true) ⌝ }
+    ensures { λ r. ⌜ refusal r ≡ rowsFault (now (figure .entry)) n (now (table .entry)) (now (movement .entry)) m (now (moves .entry)) ⌝ }
+{
+    let bones = m.bones;
+    let keys = m.keys;
+    let count = m.patterns;
+    if n.bones != bones {
+        return Checked::Refused {
+            number: 18,
+            offset: bones,
+        };
+    }
+    match names_fault(figure, table, n, movement, moves, m) {
+        Checked::Refused { number, offset } => Checked::Refused { number, offset },
+        Checked::Clear => {
+            let from = 3 + bones * 22 + keys * 2;
+            groups_fault(&moves[from..from + count * 3], count, n.groups)
+        }
+    }
+}
+
+// The first fault of a pair; 21 where a table does not hold what its counts say.
+pub fn pair_fault(
+    figure: &[u8],
+    table: &[i64],
+    n: FigureCounts,
+    movement: &[u8],
+    moves: &[i64],
+    m: MovementCounts,
+) -> Checked
+    ensures { λ r. ⌜ refusal r ≡ tablesFault (now (figure .entry)) n (now (table .entry)) (now (movement .entry)) m (now (moves .entry)) ⌝ }
+{
+    if !player::holds_figure(table, n) {
+        return Checked::Refused {
+            number: 21,
+            offset: 0,
+        };
+    }
+    if !player::holds_movement(moves, m) {
+        return Checked::Refused {
+            number: 21,
+            offset: 0,
+        };
+    }
+    rows_fault(figure, table, n, movement, moves, m)
+}

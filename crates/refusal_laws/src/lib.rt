@@ -1,0 +1,1 @@
+// Which numbers a refusal has: definitions and theorems, and no code.
