@@ -2,7 +2,7 @@
 use mathlib.Core.Path.{_≡_, refl, ap, sym, _∙_}
 use mathlib.Core.Bool.{Bool, true, false, _&&_}
 use mathlib.Core.List.{List}
-use mathlib.Core.Option.{Option, none, some}
+use mathlib.Core.Option.{none, some}
 use Prim.Native.Nat.{ℕ, _+_, _^_, _≤_, _<_}
 use native.Mathlib.Omega.{arith}
 use borrow.Author.Tests.{eq-eqb, ne-eqb}
@@ -11,7 +11,7 @@ use lib.IntN.{ℤ, pos, natAbs}
 use lib.ListN.{length, take, drop, getD, length-take}
 use lib.Seq.{take-all, length-take-le}
 use Rattle.lexer.specs.Bytes.{isDigit, run, part}
-use Rattle.lexer.specs.Numbers.{INT, value, beyond, wrong, numberOf, intOf, intMost, signed, allDigits, decimal, negative, magnitude}
+use Rattle.lexer.specs.Numbers.{INT, value, beyond, wrong, numberOf, intOf, intMost, signed, allDigits, decimal, negative}
 use Rattle.lexer.specs.Answers.{testNamed, numberNamed}
 use Rattle.lexer.specs.declared.bytes.Run.the-variants.{Digits}
 use Rattle.lexer.specs.declared.number.Parsed.{Parsed}

@@ -1,5 +1,4 @@
 -- `list_texts` puts the reply of what `load` answers, and the labels on what it leaves.
-use mathlib.Core.Path.{_≡_}
 use denote.Ref.{now}
 use borrow.Author.Needs.{needs}
 use Rattle.pair_output.proofs.Printing.{startTable, startMoves, start-lines, texts-put}

@@ -1,5 +1,5 @@
 -- `parse_head` by its tests: eight digits are an INT, so its other answers do not occur.
-use mathlib.Core.Path.{_≡_, ap, sym, _∙_}
+use mathlib.Core.Path.{ap, sym, _∙_}
 use native.Mathlib.Omega.{arith}
 use borrow.Author.Needs.{needs}
 use denote.Ref.{now}
