@@ -1,0 +1,40 @@
+// The kinds of records: those that are kept, questions on texts, and questions on tables. Each is the row of its word.
+use lexer::Span;
+
+pub(crate) const FRONT: usize = 0;
+
+pub(crate) const BACK: usize = 1;
+
+pub(crate) const PAD: usize = 2;
+
+pub(crate) const FIGURE_TABLE: usize = 3;
+
+pub(crate) const FIGURE_COUNTS: usize = 4;
+
+pub(crate) const MOVEMENT_TABLE: usize = 5;
+
+pub(crate) const BAC: usize = 7;
+
+pub(crate) const TRA: usize = 8;
+
+pub(crate) const INT: usize = 9;
+
+pub(crate) const FLOAT: usize = 10;
+
+pub(crate) const TOKENS: usize = 11;
+
+pub(crate) const FIGURE: usize = 12;
+
+pub(crate) const SAMPLE: usize = 14;
+
+pub(crate) const CORNER: usize = 15;
+
+pub(crate) const SHOWN: usize = 16;
+
+pub(crate) fn kind_of(input: &[u8], word: Span) -> usize {
+    chunks::word_index(
+        input,
+        word,
+        b"front back pad figure_table figure_counts movement_table movement_counts bac tra int float tokens figure movement sample corner shown",
+    )
+}
