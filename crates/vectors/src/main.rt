@@ -29,8 +29,8 @@ fn keep(
     from: usize,
     end: usize,
     frame: &mut [usize; 5],
-    table: &mut [i64],
-    moves: &mut [i64],
+    table: &mut [i64; 11400],
+    moves: &mut [i64; 11779],
     n: &mut [i64; 10],
     m: &mut [i64; 4],
 ) {
@@ -65,8 +65,8 @@ fn run_record(
     at: usize,
     end: usize,
     frame: &mut [usize; 5],
-    table: &mut [i64],
-    moves: &mut [i64],
+    table: &mut [i64; 11400],
+    moves: &mut [i64; 11779],
     n: &mut [i64; 10],
     m: &mut [i64; 4],
 ) {
@@ -91,7 +91,7 @@ fn run_record(
     play::ask(kind, args, table, moves, n, m);
 }
 
-fn run(input: &[u8], table: &mut [i64], moves: &mut [i64]) {
+fn run(input: &[u8], table: &mut [i64; 11400], moves: &mut [i64; 11779]) {
     let mut frame = [0usize; 5];
     let mut n = [0i64; 10];
     let mut m = [0i64; 4];
@@ -107,7 +107,7 @@ fn run(input: &[u8], table: &mut [i64], moves: &mut [i64]) {
 }
 
 fn main() {
-    let mut input = [0u8; 65536];
+    let mut input = [0u8; 131072];
     let size = io::read_full(STDIN_FILENO, &mut input);
     let mut table = [0i64; 11400];
     let mut moves = [0i64; 11779];

@@ -19,7 +19,13 @@ fn exchange(table: &mut [i64], at: usize, z: i64) -> i64 {
 }
 
 // The same in the figure's table (0) or the movement's (1).
-fn alter(table: &mut [i64], moves: &mut [i64], file: usize, at: usize, z: i64) -> i64 {
+fn alter(
+    table: &mut [i64; 11400],
+    moves: &mut [i64; 11779],
+    file: usize,
+    at: usize,
+    z: i64,
+) -> i64 {
     match file {
         0 => exchange(table, at, z),
         1 => exchange(moves, at, z),
@@ -93,8 +99,8 @@ fn tell_shown(
 fn answer(
     kind: usize,
     asked: &[i64; 3],
-    table: &[i64],
-    moves: &[i64],
+    table: &[i64; 11400],
+    moves: &[i64; 11779],
     n: &[i64; 10],
     m: &[i64; 4],
 ) {
@@ -114,8 +120,8 @@ fn answer(
 pub(crate) fn ask(
     kind: usize,
     args: &[u8],
-    table: &mut [i64],
-    moves: &mut [i64],
+    table: &mut [i64; 11400],
+    moves: &mut [i64; 11779],
     n: &[i64; 10],
     m: &[i64; 4],
 ) {

@@ -102,8 +102,8 @@ pub(crate) fn ask(
     from: usize,
     end: usize,
     frame: &[usize; 5],
-    table: &mut [i64],
-    moves: &mut [i64],
+    table: &mut [i64; 11400],
+    moves: &mut [i64; 11779],
     n: &[i64; 10],
     m: &[i64; 4],
 ) {

