@@ -7,6 +7,7 @@ mod texts;
 
 use kind::BAC;
 use kind::BACK;
+use kind::COPIES;
 use kind::FIGURE_COUNTS;
 use kind::FIGURE_TABLE;
 use kind::FRONT;
@@ -21,29 +22,37 @@ use record::first;
 use record::numbers;
 use record::put;
 
-// A record that is kept for the questions after it. The frame is where the front and the back of a text stand, and its least
-// length; n and m are how many numbers of each table are lent, and its counts.
+// A record that is kept for the questions after it. The frame is where the front and the back of a text stand, its least
+// length, and where the copies after the front stand and how many they are; n and m are how many numbers of each table are
+// lent, and its counts.
 fn keep(
     kind: usize,
-    args: &[u8],
+    input: &[u8],
     from: usize,
     end: usize,
-    frame: &mut [usize; 5],
+    frame: &mut [usize; 8],
     table: &mut [i64; 11400],
     moves: &mut [i64; 11779],
     n: &mut [i64; 10],
     m: &mut [i64; 4],
 ) {
+    let args = lexer::part(input, from, end);
     match kind {
         FRONT => {
             frame[0] = from;
             frame[1] = end;
+            frame[7] = 0;
         }
         BACK => {
             frame[2] = from;
             frame[3] = end;
         }
         PAD => frame[4] = first(args),
+        COPIES => {
+            frame[5] = after(lexer::next(input, from).end, end);
+            frame[6] = end;
+            frame[7] = first(args);
+        }
         FIGURE_TABLE => {
             numbers(args, 0, table);
         }
@@ -64,7 +73,7 @@ fn run_record(
     input: &[u8],
     at: usize,
     end: usize,
-    frame: &mut [usize; 5],
+    frame: &mut [usize; 8],
     table: &mut [i64; 11400],
     moves: &mut [i64; 11779],
     n: &mut [i64; 10],
@@ -77,9 +86,8 @@ fn run_record(
     let label = lexer::next(input, word.end);
     let from = after(label.end, end);
     let kind = kind_of(input, word);
-    let args = lexer::part(input, from, end);
     if kind < BAC {
-        keep(kind, args, from, end, frame, table, moves, n, m);
+        keep(kind, input, from, end, frame, table, moves, n, m);
         return;
     }
     put(lexer::part(input, word.start, label.end));
@@ -88,11 +96,11 @@ fn run_record(
         texts::ask(kind, input, from, end, frame, table, moves, n, m);
         return;
     }
-    play::ask(kind, args, table, moves, n, m);
+    play::ask(kind, lexer::part(input, from, end), table, moves, n, m);
 }
 
 fn run(input: &[u8], table: &mut [i64; 11400], moves: &mut [i64; 11779]) {
-    let mut frame = [0usize; 5];
+    let mut frame = [0usize; 8];
     let mut n = [0i64; 10];
     let mut m = [0i64; 4];
     let mut at = 0;

@@ -68,17 +68,31 @@ fn append_text(buf: &mut [u8], n: usize, bytes: &[u8]) -> usize {
     filled
 }
 
-// Puts the text of a question at the start of buf, which is spaces: the front, what stands from `from` to `end`, and the back.
+// Puts so many copies of a text likewise.
+fn append_copies(buf: &mut [u8], n: usize, bytes: &[u8], times: usize) -> usize {
+    let mut filled = n;
+    let mut i = 0;
+    while i < times {
+        filled = append_text(buf, filled, bytes);
+        i += 1;
+    }
+    filled
+}
+
+// Puts the text of a question at the start of buf, which is spaces: the front and the copies after it, what stands from `from`
+// to `end`, and the back.
 // The answer is how long it is, padded to its least length.
 pub(crate) fn put_text(
     buf: &mut [u8],
     input: &[u8],
     from: usize,
     end: usize,
-    frame: &[usize; 5],
+    frame: &[usize; 8],
 ) -> usize {
     let fronts = append_text(buf, 0, lexer::part(input, frame[0], frame[1]));
-    let parts = append_text(buf, fronts, lexer::part(input, from, end));
+    let copied = lexer::part(input, frame[5], frame[6]);
+    let copies = append_copies(buf, fronts, copied, frame[7]);
+    let parts = append_text(buf, copies, lexer::part(input, from, end));
     let backs = append_text(buf, parts, lexer::part(input, frame[2], frame[3]));
     let least = frame[4];
     if backs < least { least } else { backs }

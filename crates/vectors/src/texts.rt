@@ -101,7 +101,7 @@ pub(crate) fn ask(
     input: &[u8],
     from: usize,
     end: usize,
-    frame: &[usize; 5],
+    frame: &[usize; 8],
     table: &mut [i64; 11400],
     moves: &mut [i64; 11779],
     n: &[i64; 10],
