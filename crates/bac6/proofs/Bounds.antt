@@ -6,19 +6,19 @@ use native.Mathlib.Nat.{zero-mul, suc-mul, add-comm, le-trans, mul-le-mul-right}
 use lib.ListN.{length, take, drop, replicate, length-append}
 use lib.Seq.{take-at}
 use lib.IntN.{ℤ, pos}
-use Rattle.lexer.specs.Faults.{clear, fault}
-use Rattle.chunks.specs.Cursors.{overlayAt}
-use Rattle.chunks.specs.Into.{flat}
-use Rattle.chunks.specs.Readers.{Name}
+use Rattle.refusal.specs.Faults.{clear, fault}
+use Rattle.table_rows.specs.Overlay.{overlayAt}
+use Rattle.table_rows.specs.Flat.{flat}
+use Rattle.parse_cursor.specs.Readers.{Name}
 use Rattle.bac6_text.specs.Figure.{Bone, Group, Figure}
-use Rattle.chunks.specs.Rules.{tooMany}
+use Rattle.refusal.specs.Rules.{tooMany}
 use Rattle.bac6_text.specs.Rules.{facesOf, countsOf, mosts, flagsOf, wholeList, parentsIn}
 use Rattle.bac6_text.specs.Layout.{layoutOf, nameNumbers, boneRow, boneRows, ownersFrom, faceRows, groupNames}
-use Rattle.chunks.proofs.Rules.{count-clear}
-use Rattle.chunks.proofs.Chains.{overlay-whole}
+use Rattle.refusal.proofs.Rules.{count-clear}
+use Rattle.table_rows.proofs.Chains.{overlay-whole}
 use Rattle.bac6_layout.proofs.Layouts.{layout-lists}
 use Rattle.bac6_rules.proofs.Claims.{owners-length}
-use Rattle.chunks.proofs.Widths.{Wide, flat-length}
+use Rattle.parse_rows.proofs.Widths.{Wide, flat-length}
 use Rattle.bac6_text.proofs.Rows.{face-rows-wide, face-rows-length, bones-wide, bones-count}
 use Rattle.bac6_text.proofs.Whole.{WholeFigure}
 

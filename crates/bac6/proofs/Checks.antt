@@ -4,9 +4,9 @@ use mathlib.Core.List.{List}
 use Prim.Native.Nat.{ℕ}
 use lib.IntN.{ℤ}
 use lib.ListN.{length}
-use Rattle.lexer.specs.Faults.{Fault, clear, fault}
-use Rattle.lexer.specs.Answers.{refusal}
-use Rattle.lexer.specs.declared.check.Checked.{Checked}
+use Rattle.refusal.specs.Faults.{Fault, clear, fault}
+use Rattle.refusal.specs.Answers.{refusal}
+use Rattle.refusal.specs.declared.checked.Checked.{Checked}
 use Rattle.bac6_rules.specs.declared.order.Counts.{Counts}
 use Rattle.bac6_rules.specs.Order.{tablesFault, BonesLeft}
 use Rattle.bac6_bones.specs.Into.{faultOf}

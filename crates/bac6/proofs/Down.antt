@@ -6,11 +6,11 @@ use native.Mathlib.Omega.{arith}
 use lib.IntN.{ℤ, pos, negsuc}
 use lib.ListN.{length, take, drop, replicate, length-replicate, length-append}
 use lib.Seq.{take-at}
-use Rattle.lexer.specs.Faults.{Fault, clear}
-use Rattle.chunks.specs.Into.{flat}
-use Rattle.chunks.specs.Cursors.{overlayAt}
+use Rattle.refusal.specs.Faults.{Fault, clear}
+use Rattle.table_rows.specs.Flat.{flat}
+use Rattle.table_rows.specs.Overlay.{overlayAt}
 use Rattle.bac6_text.specs.Figure.{Bone, Figure}
-use Rattle.chunks.specs.Rules.{tooMany}
+use Rattle.refusal.specs.Rules.{tooMany}
 use Rattle.bac6_text.specs.Rules.{facesOf, flagsOf, wholeList, parentsIn, verticesFault, bonesFault, figureFault, countsOf, mosts}
 use Rattle.bac6_text.specs.Layout.{nameNumbers, boneRow, boneRows, ownersFrom, faceRows, groupNames, layoutOf}
 use Rattle.bac6_rules.specs.Claims.{claimedBones}
@@ -18,7 +18,7 @@ use Rattle.bac6_rules.specs.Order.{figureCounts, BonesLeft}
 use Rattle.bac6_rules.proofs.Claims.{owners-length, claims-owners}
 use Rattle.bac6_text.proofs.Rows.{face-rows-wide, face-rows-length, bones-wide, bones-count, flags-count}
 use Rattle.bac6_text.proofs.Parents.{whole-length}
-use Rattle.chunks.proofs.Rules.{or-first, or-second}
+use Rattle.refusal.proofs.Rules.{or-first, or-second}
 use Rattle.bac6_rules.proofs.Orders.{bones-left}
 use Rattle.bac6_layout.proofs.Layouts.{layout-lists}
 use Rattle.bac6.specs.declared.shape.Parsed.{Parsed}
@@ -27,7 +27,7 @@ use Rattle.bac6.proofs.Parses.{values}
 use Rattle.bac6_text.proofs.Whole.{WholeFigure, faces-whole}
 use Rattle.bac6.proofs.Bounds.{Within, bounds, groups-wide, groups-count, total}
 use Rattle.bac6.proofs.Rules.{unclaimed-parts, bones-held}
-use Rattle.chunks.proofs.Widths.{rows-part, rows-room, part-is, room-is}
+use Rattle.parse_rows.proofs.Widths.{rows-part, rows-room, part-is, room-is}
 use Rattle.bac6.proofs.Taken.{parsedAs, name-is, textures-are, colours-are, materials-are, points-are, normals-are, bones-are, claims-are, uvs-are, faces-are, groups-are, counts-are}
 
 module _ (f : Figure) (clean : figureFault f ≡ clear) where

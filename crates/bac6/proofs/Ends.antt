@@ -5,15 +5,16 @@ use Prim.Native.Nat.{ℕ, _+_, _≤_}
 use native.Mathlib.Omega.{arith}
 use lib.IntN.{ℤ, negsuc}
 use lib.ListN.{length, replicate}
-use Rattle.lexer.specs.Faults.{Fault, clear, fault}
-use Rattle.lexer.specs.Tokens.{lex}
-use Rattle.chunks.specs.Cursors.{reads}
+use Rattle.refusal.specs.Faults.{Fault, clear, fault}
+use Rattle.text_tokens.specs.Tokens.{lex}
+use Rattle.parse_cursor.specs.Cursors.{reads}
 use Rattle.bac6_text.specs.Figure.{Figure}
 use Rattle.bac6_text.specs.Rules.{facesOf, figureFault}
 use Rattle.bac6_text.specs.Layout.{layoutOf}
 use Rattle.bac6_text.specs.Grammar.{figure}
-use Rattle.chunks.specs.Outcomes.{Outcome, rejected, accepted, shaped, fitted, laid}
-use Rattle.chunks.proofs.Outcomes.{shape-rejected, rule-rejected, all-taken, fitted-rejected, laid-rejected}
+use Rattle.refusal.specs.Outcomes.{Outcome, rejected, accepted, fitted, laid}
+use Rattle.parse_text.specs.Texts.{shaped}
+use Rattle.parse_text.proofs.Outcomes.{shape-rejected, rule-rejected, all-taken, fitted-rejected, laid-rejected}
 use Rattle.bac6_rules.specs.Order.{BonesLeft}
 use Rattle.bac6.specs.declared.shape.Parsed.{Parsed}
 use Rattle.bac6.specs.Parse.{figureInto}

@@ -7,9 +7,9 @@ use lib.Dec.{leb}
 use lib.IntN.{ℤ}
 use lib.ListN.{length}
 use borrow.Author.Tests.{leb-true, leb-false}
-use Rattle.chunks.specs.Cursors.{overlayAt}
-use Rattle.chunks.specs.Outcomes.{Outcome, rejected, accepted, fitted, laid}
-use Rattle.chunks.proofs.Outcomes.{fitted-room, fitted-short, laid-rejected, laid-accepted}
+use Rattle.table_rows.specs.Overlay.{overlayAt}
+use Rattle.refusal.specs.Outcomes.{Outcome, rejected, accepted, fitted, laid}
+use Rattle.parse_text.proofs.Outcomes.{fitted-room, fitted-short, laid-rejected, laid-accepted}
 use Rattle.bac6_text.specs.Figure.{Figure}
 use Rattle.bac6_text.specs.Layout.{layoutOf}
 use Rattle.bac6.specs.declared.shape.Parsed.{Parsed}

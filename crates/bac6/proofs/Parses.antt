@@ -5,17 +5,17 @@ use Prim.Native.Nat.{ℕ, min}
 use native.Mathlib.Omega.{arith}
 use lib.IntN.{ℤ}
 use lib.ListN.{length, drop}
-use Rattle.lexer.specs.Tokens.{Lexeme, lex, lexAt, tokens}
-use Rattle.chunks.specs.declared.cursor.Cursor.{Cursor}
-use Rattle.lexer.specs.Bytes.{bytes}
-use Rattle.lexer.specs.Numbers.{FLOAT}
-use Rattle.chunks.specs.Readers.{Name, Got, got, refused, Reader, after, _>>=_, _>>_, pure, opened, close-bracket, text-end, optional, trailing, many, many⁺, row}
-use Rattle.chunks.specs.Cursors.{reads, from}
-use Rattle.chunks.specs.Places.{placeOf}
-use Rattle.chunks.proofs.Counts.{whole-text}
-use Rattle.chunks.proofs.Steps.{from-on, from-off, join}
-use Rattle.chunks.proofs.Many.{not-got}
-use Rattle.chunks.proofs.Sequences.{into-then, into-bind, into-end, pair-up}
+use Rattle.text_tokens.specs.Tokens.{Lexeme, lex, lexAt, tokens}
+use Rattle.parse_cursor.specs.declared.cursor.Cursor.{Cursor}
+use Rattle.text_bytes.specs.Bytes.{bytes}
+use Rattle.text_numbers.specs.Numbers.{FLOAT}
+use Rattle.parse_cursor.specs.Readers.{Name, Got, got, refused, Reader, after, _>>=_, _>>_, pure, opened, close-bracket, text-end, optional, trailing, many, many⁺, row}
+use Rattle.parse_cursor.specs.Cursors.{reads, from}
+use Rattle.parse_cursor.specs.Places.{placeOf}
+use Rattle.parse_cursor.proofs.Counts.{whole-text}
+use Rattle.parse_cursor.proofs.Steps.{from-on, from-off, join}
+use Rattle.parse_cursor.proofs.Many.{not-got}
+use Rattle.parse_cursor.proofs.Sequences.{into-then, into-bind, into-end, pair-up}
 use Rattle.bac6_text.specs.Figure.{Bone, Face, Group, Figure}
 use Rattle.bac6_text.specs.Grammar.{bone, face, group, figure}
 use Rattle.bac6_parse.specs.Lists.{laidRows, sectionInto}

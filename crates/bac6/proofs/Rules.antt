@@ -5,22 +5,22 @@ use Prim.Native.Nat.{ℕ, zero, suc, _+_, _-_, _*_, _≤_}
 use native.Mathlib.Omega.{arith}
 use lib.IntN.{ℤ, pos, negsuc}
 use lib.ListN.{length, drop, replicate, length-replicate}
-use Rattle.lexer.specs.Faults.{Fault, clear}
-use Rattle.chunks.specs.Into.{flat}
-use Rattle.chunks.specs.Cursors.{overlayAt}
+use Rattle.refusal.specs.Faults.{Fault, clear}
+use Rattle.table_rows.specs.Flat.{flat}
+use Rattle.table_rows.specs.Overlay.{overlayAt}
 use Rattle.bac6_text.specs.Figure.{Bone, Figure}
-use Rattle.chunks.specs.Rules.{tooMany}
+use Rattle.refusal.specs.Rules.{tooMany}
 use Rattle.bac6_text.specs.Rules.{facesOf, countsOf, mosts, verticesFault, figureFault, flagsOf, parentsIn, wholeList}
 use Rattle.bac6_text.specs.Layout.{boneRow, boneRows, faceRows, ownersFrom}
 use Rattle.bac6_rules.specs.Claims.{claimedBones}
 use Rattle.bac6_rules.specs.Order.{figureCounts, tablesFault, BonesLeft}
 use Rattle.bac6_rules.proofs.Claims.{unclaimed, claims-fault, claims-owners}
-use Rattle.chunks.proofs.Widths.{Wide}
+use Rattle.parse_rows.proofs.Widths.{Wide}
 use Rattle.bac6_text.proofs.Rows.{face-rows-wide, face-rows-length, bones-wide, bones-count}
 use Rattle.bac6_rules.proofs.Orders.{tables-within, tables-laid, bones-left}
 use Rattle.bac6_text.proofs.Whole.{WholeFigure, faces-whole}
 use Rattle.bac6.proofs.Bounds.{Within, bounds, bones-rows}
-use Rattle.chunks.proofs.Widths.{held}
+use Rattle.parse_rows.proofs.Widths.{held}
 
 -- as many unclaimed vertices as there are points, and the others
 pub unclaimed-parts : (n k : ℕ) → n ≤ k → replicate k (negsuc 0) ≡ unclaimed n (replicate (k - n) (negsuc 0))

@@ -9,8 +9,8 @@ use mir.Syntax.{w64}
 use mir.Val.{toZ}
 use lib.IntN.{ℤ, pos}
 use lib.ListN.{length, take, length-take}
-use Rattle.lexer.proofs.Signed.{bits-pos}
-use Rattle.chunks.specs.Cursors.{overlayAt}
+use Rattle.text_numbers.proofs.Signed.{bits-pos}
+use Rattle.table_rows.specs.Overlay.{overlayAt}
 use Rattle.bac6.specs.declared.shape.Parsed.{Parsed}
 use Rattle.bac6.specs.declared.setting.FigureAnswer.{FigureAnswer}
 use Rattle.bac6.specs.Answers.{totalOf, countsAnswer, refusedWith, downAnswer, downTable}

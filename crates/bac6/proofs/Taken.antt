@@ -4,11 +4,12 @@ use mathlib.Core.List.{List, [], _∷_, _++_, map}
 use Prim.Native.Nat.{ℕ}
 use lib.IntN.{ℤ, pos, negsuc}
 use lib.ListN.{length, replicate}
-use Rattle.lexer.specs.Faults.{Fault, clear}
-use Rattle.lexer.specs.Tokens.{lex}
-use Rattle.chunks.specs.Places.{placeOf}
-use Rattle.chunks.specs.Into.{flat}
-use Rattle.chunks.specs.Cursors.{reads, overlayAt}
+use Rattle.refusal.specs.Faults.{Fault, clear}
+use Rattle.text_tokens.specs.Tokens.{lex}
+use Rattle.parse_cursor.specs.Places.{placeOf}
+use Rattle.table_rows.specs.Flat.{flat}
+use Rattle.parse_cursor.specs.Cursors.{reads}
+use Rattle.table_rows.specs.Overlay.{overlayAt}
 use Rattle.bac6_text.specs.Figure.{Bone, Figure}
 use Rattle.bac6_text.specs.Rules.{facesOf, figureFault}
 use Rattle.bac6_text.specs.Layout.{boneRow, faceRows, groupNames}

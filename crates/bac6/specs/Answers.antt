@@ -6,12 +6,12 @@ use Prim.Native.Nat.{ℕ, _+_, _*_, _≤_}
 use lib.Dec.{leb}
 use lib.IntN.{ℤ, pos, negsuc}
 use lib.ListN.{length, take, replicate}
-use Rattle.chunks.specs.Cursors.{overlayAt}
+use Rattle.table_rows.specs.Overlay.{overlayAt}
 use Rattle.bac6_text.specs.Figure.{Figure}
 use Rattle.bac6_text.specs.Rules.{facesOf}
 use Rattle.bac6_text.specs.Layout.{layoutOf}
-use Rattle.chunks.specs.Outcomes.{Outcome, rejected, accepted}
-use Rattle.lexer.specs.Faults.{Fault, clear, fault}
+use Rattle.refusal.specs.Outcomes.{Outcome, rejected, accepted}
+use Rattle.refusal.specs.Faults.{Fault, clear, fault}
 use Rattle.bac6_rules.specs.declared.order.Counts.{Counts}
 use Rattle.bac6_rules.specs.Order.{tablesFault}
 use Rattle.bac6_bones.specs.Into.{faultOf}

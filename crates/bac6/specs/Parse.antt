@@ -3,13 +3,13 @@ use mathlib.Core.List.{List, map}
 use Prim.Native.Nat.{ℕ}
 use lib.IntN.{ℤ, pos}
 use lib.ListN.{length}
-use Rattle.lexer.specs.Bytes.{bytes}
-use Rattle.lexer.specs.Numbers.{FLOAT}
-use Rattle.lexer.specs.Faults.{Fault, clear}
-use Rattle.chunks.specs.Readers.{Reader, _>>=_, _>>_, pure, opened, close-bracket, text-end}
-use Rattle.chunks.specs.Places.{placeOf}
-use Rattle.chunks.specs.Into.{flat}
-use Rattle.chunks.specs.Cursors.{overlayAt}
+use Rattle.text_bytes.specs.Bytes.{bytes}
+use Rattle.text_numbers.specs.Numbers.{FLOAT}
+use Rattle.refusal.specs.Faults.{Fault, clear}
+use Rattle.parse_cursor.specs.Readers.{Reader, _>>=_, _>>_, pure, opened, close-bracket, text-end}
+use Rattle.parse_cursor.specs.Places.{placeOf}
+use Rattle.table_rows.specs.Flat.{flat}
+use Rattle.table_rows.specs.Overlay.{overlayAt}
 use Rattle.bac6_text.specs.Figure.{Bone, Figure}
 use Rattle.bac6_text.specs.Layout.{boneRow}
 use Rattle.bac6_parse.specs.Lists.{laidRows, sectionInto}

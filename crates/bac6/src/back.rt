@@ -1,11 +1,11 @@
 // The back of a figure's text, from its bones to its end.
 ghost use mathlib.Core.Path.{_≡_};
-ghost use Rattle.chunks.specs.Cursors.{reads, from};
+ghost use Rattle.parse_cursor.specs.Cursors.{reads, from};
 ghost use Rattle.bac6_bones.specs.Into.{faultOf};
 ghost use Rattle.bac6.specs.Parse.{backValue, backInto};
-use chunks::Cursor;
-use chunks::Form;
-use chunks::opened;
+use parse_cursor::Cursor;
+use parse_cursor::opened;
+use parse_numbers::Form;
 
 // A cursor past the text, how many rows each list has, and the row of the first bone whose claims are at fault, if there is one; where the cursor has refused, all else is free.
 pub(crate) struct Back {
@@ -46,7 +46,7 @@ pub(crate) fn read_back(
     let q = bac6_faces::polygons(text, mapped, face_rows, group_rows);
     let d = q.cursor;
     Back {
-        cursor: chunks::text_end(text, chunks::closing(text, d)),
+        cursor: parse_text::text_end(text, parse_cursor::closing(text, d)),
         bones: b.count,
         faulty: b.faulty,
         fault: b.fault,

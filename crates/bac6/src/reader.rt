@@ -2,17 +2,18 @@
 ghost use mathlib.Core.Path.{_≡_};
 ghost use Prim.Native.Nat.{_≤_};
 ghost use lib.ListN.{length};
-ghost use Rattle.lexer.specs.Answers.{refusal};
-ghost use Rattle.lexer.specs.Tokens.{lex};
+ghost use Rattle.refusal.specs.Answers.{refusal};
+ghost use Rattle.text_tokens.specs.Tokens.{lex};
 ghost use Rattle.bac6_text.specs.Grammar.{figure};
-ghost use Rattle.chunks.specs.Outcomes.{shaped, fitted, laid};
+ghost use Rattle.refusal.specs.Outcomes.{fitted, laid};
+ghost use Rattle.parse_text.specs.Texts.{shaped};
 ghost use Rattle.bac6_text.specs.Rules.{figureFault};
 ghost use Rattle.bac6_text.specs.Layout.{layoutOf};
 ghost use Rattle.bac6_text.specs.Answer.{figureAnswer, tableAfter};
 ghost use Rattle.bac6_bones.specs.Into.{faultOf};
 ghost use mathlib.Core.List.{List};
 ghost use lib.IntN.{ℤ};
-ghost use Rattle.lexer.specs.Faults.{clear};
+ghost use Rattle.refusal.specs.Faults.{clear};
 ghost use Rattle.bac6_rules.specs.Order.{BonesLeft};
 ghost use Rattle.bac6.specs.Answers.{Blank, Fits, answerOf, parsedCounts, partsOf, rulesFault, checkedAnswer, checkedTable};
 use crate::setting::FigureAnswer;
@@ -21,15 +22,15 @@ use crate::setting::set_down;
 use crate::shape::Parsed;
 use crate::shape::parse;
 use bac6_rules::Counts;
-use lexer::Checked;
-use lexer::Format;
+use refusal::Checked;
+use text_check::Format;
 
 // The answer is document 01's, and the table holds the layout from its start on; or, where refused, what it held.
 pub fn read(text: &[u8], table: &mut [i64]) -> FigureAnswer
     ensures answer { λ r. ⌜ r ≡ answerOf (figureAnswer (now (text .entry)) (length (now (table .entry)))) ⌝ }
     ensures content { λ r. ⌜ now (table .exit) ≡ tableAfter (now (text .entry)) (now (table .entry)) ⌝ }
 {
-    match lexer::check_text(text, Format::Bac) {
+    match text_check::check_text(text, Format::Bac) {
         Checked::Refused { number, offset } => refused(number as usize, offset),
         Checked::Clear => read_shape(text, table),
     }

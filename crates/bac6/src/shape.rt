@@ -1,12 +1,12 @@
 // The shape of a figure's text.
 ghost use mathlib.Core.Path.{_≡_};
-ghost use Rattle.lexer.specs.Tokens.{lex};
-ghost use Rattle.chunks.specs.Cursors.{reads};
+ghost use Rattle.text_tokens.specs.Tokens.{lex};
+ghost use Rattle.parse_cursor.specs.Cursors.{reads};
 ghost use Rattle.bac6_parse.specs.Front.{frontValue};
 ghost use Rattle.bac6_bones.specs.Into.{faultOf};
 ghost use Rattle.bac6.specs.Parse.{backValue, figureInto};
 use crate::back::read_back;
-use chunks::Cursor;
+use parse_cursor::Cursor;
 
 // A cursor past the text, its name's place and length, how many rows each list has, and the row of the first bone whose claims are at fault, if there is one (else `fault` is free); where the cursor has refused, all else is free.
 pub struct Parsed {

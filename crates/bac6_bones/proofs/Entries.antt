@@ -5,17 +5,17 @@ use mathlib.Core.Bool.{Bool, true, false, true≢false}
 use Prim.Native.Nat.{ℕ, _<_}
 use lib.IntN.{ℤ}
 use lib.ListN.{length}
-use Rattle.lexer.specs.Numbers.{INT}
-use Rattle.lexer.specs.Tokens.{Lexeme, lexeme, lexAt}
-use Rattle.lexer.specs.declared.token.Span.{Span}
-use Rattle.lexer.specs.Answers.{Next, lexemeOf}
-use Rattle.chunks.specs.declared.cursor.Cursor.{Cursor}
-use Rattle.chunks.specs.Readers.{Got, got, after, _>>=_, pure, tokenOf, rest, isClosing, number, many}
-use Rattle.chunks.specs.Cursors.{reads, from}
-use Rattle.chunks.proofs.Steps.{from-on, reads-on, next-token, next-rest, live, after-reads}
-use Rattle.chunks.proofs.Binds.{after-after, after-same}
-use Rattle.chunks.proofs.Many.{number-takes, many-end, many-more}
-use Rattle.chunks.proofs.Counts.{falls}
+use Rattle.text_numbers.specs.Numbers.{INT}
+use Rattle.text_tokens.specs.Tokens.{Lexeme, lexeme, lexAt}
+use Rattle.text_tokens.specs.declared.token.Span.{Span}
+use Rattle.text_tokens.specs.Answers.{Next, lexemeOf}
+use Rattle.parse_cursor.specs.declared.cursor.Cursor.{Cursor}
+use Rattle.parse_cursor.specs.Readers.{Got, got, after, _>>=_, pure, tokenOf, rest, isClosing, number, many}
+use Rattle.parse_cursor.specs.Cursors.{reads, from}
+use Rattle.parse_cursor.proofs.Steps.{from-on, reads-on, next-token, next-rest, live, after-reads}
+use Rattle.parse_cursor.proofs.Binds.{after-after, after-same}
+use Rattle.parse_cursor.proofs.Many.{number-takes, many-end, many-more}
+use Rattle.parse_cursor.proofs.Counts.{falls}
 use mir.Syntax.{w64}
 use mir.Val.{SFits, toZ, ofZ}
 use mir.Facts.{toZ-ofZ}

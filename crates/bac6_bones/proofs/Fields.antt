@@ -7,18 +7,18 @@ use Prim.Native.Nat.{ℕ, zero, suc, _-_, _≤_, _<_}
 use native.Mathlib.Omega.{arith}
 use lib.IntN.{ℤ, pos}
 use lib.ListN.{length, getD, set, replicate}
-use Rattle.lexer.specs.Bytes.{bytes, same, inWord}
-use Rattle.lexer.specs.Tokens.{lexAt}
-use Rattle.lexer.specs.declared.token.Span.{Span}
-use Rattle.lexer.specs.Answers.{Next, lexemeOf}
-use Rattle.chunks.specs.declared.cursor.Cursor.{Cursor}
-use Rattle.chunks.specs.Cursors.{overlayAt, overlay}
-use Rattle.chunks.specs.Readers.{absent}
-use Rattle.chunks.specs.Fields.{kind, isSome, kindFrom, unread, insideAt}
-use Rattle.chunks.specs.Words.{words, onto, keysOf, apart, differs, indexIn}
-use Rattle.chunks.proofs.Steps.{from-on}
-use Rattle.chunks.proofs.FieldFlags.{flags-length, flag-unread, flag-read}
-use Rattle.chunks.proofs.Vocabulary.{chunk-other, chunk-again, chunk-took}
+use Rattle.text_bytes.specs.Bytes.{bytes, same, inWord}
+use Rattle.text_tokens.specs.Tokens.{lexAt}
+use Rattle.text_tokens.specs.declared.token.Span.{Span}
+use Rattle.text_tokens.specs.Answers.{Next, lexemeOf}
+use Rattle.parse_cursor.specs.declared.cursor.Cursor.{Cursor}
+use Rattle.table_rows.specs.Overlay.{overlayAt, overlay}
+use Rattle.parse_cursor.specs.Readers.{absent}
+use Rattle.parse_cursor.specs.Fields.{kind, isSome, kindFrom, unread, insideAt}
+use Rattle.parse_words.specs.Words.{words, onto, keysOf, apart, differs, indexIn}
+use Rattle.parse_cursor.proofs.Steps.{from-on}
+use Rattle.parse_cursor.proofs.FieldFlags.{flags-length, flag-unread, flag-read}
+use Rattle.parse_words.proofs.Vocabulary.{chunk-other, chunk-again, chunk-took}
 use Rattle.bac6_text.specs.Grammar.{BoneField, nameIn, flagIn, numbersIn, boneKinds}
 use Rattle.bac6_text.specs.Layout.{nameNumbers}
 use Rattle.bac6_rules.specs.Claims.{claimed}

@@ -6,33 +6,34 @@ use mathlib.Core.Option.{Option}
 use Prim.Native.Nat.{ℕ, _+_, _*_, _^_, _<_, min}
 use mir.Syntax.{w64}
 use mir.Val.{toZ}
-use Rattle.lexer.proofs.Signed.{bits-pos}
+use Rattle.text_numbers.proofs.Signed.{bits-pos}
 use Prim.Native.String.{String}
 use native.Mathlib.Omega.{arith}
 use native.Mathlib.Nat.{add-zero, zero-add}
 use native.Mathlib.Numerals.{add-one}
 use lib.IntN.{ℤ, pos}
 use lib.ListN.{length}
-use Rattle.lexer.specs.Bytes.{bytes}
-use Rattle.lexer.specs.Numbers.{INT, FLOAT}
-use Rattle.lexer.specs.Faults.{Fault, clear, fault}
-use Rattle.lexer.specs.Tokens.{Lexeme, lexAt}
-use Rattle.chunks.specs.declared.cursor.Cursor.{Cursor}
-use Rattle.chunks.specs.Readers.{Got, got, Reader, after, _>>=_, _>>_, pure, open-bracket, keyword, wordOf, opened, openedOf, many, many⁺}
-use Rattle.chunks.specs.Cursors.{reads, from, overlayAt}
-use Rattle.chunks.specs.Into.{flat}
-use Rattle.chunks.specs.Folds.{fold, folded, stepped}
-use Rattle.chunks.specs.Fields.{kind, fields}
-use Rattle.chunks.specs.Branches.{itemOf}
-use Rattle.chunks.proofs.Steps.{join, seq, passed, from-same}
-use Rattle.chunks.proofs.Binds.{after-after, after-same, after-when, then-assoc, then-bind}
-use Rattle.chunks.proofs.Counts.{falls, lexAt-some}
-use Rattle.chunks.proofs.Folds.{folded-more}
-use Rattle.chunks.proofs.Branches.{item-takes}
-use Rattle.chunks.proofs.Many.{Keeps, Takes, takes-keeps, pure-keeps, bind-keeps, bind-takes, then-keeps, then-takes, keyword-takes, opened-takes, closed-keeps, number-takes, numbers-keeps, string-takes, one-of-takes, many-keeps}
-use Rattle.chunks.proofs.FieldKeeps.{AllKeep, fields-keeps}
-use Rattle.chunks.proofs.Given.{free, many-gives}
-use Rattle.chunks.proofs.Tables.{overlayAt-none, overlayAt-append, overlayAt-same}
+use Rattle.text_bytes.specs.Bytes.{bytes}
+use Rattle.text_numbers.specs.Numbers.{INT, FLOAT}
+use Rattle.refusal.specs.Faults.{Fault, clear, fault}
+use Rattle.text_tokens.specs.Tokens.{Lexeme, lexAt}
+use Rattle.parse_cursor.specs.declared.cursor.Cursor.{Cursor}
+use Rattle.parse_cursor.specs.Readers.{Got, got, Reader, after, _>>=_, _>>_, pure, open-bracket, keyword, wordOf, opened, openedOf, many, many⁺}
+use Rattle.parse_cursor.specs.Cursors.{reads, from}
+use Rattle.table_rows.specs.Overlay.{overlayAt}
+use Rattle.table_rows.specs.Flat.{flat}
+use Rattle.parse_rows.specs.Folds.{fold, folded, stepped}
+use Rattle.parse_cursor.specs.Fields.{kind, fields}
+use Rattle.parse_cursor.specs.Branches.{itemOf}
+use Rattle.parse_cursor.proofs.Steps.{join, seq, passed, from-same}
+use Rattle.parse_cursor.proofs.Binds.{after-after, after-same, after-when, then-assoc, then-bind}
+use Rattle.parse_cursor.proofs.Counts.{falls, lexAt-some}
+use Rattle.parse_rows.proofs.Folds.{folded-more}
+use Rattle.parse_cursor.proofs.Branches.{item-takes}
+use Rattle.parse_cursor.proofs.Many.{Keeps, Takes, takes-keeps, pure-keeps, bind-keeps, bind-takes, then-keeps, then-takes, keyword-takes, opened-takes, closed-keeps, number-takes, numbers-keeps, string-takes, one-of-takes, many-keeps}
+use Rattle.parse_cursor.proofs.FieldKeeps.{AllKeep, fields-keeps}
+use Rattle.parse_cursor.proofs.Given.{free, many-gives}
+use Rattle.table_rows.proofs.Tables.{overlayAt-none, overlayAt-append, overlayAt-same}
 use Rattle.bac6_text.specs.Figure.{Bone}
 use Rattle.bac6_text.specs.Grammar.{BoneField, named, flag, several, boneOf, boneKinds, bone, word, truth}
 use Rattle.bac6_text.specs.Layout.{boneRow}

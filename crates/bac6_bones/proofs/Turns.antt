@@ -10,17 +10,18 @@ use lib.ListN.{getD, replicate}
 use mir.Syntax.{w64}
 use mir.Val.{SFits, toZ, ofZ}
 use mir.Facts.{toZ-ofZ}
-use Rattle.lexer.specs.Bytes.{bytes}
-use Rattle.lexer.specs.Tokens.{lexAt}
-use Rattle.lexer.specs.declared.token.Span.{Span}
-use Rattle.lexer.specs.Answers.{Next, lexemeOf}
-use Rattle.chunks.specs.declared.cursor.Cursor.{Cursor}
-use Rattle.chunks.specs.Readers.{Got, _>>_, pure, isClosing, isOpening, keyword, wordOf}
-use Rattle.chunks.specs.Cursors.{reads, from, overlayAt, closedAt}
-use Rattle.chunks.specs.Fields.{kind, isSome, kindFrom, fieldsIn, fields, unread, neededOf, coversAll}
-use Rattle.chunks.proofs.Steps.{join, seq, reads-same, passed, from-on}
-use Rattle.chunks.proofs.Behind.{given}
-use Rattle.chunks.proofs.FieldSteps.{complete-seen, turn-ended, turn-full, turn-other, turn-chunk}
+use Rattle.text_bytes.specs.Bytes.{bytes}
+use Rattle.text_tokens.specs.Tokens.{lexAt}
+use Rattle.text_tokens.specs.declared.token.Span.{Span}
+use Rattle.text_tokens.specs.Answers.{Next, lexemeOf}
+use Rattle.parse_cursor.specs.declared.cursor.Cursor.{Cursor}
+use Rattle.parse_cursor.specs.Readers.{Got, _>>_, pure, isClosing, isOpening, keyword, wordOf}
+use Rattle.parse_cursor.specs.Cursors.{reads, from, closedAt}
+use Rattle.table_rows.specs.Overlay.{overlayAt}
+use Rattle.parse_cursor.specs.Fields.{kind, isSome, kindFrom, fieldsIn, fields, unread, neededOf, coversAll}
+use Rattle.parse_cursor.proofs.Steps.{join, seq, reads-same, passed, from-on}
+use Rattle.parse_cursor.proofs.Behind.{given}
+use Rattle.parse_cursor.proofs.FieldSteps.{complete-seen, turn-ended, turn-full, turn-other, turn-chunk}
 use Rattle.bac6_text.specs.Figure.{Bone}
 use Rattle.bac6_text.specs.Grammar.{BoneField, numbersIn, boneOf, boneKinds}
 use Rattle.bac6_text.specs.Layout.{boneRow}

@@ -7,27 +7,28 @@ use Prim.Native.Nat.{ℕ, zero, suc, _+_, _*_, _-_, _≤_, _<_}
 use native.Mathlib.Omega.{arith}
 use lib.IntN.{ℤ, pos}
 use lib.ListN.{length, set}
-use Rattle.lexer.specs.Bytes.{other, bytes, inWord}
-use Rattle.lexer.specs.Numbers.{INT, FLOAT}
-use Rattle.lexer.specs.Tokens.{lexAt}
-use Rattle.chunks.specs.declared.cursor.Cursor.{Cursor}
-use Rattle.chunks.specs.Readers.{Got, Reader, _>>=_, _>>_, pure, closed, close-bracket, number, numbers, many, string, absent}
-use Rattle.chunks.specs.Cursors.{reads, from, overlayAt}
-use Rattle.chunks.specs.Into.{numbersInto}
-use Rattle.chunks.specs.Places.{placeOf, nameOf}
-use Rattle.chunks.specs.Fields.{kind, insideAt}
-use Rattle.chunks.specs.Words.{words, onto, wordIn}
-use Rattle.chunks.proofs.Steps.{from-on, from-same, join}
-use Rattle.chunks.proofs.Binds.{closed-at}
-use Rattle.chunks.proofs.Vocabulary.{wordList, one-word}
-use Rattle.chunks.proofs.Tables.{overlayAt-cons, overlayAt-none}
-use Rattle.chunks.proofs.Ranges.{numbers-give}
+use Rattle.text_bytes.specs.Bytes.{other, bytes, inWord}
+use Rattle.text_numbers.specs.Numbers.{INT, FLOAT}
+use Rattle.text_tokens.specs.Tokens.{lexAt}
+use Rattle.parse_cursor.specs.declared.cursor.Cursor.{Cursor}
+use Rattle.parse_cursor.specs.Readers.{Got, Reader, _>>=_, _>>_, pure, closed, close-bracket, number, numbers, many, string, absent}
+use Rattle.parse_cursor.specs.Cursors.{reads, from}
+use Rattle.table_rows.specs.Overlay.{overlayAt}
+use Rattle.parse_rows.specs.Into.{numbersInto}
+use Rattle.parse_cursor.specs.Places.{placeOf, nameOf}
+use Rattle.parse_cursor.specs.Fields.{kind, insideAt}
+use Rattle.parse_words.specs.Words.{words, onto, wordIn}
+use Rattle.parse_cursor.proofs.Steps.{from-on, from-same, join}
+use Rattle.parse_cursor.proofs.Binds.{closed-at}
+use Rattle.parse_words.proofs.Vocabulary.{wordList, one-word}
+use Rattle.table_rows.proofs.Tables.{overlayAt-cons, overlayAt-none}
+use Rattle.parse_cursor.proofs.Ranges.{numbers-give}
 use Rattle.bac6_text.specs.Grammar.{BoneField, named, flag, several, nameIn, flagIn, numbersIn, boneKinds, truth, word}
 use Rattle.bac6_text.specs.Layout.{nameNumbers}
 use Rattle.bac6_rules.specs.Claims.{claimed}
 use Rattle.bac6_bones.specs.Into.{Yields, entriesInto, three, putRow}
-use Rattle.chunks.proofs.Counts.{alive}
-use Rattle.chunks.proofs.Behind.{given}
+use Rattle.parse_cursor.proofs.Counts.{alive}
+use Rattle.parse_cursor.proofs.Behind.{given}
 use Rattle.bac6_bones.proofs.Yielding.{unmap}
 use Rattle.bac6_bones.proofs.Fields.{putClaims}
 

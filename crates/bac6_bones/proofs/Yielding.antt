@@ -2,10 +2,10 @@
 use mathlib.Core.Path.{_≡_}
 use mathlib.Core.List.{List}
 use Prim.Native.Nat.{ℕ}
-use Rattle.chunks.specs.declared.cursor.Cursor.{Cursor}
-use Rattle.chunks.specs.Readers.{Got, after, pure}
-use Rattle.chunks.specs.Cursors.{reads}
-use Rattle.chunks.proofs.Behind.{behind}
+use Rattle.parse_cursor.specs.declared.cursor.Cursor.{Cursor}
+use Rattle.parse_cursor.specs.Readers.{Got, after, pure}
+use Rattle.parse_cursor.specs.Cursors.{reads}
+use Rattle.parse_cursor.proofs.Behind.{behind}
 use Rattle.bac6_bones.specs.Into.{Yields}
 
 pub unmap : {A B : Type 0} (text : List ℕ) (r : Cursor) (f : A → B) (b : B) (any : A) (g : Got A) → reads text r b ≡ after g (λ a. pure (f a)) → Yields text r g f b

@@ -6,18 +6,19 @@ use mathlib.Core.Option.{Option, none, some}
 use Prim.Native.Nat.{ℕ, zero, suc, _+_, _*_}
 use lib.IntN.{ℤ, pos}
 use lib.ListN.{length, getD, set}
-use Rattle.lexer.specs.Numbers.{INT}
-use Rattle.lexer.specs.declared.token.Span.{Span}
-use Rattle.chunks.specs.declared.cursor.Cursor.{Cursor}
-use Rattle.lexer.specs.Tokens.{lexAt}
-use Rattle.chunks.specs.Readers.{Got, Reader, _>>=_, _>>_, pure, keyword, number, many, many⁺}
-use Rattle.chunks.specs.Cursors.{reads, overlayAt}
-use Rattle.chunks.specs.Fields.{isSome, kindFrom, fields}
+use Rattle.text_numbers.specs.Numbers.{INT}
+use Rattle.text_tokens.specs.declared.token.Span.{Span}
+use Rattle.parse_cursor.specs.declared.cursor.Cursor.{Cursor}
+use Rattle.text_tokens.specs.Tokens.{lexAt}
+use Rattle.parse_cursor.specs.Readers.{Got, Reader, _>>=_, _>>_, pure, keyword, number, many, many⁺}
+use Rattle.parse_cursor.specs.Cursors.{reads}
+use Rattle.table_rows.specs.Overlay.{overlayAt}
+use Rattle.parse_cursor.specs.Fields.{isSome, kindFrom, fields}
 use Rattle.bac6_text.specs.Figure.{Bone}
 use Rattle.bac6_text.specs.Grammar.{BoneField, nameIn, flagIn, numbersIn, boneOf, boneKinds, bone}
 use Rattle.bac6_text.specs.Layout.{nameNumbers, boneRow}
-use Rattle.chunks.specs.Into.{flat}
-use Rattle.lexer.specs.Faults.{Fault, clear, fault}
+use Rattle.table_rows.specs.Flat.{flat}
+use Rattle.refusal.specs.Faults.{Fault, clear, fault}
 use Rattle.bac6_rules.specs.Claims.{claimed, claimedBone, claimedBones}
 
 -- where a reader leaves a cursor: the value that it read, and what the code keeps of that where the cursor has not refused

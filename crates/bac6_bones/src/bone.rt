@@ -4,15 +4,15 @@ ghost use Prim.Native.Nat.{_<_, _≤_};
 ghost use mathlib.Core.Bool.{false};
 ghost use lib.IntN.{pos};
 ghost use lib.ListN.{length, replicate};
-ghost use Rattle.lexer.specs.Tokens.{lexAt};
-ghost use Rattle.chunks.specs.Fields.{insideAt, fields};
-ghost use Rattle.chunks.specs.Cursors.{reads, from};
+ghost use Rattle.text_tokens.specs.Tokens.{lexAt};
+ghost use Rattle.parse_cursor.specs.Fields.{insideAt, fields};
+ghost use Rattle.parse_cursor.specs.Cursors.{reads, from};
 ghost use Rattle.bac6_text.specs.Grammar.{boneKinds};
 ghost use Rattle.bac6_bones.specs.Into.{Yields, putRow, ChunkRead, boneState, boneInto};
 use crate::entry::Claims;
 use crate::entry::entries;
-use chunks::Cursor;
-use chunks::Form;
+use parse_cursor::Cursor;
+use parse_numbers::Form;
 
 // The name's place and length, to the row.
 fn bone_name(text: &[u8], at: usize, row: &mut [i64]) -> Cursor
@@ -20,7 +20,7 @@ fn bone_name(text: &[u8], at: usize, row: &mut [i64]) -> Cursor
     ensures { λ r. ⌜ Yields (now (text .entry)) r (insideAt boneKinds 0 (lexAt (now (text .entry)) at)) (putRow 0 (now (row .entry))) (now (row .exit)) ⌝ }
 {
     let inside = Cursor { refusal: 0, at };
-    let n = chunks::name(text, inside);
+    let n = parse_names::name(text, inside);
     let d = n.cursor;
     if d.refusal != 0 {
         return d;
@@ -38,11 +38,11 @@ fn bone_flag(text: &[u8], at: usize, k: usize, row: &mut [i64]) -> Cursor
     ensures { λ r. ⌜ Yields (now (text .entry)) r (insideAt boneKinds k (lexAt (now (text .entry)) at)) (putRow k (now (row .entry))) (now (row .exit)) ⌝ }
 {
     let inside = Cursor { refusal: 0, at };
-    let n = chunks::one_of(text, inside, b"false true", 2);
+    let n = parse_words::one_of(text, inside, b"false true", 2);
     let d = n.cursor;
     let value = n.value;
     row[8 + k] = value;
-    chunks::closing(text, d)
+    parse_cursor::closing(text, d)
 }
 
 // Three numbers, to the row.
@@ -52,8 +52,8 @@ fn bone_vector(text: &[u8], at: usize, k: usize, row: &mut [i64]) -> Cursor
 {
     let inside = Cursor { refusal: 0, at };
     let to = (k - 3) * 3;
-    let d = chunks::numbers(text, inside, Form::Float, 3, row, to);
-    chunks::closing(text, d)
+    let d = parse_rows::numbers(text, inside, Form::Float, 3, row, to);
+    parse_cursor::closing(text, d)
 }
 
 // What stands in the chunk of kind k, to the row.
@@ -84,7 +84,7 @@ fn bone_chunk(
     requires { ⌜ (length (now row) ≡ 14) × (length (now seen) ≡ 7) ⌝ }
     ensures { λ r. ⌜ ChunkRead (now (text .entry)) at points bone (now (seen .entry), now (row .entry), (fine, now (owners .entry))) (r .cursor) (now (seen .exit), now (row .exit), (r .fine, now (owners .exit))) ⌝ }
 {
-    let t = lexer::next(text, at);
+    let t = text_tokens::next(text, at);
     let refused = Claims {
         cursor: Cursor {
             refusal: 5,
@@ -92,7 +92,7 @@ fn bone_chunk(
         },
         fine,
     };
-    let k = chunks::word_index(
+    let k = parse_words::word_index(
         text,
         t,
         b"name hasChild hasBrother translate rotate handle vertexIndices",
@@ -131,7 +131,7 @@ fn bone_fields(
     let mut left: usize = 7;
     let mut free = fine;
     loop {
-        let t = lexer::next(text, from);
+        let t = text_tokens::next(text, from);
         let kind = t.kind;
         let refused = Claims {
             cursor: Cursor {
@@ -140,16 +140,20 @@ fn bone_fields(
             },
             fine: free,
         };
-        if chunks::is_closing(kind) {
+        if parse_cursor::is_closing(kind) {
             return Claims {
-                cursor: chunks::closed_at(t, &[false, true, true, true, true, true, false], seen),
+                cursor: parse_words::closed_at(
+                    t,
+                    &[false, true, true, true, true, true, false],
+                    seen,
+                ),
                 fine: free,
             };
         }
         if left == 0 {
             return refused;
         }
-        if !chunks::is_opening(kind) {
+        if !parse_cursor::is_opening(kind) {
             return refused;
         }
         let m = bone_chunk(text, t.end, points, bone, row, seen, owners, free);
@@ -176,13 +180,13 @@ pub(crate) fn bone_tail(
 ) -> Claims
     ensures { λ r. ⌜ reads (now (text .entry)) (r .cursor) (now (out .exit), (r .fine, now (owners .exit))) ≡ from (now (text .entry)) c (boneInto points bone to (now (out .entry)) (fine, now (owners .entry))) ⌝ }
 {
-    let d = chunks::keyword(text, c, b"bone");
+    let d = parse_cursor::keyword(text, c, b"bone");
     if d.refusal != 0 {
         return Claims { cursor: d, fine };
     }
     let mut row = [0i64; 14];
     let mut seen = [false; 7];
     let r = bone_fields(text, d.at, points, bone, &mut row, &mut seen, owners, fine);
-    chunks::store(out, to, &row);
+    table_rows::store(out, to, &row);
     r
 }

@@ -1,11 +1,11 @@
 // The entries of `vertexIndices`, each tried as it is read (rule 11).
 ghost use mathlib.Core.Path.{_≡_};
-ghost use Rattle.lexer.specs.Tokens.{lexAt};
-ghost use Rattle.chunks.specs.Cursors.{reads};
+ghost use Rattle.text_tokens.specs.Tokens.{lexAt};
+ghost use Rattle.parse_cursor.specs.Cursors.{reads};
 ghost use Rattle.bac6_rules.specs.Claims.{claimedOne};
 ghost use Rattle.bac6_bones.specs.Into.{entriesInto};
-use chunks::Cursor;
-use chunks::Form;
+use parse_cursor::Cursor;
+use parse_numbers::Form;
 
 // A cursor, and whether every entry so far was free; where the cursor has refused, `fine` is free.
 pub(crate) struct Claims {
@@ -37,9 +37,9 @@ pub(crate) fn entries(
     let mut at = start;
     let mut free = fine;
     loop {
-        let t = lexer::next(text, at);
+        let t = text_tokens::next(text, at);
         let kind = t.kind;
-        if chunks::is_closing(kind) {
+        if parse_cursor::is_closing(kind) {
             return Claims {
                 cursor: Cursor {
                     refusal: 0,
@@ -49,7 +49,7 @@ pub(crate) fn entries(
             };
         }
         let here = Cursor { refusal: 0, at };
-        let n = chunks::number(text, here, Form::Int);
+        let n = parse_numbers::number(text, here, Form::Int);
         let d = n.cursor;
         if d.refusal != 0 {
             return Claims {

@@ -2,12 +2,12 @@
 ghost use mathlib.Core.Path.{_≡_};
 ghost use Prim.Native.Nat.{_+_, _*_, _^_, _<_, min};
 ghost use lib.ListN.{length};
-ghost use Rattle.chunks.specs.Cursors.{reads, from};
-ghost use Rattle.chunks.specs.Folds.{folded, stepped};
+ghost use Rattle.parse_cursor.specs.Cursors.{reads, from};
+ghost use Rattle.parse_rows.specs.Folds.{folded, stepped};
 ghost use Rattle.bac6_text.specs.Grammar.{bone as boneRead};
 ghost use Rattle.bac6_bones.specs.Into.{faultOf, boneTail, boneStep, bonesInto};
 use crate::bone::bone_tail;
-use chunks::Cursor;
+use parse_cursor::Cursor;
 
 // How many bones were read, a cursor past them, and the row of the first whose claims are at fault, if there is one (rule 11);
 // where there is none, `fault` is free, and where the cursor has refused, all but the cursor is.
@@ -69,7 +69,7 @@ fn more_bones(
     let mut fault = first.fault;
     let mut i = 14;
     loop {
-        let item = chunks::next_item(text, d);
+        let item = parse_numbers::next_item(text, d);
         let start = item.cursor;
         let so_far = Boned {
             cursor: start,
@@ -91,7 +91,7 @@ fn more_bones(
         count = b.count;
         faulty = b.faulty;
         fault = b.fault;
-        i = chunks::advance(i, 14, table.len());
+        i = table_rows::advance(i, 14, table.len());
     }
 }
 
@@ -100,7 +100,7 @@ fn more_bones(
 pub fn bones(text: &[u8], c: Cursor, points: usize, table: &mut [i64], owners: &mut [i64]) -> Boned
     ensures { λ r. ⌜ reads (now (text .entry)) (r .cursor) (r .count, now (table .exit), (faultOf (r .faulty) (r .fault), now (owners .exit))) ≡ from (now (text .entry)) c (bonesInto points (now (table .entry)) (now (owners .entry))) ⌝ }
 {
-    let start = chunks::opening(text, c);
+    let start = parse_cursor::opening(text, c);
     let first = next_bone(text, start, points, 0, table, 0, owners, false, 0);
     more_bones(text, first, points, table, owners)
 }

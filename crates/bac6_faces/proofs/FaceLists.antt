@@ -5,16 +5,17 @@ use mathlib.Core.Bool.{Bool, true, false}
 use Prim.Native.Nat.{ℕ, zero, suc, _+_, _*_, min}
 use lib.IntN.{ℤ}
 use lib.ListN.{length}
-use Rattle.lexer.specs.Numbers.{INT}
-use Rattle.lexer.specs.Tokens.{Lexeme}
-use Rattle.chunks.specs.declared.cursor.Cursor.{Cursor}
-use Rattle.chunks.specs.Readers.{got, Reader, after, _>>=_, _>>_, pure, open-bracket, oneOf, row}
-use Rattle.chunks.specs.Cursors.{reads, from, overlayAt}
-use Rattle.chunks.specs.Folds.{stepped, rowStep}
-use Rattle.chunks.proofs.Steps.{join, from-same}
-use Rattle.chunks.proofs.Binds.{after-after, after-same}
-use Rattle.chunks.proofs.Tables.{overlayAt-same}
-use Rattle.chunks.proofs.Many.{Keeps, Takes, takes-keeps, pure-keeps, bind-keeps, bind-takes, then-keeps, then-takes, keyword-takes, opened-takes, open-takes, close-takes, closed-keeps, number-takes, numbers-keeps, one-of-takes, row-takes}
+use Rattle.text_numbers.specs.Numbers.{INT}
+use Rattle.text_tokens.specs.Tokens.{Lexeme}
+use Rattle.parse_cursor.specs.declared.cursor.Cursor.{Cursor}
+use Rattle.parse_cursor.specs.Readers.{got, Reader, after, _>>=_, _>>_, pure, open-bracket, oneOf, row}
+use Rattle.parse_cursor.specs.Cursors.{reads, from}
+use Rattle.table_rows.specs.Overlay.{overlayAt}
+use Rattle.parse_rows.specs.Folds.{stepped, rowStep}
+use Rattle.parse_cursor.proofs.Steps.{join, from-same}
+use Rattle.parse_cursor.proofs.Binds.{after-after, after-same}
+use Rattle.table_rows.proofs.Tables.{overlayAt-same}
+use Rattle.parse_cursor.proofs.Many.{Keeps, Takes, takes-keeps, pure-keeps, bind-keeps, bind-takes, then-keeps, then-takes, keyword-takes, opened-takes, open-takes, close-takes, closed-keeps, number-takes, numbers-keeps, one-of-takes, row-takes}
 use Rattle.bac6_text.specs.Grammar.{face, faceOf, faceBy}
 use Rattle.bac6_text.specs.Layout.{faceRow}
 use Rattle.bac6_faces.specs.Into.{faceTail, faceInto, faceStep}

@@ -6,22 +6,23 @@ use native.Mathlib.Omega.{arith}
 use mir.Syntax.{w64}
 use mir.Val.{SFits, toZ, ofZ}
 use mir.Facts.{toZ-ofZ}
-use Rattle.lexer.proofs.Signed.{bits-pos}
+use Rattle.text_numbers.proofs.Signed.{bits-pos}
 use lib.IntN.{ℤ, pos, negsuc}
 use lib.ListN.{length}
-use Rattle.lexer.specs.Numbers.{INT}
-use Rattle.lexer.specs.Bytes.{bytes, inWord}
-use Rattle.lexer.specs.Tokens.{Lexeme}
-use Rattle.chunks.specs.declared.cursor.Cursor.{Cursor}
-use Rattle.chunks.specs.Readers.{Got, Reader, after, _>>=_, _>>_, pure, open-bracket, close-bracket, keyword, wordOf, opened, openedOf, closed, number, numbers, oneOf, row, rowOf}
-use Rattle.chunks.specs.Words.{words, onto, wordIn}
-use Rattle.chunks.specs.Into.{numbersInto, rowInto}
-use Rattle.chunks.specs.Cursors.{reads, from, overlay, overlayAt}
-use Rattle.chunks.proofs.Binds.{after-after, after-same, after-when, then-assoc, then-bind, closed-map, closed-at}
-use Rattle.chunks.proofs.Steps.{join, seq, from-same}
-use Rattle.chunks.proofs.Given.{free, closed-gives}
-use Rattle.chunks.proofs.Ranges.{numbers-give, row-of-gives}
-use Rattle.chunks.proofs.Vocabulary.{wordList, one-word}
+use Rattle.text_numbers.specs.Numbers.{INT}
+use Rattle.text_bytes.specs.Bytes.{bytes, inWord}
+use Rattle.text_tokens.specs.Tokens.{Lexeme}
+use Rattle.parse_cursor.specs.declared.cursor.Cursor.{Cursor}
+use Rattle.parse_cursor.specs.Readers.{Got, Reader, after, _>>=_, _>>_, pure, open-bracket, close-bracket, keyword, wordOf, opened, openedOf, closed, number, numbers, oneOf, row, rowOf}
+use Rattle.parse_words.specs.Words.{words, onto, wordIn}
+use Rattle.parse_rows.specs.Into.{numbersInto, rowInto}
+use Rattle.parse_cursor.specs.Cursors.{reads, from}
+use Rattle.table_rows.specs.Overlay.{overlay, overlayAt}
+use Rattle.parse_cursor.proofs.Binds.{after-after, after-same, after-when, then-assoc, then-bind, closed-map, closed-at}
+use Rattle.parse_cursor.proofs.Steps.{join, seq, from-same}
+use Rattle.parse_cursor.proofs.Given.{free, closed-gives}
+use Rattle.parse_cursor.proofs.Ranges.{numbers-give, row-of-gives}
+use Rattle.parse_words.proofs.Vocabulary.{wordList, one-word}
 use Rattle.bac6_text.specs.Grammar.{face, faceOf, faceBy}
 use Rattle.bac6_text.specs.Layout.{faceRow, corners}
 use Rattle.bac6_faces.specs.Into.{cornersOf, cornersInto, faceTail, faceInto}

@@ -6,24 +6,25 @@ use mir.Syntax.{w64}
 use mir.Val.{toZ}
 use lib.IntN.{ℤ, pos}
 use lib.ListN.{length}
-use Rattle.lexer.specs.Bytes.{bytes}
-use Rattle.lexer.specs.Tokens.{Lexeme, lexAt}
-use Rattle.chunks.specs.declared.cursor.Cursor.{Cursor}
-use Rattle.chunks.specs.Readers.{Got, Reader, after, _>>=_, _>>_, pure, open-bracket, keyword, wordOf, opened, openedOf, closed, Name, absent, string, optional, many}
-use Rattle.chunks.specs.Cursors.{reads, from, overlayAt}
-use Rattle.chunks.specs.Places.{placeOf, optionalName}
-use Rattle.chunks.specs.Folds.{folded, stepped, rowStep}
-use Rattle.lexer.proofs.Signed.{bits-pos}
-use Rattle.chunks.proofs.Tables.{overlayAt-same}
-use Rattle.chunks.proofs.Steps.{join, seq, reads-same, from-same}
-use Rattle.chunks.proofs.Binds.{after-after, after-same, then-assoc, then-bind}
-use Rattle.chunks.proofs.Many.{Keeps, Takes, takes-keeps, pure-keeps, bind-keeps, bind-takes, then-keeps, then-takes, keyword-takes, word-takes, opened-takes, closed-keeps, string-takes, optional-keeps, many-keeps}
+use Rattle.text_bytes.specs.Bytes.{bytes}
+use Rattle.text_tokens.specs.Tokens.{Lexeme, lexAt}
+use Rattle.parse_cursor.specs.declared.cursor.Cursor.{Cursor}
+use Rattle.parse_cursor.specs.Readers.{Got, Reader, after, _>>=_, _>>_, pure, open-bracket, keyword, wordOf, opened, openedOf, closed, Name, absent, string, optional, many}
+use Rattle.parse_cursor.specs.Cursors.{reads, from}
+use Rattle.table_rows.specs.Overlay.{overlayAt}
+use Rattle.parse_cursor.specs.Places.{placeOf, optionalName}
+use Rattle.parse_rows.specs.Folds.{folded, stepped, rowStep}
+use Rattle.text_numbers.proofs.Signed.{bits-pos}
+use Rattle.table_rows.proofs.Tables.{overlayAt-same}
+use Rattle.parse_cursor.proofs.Steps.{join, seq, reads-same, from-same}
+use Rattle.parse_cursor.proofs.Binds.{after-after, after-same, then-assoc, then-bind}
+use Rattle.parse_cursor.proofs.Many.{Keeps, Takes, takes-keeps, pure-keeps, bind-keeps, bind-takes, then-keeps, then-takes, keyword-takes, word-takes, opened-takes, closed-keeps, string-takes, optional-keeps, many-keeps}
 use Rattle.bac6_text.specs.Figure.{Group}
 use Rattle.bac6_text.specs.Grammar.{face, group}
 use Rattle.bac6_text.specs.Layout.{nameNumbers}
 use Rattle.bac6_faces.specs.Into.{faceStep, groupTail, groupStep}
-use Rattle.chunks.proofs.Counts.{alive, short}
-use Rattle.chunks.proofs.NameSteps.{name-keeps}
+use Rattle.parse_cursor.proofs.Counts.{alive, short}
+use Rattle.parse_names.proofs.NameSteps.{name-keeps}
 use Rattle.bac6_faces.proofs.FaceLists.{face-takes}
 
 -- a keyword and a name

@@ -4,16 +4,16 @@ use mathlib.Core.List.{List, []}
 use mathlib.Core.Bool.{Bool, true, false}
 use Prim.Native.Nat.{ℕ}
 use lib.IntN.{ℤ, negsuc}
-use Rattle.lexer.specs.Bytes.{bytes}
-use Rattle.lexer.specs.Tokens.{Lexeme}
-use Rattle.chunks.specs.declared.cursor.Cursor.{Cursor}
-use Rattle.chunks.specs.Readers.{Got, got, Reader, after, _>>=_, _>>_, pure, openedOf, opened, trailing, many}
-use Rattle.chunks.specs.Branches.{lastOf}
-use Rattle.chunks.specs.Cursors.{reads, from}
-use Rattle.chunks.specs.Folds.{fold, folded}
-use Rattle.chunks.proofs.Steps.{join, seq, from-same}
-use Rattle.chunks.proofs.Binds.{after-after, after-same, then-bind}
-use Rattle.chunks.proofs.Branches.{trailing-yes, trailing-no, trailing-map}
+use Rattle.text_bytes.specs.Bytes.{bytes}
+use Rattle.text_tokens.specs.Tokens.{Lexeme}
+use Rattle.parse_cursor.specs.declared.cursor.Cursor.{Cursor}
+use Rattle.parse_cursor.specs.Readers.{Got, got, Reader, after, _>>=_, _>>_, pure, openedOf, opened, trailing, many}
+use Rattle.parse_cursor.specs.Branches.{lastOf}
+use Rattle.parse_cursor.specs.Cursors.{reads, from}
+use Rattle.parse_rows.specs.Folds.{fold, folded}
+use Rattle.parse_cursor.proofs.Steps.{join, seq, from-same}
+use Rattle.parse_cursor.proofs.Binds.{after-after, after-same, then-bind}
+use Rattle.parse_cursor.proofs.Branches.{trailing-yes, trailing-no, trailing-map}
 use Rattle.bac6_text.specs.Figure.{Face, Figure}
 use Rattle.bac6_text.specs.Grammar.{face, group}
 use Rattle.bac6_text.specs.Layout.{faceRows}

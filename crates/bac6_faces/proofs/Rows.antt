@@ -7,12 +7,12 @@ use native.Mathlib.Numerals.{add-one}
 use native.Mathlib.Omega.{arith}
 use lib.IntN.{ℤ, pos, negsuc}
 use lib.ListN.{length, length-append}
-use Rattle.chunks.specs.Cursors.{overlayAt}
-use Rattle.chunks.specs.Into.{flat}
-use Rattle.chunks.specs.Folds.{fold, rowStep}
-use Rattle.chunks.proofs.Folds.{fold-rows}
-use Rattle.chunks.proofs.Widths.{Wide, wide-append}
-use Rattle.chunks.proofs.Tables.{overlayAt-none, overlayAt-append}
+use Rattle.table_rows.specs.Overlay.{overlayAt}
+use Rattle.table_rows.specs.Flat.{flat}
+use Rattle.parse_rows.specs.Folds.{fold, rowStep}
+use Rattle.parse_rows.proofs.Folds.{fold-rows}
+use Rattle.parse_rows.proofs.Widths.{Wide, wide-append}
+use Rattle.table_rows.proofs.Tables.{overlayAt-none, overlayAt-append}
 use Rattle.bac6_text.specs.Figure.{Face, Group}
 use Rattle.bac6_text.specs.Layout.{corners, faceRow, groupRows, groupNames, nameNumbers}
 use Rattle.bac6_faces.specs.Into.{faceStep, groupStep, allRows, tablesOf}

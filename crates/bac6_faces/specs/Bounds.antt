@@ -3,8 +3,8 @@ use mathlib.Core.Path.{_≡_}
 use mathlib.Core.List.{List}
 use Prim.Native.Nat.{ℕ, suc, _+_, _≤_}
 use lib.ListN.{length}
-use Rattle.lexer.specs.Tokens.{lexAt}
-use Rattle.chunks.specs.declared.cursor.Cursor.{Cursor}
+use Rattle.text_tokens.specs.Tokens.{lexAt}
+use Rattle.parse_cursor.specs.declared.cursor.Cursor.{Cursor}
 
 -- n items and the tokens left are no more than a text's tokens
 abbrev pub Bounded : List ℕ → Cursor → ℕ → Type 0

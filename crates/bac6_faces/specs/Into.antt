@@ -3,11 +3,11 @@ use mathlib.Core.List.{List, [], _∷_, _++_, map}
 use Prim.Native.Nat.{ℕ}
 use lib.ListN.{length}
 use lib.IntN.{ℤ, pos, negsuc}
-use Rattle.lexer.specs.Numbers.{INT}
-use Rattle.chunks.specs.Readers.{Reader, _>>=_, _>>_, pure, open-bracket, close-bracket, keyword, opened, closed, number, numbers, oneOf, rowOf, absent, string, optional, trailing, many}
-use Rattle.chunks.specs.Cursors.{overlayAt}
-use Rattle.chunks.specs.Into.{flat}
-use Rattle.chunks.specs.Folds.{fold, rowStep}
+use Rattle.text_numbers.specs.Numbers.{INT}
+use Rattle.parse_cursor.specs.Readers.{Reader, _>>=_, _>>_, pure, open-bracket, close-bracket, keyword, opened, closed, number, numbers, oneOf, rowOf, absent, string, optional, trailing, many}
+use Rattle.table_rows.specs.Overlay.{overlayAt}
+use Rattle.table_rows.specs.Flat.{flat}
+use Rattle.parse_rows.specs.Folds.{fold, rowStep}
 use Rattle.bac6_text.specs.Figure.{Face, Group}
 use Rattle.bac6_text.specs.Grammar.{face, faceBy, group}
 use Rattle.bac6_text.specs.Layout.{faceRow, groupRows, groupNames, nameNumbers}

@@ -1,14 +1,14 @@
 // A face: a row of eleven numbers.
 ghost use mathlib.Core.Path.{_≡_};
 ghost use Prim.Native.Nat.{_*_, _≤_, _<_, min};
-ghost use Rattle.chunks.specs.Cursors.{reads, from};
-ghost use Rattle.chunks.specs.Folds.{folded};
+ghost use Rattle.parse_cursor.specs.Cursors.{reads, from};
+ghost use Rattle.parse_rows.specs.Folds.{folded};
 ghost use Rattle.bac6_text.specs.Grammar.{face};
 ghost use Rattle.bac6_faces.specs.Into.{cornersInto, faceInto, faceStep};
 ghost use Rattle.bac6_faces.specs.Bounds.{Bounded, Fewer};
-use chunks::Counted;
-use chunks::Cursor;
-use chunks::Form;
+use parse_cursor::Cursor;
+use parse_numbers::Form;
+use parse_rows::Counted;
 
 // What stands in a face after its first i3 or i4, and its row to the table from index `to` on.
 fn corners(
@@ -29,21 +29,21 @@ fn corners(
     row[1] = size as i64;
     row[10] = group;
     let width = size as usize;
-    let vertices = chunks::numbers(text, c, Form::Int, width, &mut row, 2);
-    let d = chunks::closing(text, vertices);
-    let uvs = chunks::row(text, d, word, 0, Form::Int, width, &mut row, 6);
-    chunks::store(out, to, &row);
-    chunks::closing(text, uvs)
+    let vertices = parse_rows::numbers(text, c, Form::Int, width, &mut row, 2);
+    let d = parse_cursor::closing(text, vertices);
+    let uvs = parse_rows::row(text, d, word, 0, Form::Int, width, &mut row, 6);
+    table_rows::store(out, to, &row);
+    parse_cursor::closing(text, uvs)
 }
 
 // What stands in a face after its (.
 fn face_tail(text: &[u8], c: Cursor, group: i64, out: &mut [i64], to: usize) -> Cursor
     ensures { λ r. ⌜ reads (now (text .entry)) r (now (out .exit)) ≡ from (now (text .entry)) c (faceInto group to (now (out .entry))) ⌝ }
 {
-    let m = chunks::number(text, chunks::keyword(text, c, b"face"), Form::Int);
+    let m = parse_numbers::number(text, parse_cursor::keyword(text, c, b"face"), Form::Int);
     let material = m.value;
     let d = m.cursor;
-    let k = chunks::one_of(text, chunks::opening(text, d), b"i3 i4", 2);
+    let k = parse_words::one_of(text, parse_cursor::opening(text, d), b"i3 i4", 2);
     let e = k.cursor;
     if k.value == 0 {
         return corners(text, e, material, b"i3", 3, group, out, to);
@@ -77,7 +77,7 @@ pub(crate) fn face_list(
     let mut d = c;
     let mut n = count;
     loop {
-        let item = chunks::next_item(text, d);
+        let item = parse_numbers::next_item(text, d);
         let start = item.cursor;
         if item.ended {
             return Counted {

@@ -2,15 +2,15 @@
 ghost use mathlib.Core.Path.{_≡_};
 ghost use Prim.Native.Nat.{_+_, _≤_};
 ghost use lib.ListN.{length};
-ghost use Rattle.chunks.specs.Cursors.{reads, from};
-ghost use Rattle.chunks.specs.Folds.{stepped, folded};
+ghost use Rattle.parse_cursor.specs.Cursors.{reads, from};
+ghost use Rattle.parse_rows.specs.Folds.{stepped, folded};
 ghost use Rattle.bac6_text.specs.Grammar.{group as groupRead};
 ghost use Rattle.bac6_faces.specs.Into.{groupTail, groupStep};
 ghost use Rattle.bac6_faces.specs.Bounds.{Bounded, Fewer};
 use crate::face::face_list;
 use crate::face::row_index;
-use chunks::Counted;
-use chunks::Cursor;
+use parse_cursor::Cursor;
+use parse_rows::Counted;
 
 // How many faces and groups were read, and a cursor past them; where the cursor has refused, the counts are free.
 pub struct Polygons {
@@ -33,7 +33,7 @@ fn group_tail(
     ensures { λ r. ⌜ reads (now (text .entry)) (r .cursor) ((group + 1, now (names .exit)), (r .count, now (faces .exit))) ≡ from (now (text .entry)) c (stepped groupStep groupTail ((group, now (names .entry)), (count, now (faces .entry)))) ⌝ }
     ensures { λ r. ⌜ Fewer (now (text .entry)) c count (r .cursor) (r .count) ⌝ }
 {
-    let n = chunks::optional_name(text, chunks::keyword(text, c, b"group"));
+    let n = parse_names::optional_name(text, parse_cursor::keyword(text, c, b"group"));
     let d = n.cursor;
     if d.refusal != 0 {
         return Counted { cursor: d, count };
@@ -41,7 +41,7 @@ fn group_tail(
     let place = n.place;
     let length = n.length;
     let row = [place as i64, length as i64];
-    chunks::store(names, row_index(group, 2, names.len()), &row);
+    table_rows::store(names, row_index(group, 2, names.len()), &row);
     face_list(text, d, group as i64, faces, count)
 }
 
@@ -60,7 +60,7 @@ pub(crate) fn group_list(
     let mut n = count;
     let mut i = 0;
     loop {
-        let item = chunks::next_item(text, d);
+        let item = parse_numbers::next_item(text, d);
         let start = item.cursor;
         if item.ended {
             return Polygons {

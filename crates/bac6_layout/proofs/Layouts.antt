@@ -2,7 +2,7 @@
 use mathlib.Core.Path.{_≡_, refl}
 use mathlib.Core.List.{_++_}
 use lib.ListN.{length}
-use Rattle.chunks.specs.Into.{flat}
+use Rattle.table_rows.specs.Flat.{flat}
 use Rattle.bac6_text.specs.Figure.{Figure}
 use Rattle.bac6_text.specs.Rules.{flagsOf, wholeList, parentsIn}
 use Rattle.bac6_text.specs.Layout.{layoutOf, nameNumbers, boneRows, ownersFrom, faceRows, groupNames}

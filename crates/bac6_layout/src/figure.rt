@@ -1,8 +1,8 @@
 // A figure's eleven lists laid into a table.
 ghost use mathlib.Core.Path.{_≡_};
 ghost use mathlib.Core.List.{_++_};
-ghost use Rattle.chunks.specs.Cursors.{overlayAt};
-use chunks::put;
+ghost use Rattle.table_rows.specs.Overlay.{overlayAt};
+use table_rows::put;
 
 // Lays the lists of a figure over a table's first numbers, without gaps; numbers past the table's end are dropped.
 pub fn lay(

@@ -2,7 +2,7 @@
 use mathlib.Core.List.{List, [], _∷_}
 use Prim.Native.Nat.{ℕ}
 use lib.IntN.{ℤ}
-use Rattle.lexer.specs.Bytes.{bytes}
+use Rattle.text_bytes.specs.Bytes.{bytes}
 use Rattle.report.specs.Lists.{RowList, rowList, listingLines, textOf}
 use Rattle.bac6.specs.declared.setting.FigureAnswer.{FigureAnswer}
 

@@ -7,17 +7,17 @@ use lib.IntN.{ℤ}
 use lib.ListN.{length}
 use mathlib.Core.Bool.{Bool, true, false}
 use mathlib.Core.Option.{Option}
-use Rattle.lexer.specs.Tokens.{Lexeme, lexAt}
-use Rattle.lexer.specs.declared.token.Span.{Span}
-use Rattle.lexer.specs.Answers.{Next, lexemeOf}
-use Rattle.chunks.specs.declared.cursor.Cursor.{Cursor}
-use Rattle.chunks.specs.Readers.{Reader, after, closed, isClosing}
-use Rattle.chunks.specs.Words.{words, wordIn}
-use Rattle.chunks.specs.Cursors.{reads, from, closedAt}
-use Rattle.chunks.proofs.Steps.{join, from-same}
-use Rattle.chunks.specs.Fields.{Kind, kind, fieldsIn, fieldsOf, neededOf, coversAll}
-use Rattle.chunks.proofs.FieldSteps.{complete-flags, turn-ended}
-use Rattle.chunks.proofs.Vocabulary.{wordList, one-word}
+use Rattle.text_tokens.specs.Tokens.{Lexeme, lexAt}
+use Rattle.text_tokens.specs.declared.token.Span.{Span}
+use Rattle.text_tokens.specs.Answers.{Next, lexemeOf}
+use Rattle.parse_cursor.specs.declared.cursor.Cursor.{Cursor}
+use Rattle.parse_cursor.specs.Readers.{Reader, after, closed, isClosing}
+use Rattle.parse_words.specs.Words.{words, wordIn}
+use Rattle.parse_cursor.specs.Cursors.{reads, from, closedAt}
+use Rattle.parse_cursor.proofs.Steps.{join, from-same}
+use Rattle.parse_cursor.specs.Fields.{Kind, kind, fieldsIn, fieldsOf, neededOf, coversAll}
+use Rattle.parse_cursor.proofs.FieldSteps.{complete-flags, turn-ended}
+use Rattle.parse_words.proofs.Vocabulary.{wordList, one-word}
 use Rattle.bac6_text.specs.Grammar.{word, materialKinds}
 use Rattle.bac6_parse.specs.Closing.{closeWith}
 

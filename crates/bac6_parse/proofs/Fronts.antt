@@ -8,20 +8,21 @@ use native.Mathlib.Omega.{arith}
 use native.Mathlib.Nat.{zero-add}
 use lib.IntN.{ℤ}
 use lib.ListN.{length}
-use Rattle.lexer.specs.Bytes.{bytes}
-use Rattle.lexer.specs.Numbers.{Form, INT, FLOAT}
-use Rattle.lexer.specs.Tokens.{Lexeme}
-use Rattle.chunks.specs.Readers.{Name, absent, got, Reader, after, _>>=_, _>>_, pure, close-bracket, head, opened, closed, string, optional, starts, many, many⁺, row}
-use Rattle.chunks.specs.Places.{placeOf, optionalName}
-use Rattle.chunks.specs.Branches.{startOf}
-use Rattle.chunks.specs.Into.{flat, rowsInto, someInto}
-use Rattle.chunks.specs.Folds.{fold, folded, stepped, rowStep}
-use Rattle.chunks.proofs.Folds.{fold-rows}
-use Rattle.chunks.specs.Cursors.{overlayAt}
-use Rattle.chunks.proofs.Binds.{after-after, after-when}
-use Rattle.chunks.proofs.Given.{Every, free, many-gives}
-use Rattle.chunks.proofs.Tables.{overlayAt-append, overlayAt-none}
-use Rattle.chunks.proofs.Sequences.{into-then, into-bind, into-end}
+use Rattle.text_bytes.specs.Bytes.{bytes}
+use Rattle.text_numbers.specs.Numbers.{Form, INT, FLOAT}
+use Rattle.text_tokens.specs.Tokens.{Lexeme}
+use Rattle.parse_cursor.specs.Readers.{Name, absent, got, Reader, after, _>>=_, _>>_, pure, close-bracket, head, opened, closed, string, optional, starts, many, many⁺, row}
+use Rattle.parse_cursor.specs.Places.{placeOf, optionalName}
+use Rattle.parse_cursor.specs.Branches.{startOf}
+use Rattle.parse_rows.specs.Into.{rowsInto, someInto}
+use Rattle.table_rows.specs.Flat.{flat}
+use Rattle.parse_rows.specs.Folds.{fold, folded, stepped, rowStep}
+use Rattle.parse_rows.proofs.Folds.{fold-rows}
+use Rattle.table_rows.specs.Overlay.{overlayAt}
+use Rattle.parse_cursor.proofs.Binds.{after-after, after-when}
+use Rattle.parse_cursor.proofs.Given.{Every, free, many-gives}
+use Rattle.table_rows.proofs.Tables.{overlayAt-append, overlayAt-none}
+use Rattle.parse_cursor.proofs.Sequences.{into-then, into-bind, into-end}
 use Rattle.bac6_text.specs.Grammar.{material}
 use Rattle.bac6_text.proofs.Whole.{material-gives}
 use Rattle.bac6_parse.specs.Into.{materialsInto}

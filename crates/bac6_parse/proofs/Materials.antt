@@ -8,21 +8,22 @@ use Prim.Native.String.{String}
 use native.Mathlib.Omega.{arith}
 use lib.IntN.{ℤ, pos}
 use lib.ListN.{length, set, replicate}
-use Rattle.lexer.specs.Numbers.{INT, FLOAT}
-use Rattle.lexer.specs.Bytes.{bytes, same, inWord}
-use Rattle.lexer.specs.Tokens.{Lexeme, lexAt}
-use Rattle.chunks.specs.declared.cursor.Cursor.{Cursor}
-use Rattle.chunks.specs.Readers.{Got, Reader, after, _>>=_, _>>_, pure, open-bracket, keyword, wordOf, opened, openedOf, closed, number}
-use Rattle.chunks.specs.Cursors.{reads, from, overlayAt}
-use Rattle.chunks.proofs.Many.{Keeps, Takes, takes-keeps, pure-keeps, bind-keeps, bind-takes, then-keeps, then-takes, keyword-takes, opened-takes, closed-keeps, number-takes, one-of-takes}
-use Rattle.chunks.proofs.FieldKeeps.{AllKeep, fields-keeps}
-use Rattle.chunks.proofs.Binds.{then-assoc, then-bind}
-use Rattle.chunks.proofs.Steps.{join, seq, passed, from-on, from-off}
-use Rattle.chunks.specs.Fields.{Kind, kind, insideAt, fieldOf, fieldsOf, unread, fields, fieldsIn}
-use Rattle.chunks.specs.Words.{words, onto, keysOf, apart, differs}
+use Rattle.text_numbers.specs.Numbers.{INT, FLOAT}
+use Rattle.text_bytes.specs.Bytes.{bytes, same, inWord}
+use Rattle.text_tokens.specs.Tokens.{Lexeme, lexAt}
+use Rattle.parse_cursor.specs.declared.cursor.Cursor.{Cursor}
+use Rattle.parse_cursor.specs.Readers.{Got, Reader, after, _>>=_, _>>_, pure, open-bracket, keyword, wordOf, opened, openedOf, closed, number}
+use Rattle.parse_cursor.specs.Cursors.{reads, from}
+use Rattle.table_rows.specs.Overlay.{overlayAt}
+use Rattle.parse_cursor.proofs.Many.{Keeps, Takes, takes-keeps, pure-keeps, bind-keeps, bind-takes, then-keeps, then-takes, keyword-takes, opened-takes, closed-keeps, number-takes, one-of-takes}
+use Rattle.parse_cursor.proofs.FieldKeeps.{AllKeep, fields-keeps}
+use Rattle.parse_cursor.proofs.Binds.{then-assoc, then-bind}
+use Rattle.parse_cursor.proofs.Steps.{join, seq, passed, from-on, from-off}
+use Rattle.parse_cursor.specs.Fields.{Kind, kind, insideAt, fieldOf, fieldsOf, unread, fields, fieldsIn}
+use Rattle.parse_words.specs.Words.{words, onto, keysOf, apart, differs}
 use Rattle.bac6_text.specs.Grammar.{materialKinds, truth, blend, orZero, material, word}
 use Rattle.bac6_parse.specs.Into.{Settled, materialTail, materialInto}
-use Rattle.chunks.proofs.Choices.{fieldsOf-set}
+use Rattle.parse_cursor.proofs.Choices.{fieldsOf-set}
 
 pub inside-truth : (k : ℕ) → (k ≡ 0 → ⊥) → k < 4 → insideAt materialKinds k ≡ closed truth
 unfolding insideAt materialKinds kind

@@ -2,11 +2,11 @@
 use mathlib.Core.List.{List, []}
 use Prim.Native.Nat.{ℕ}
 use lib.IntN.{ℤ}
-use Rattle.lexer.specs.Bytes.{bytes}
-use Rattle.lexer.specs.Numbers.{INT, FLOAT}
-use Rattle.chunks.specs.Readers.{Name, absent, Reader, _>>=_, _>>_, pure, opened, close-bracket, head, closed, string, optional, many, many⁺, row}
-use Rattle.chunks.specs.Places.{optionalName}
-use Rattle.chunks.specs.Into.{rowsInto, someInto}
+use Rattle.text_bytes.specs.Bytes.{bytes}
+use Rattle.text_numbers.specs.Numbers.{INT, FLOAT}
+use Rattle.parse_cursor.specs.Readers.{Name, absent, Reader, _>>=_, _>>_, pure, opened, close-bracket, head, closed, string, optional, many, many⁺, row}
+use Rattle.parse_cursor.specs.Places.{optionalName}
+use Rattle.parse_rows.specs.Into.{rowsInto, someInto}
 use Rattle.bac6_text.specs.Grammar.{material}
 use Rattle.bac6_parse.specs.Into.{materialsInto}
 use Rattle.bac6_parse.specs.Lists.{sectionInto}

@@ -4,12 +4,12 @@ use mathlib.Core.List.{List, map}
 use mathlib.Core.Bool.{Bool, true, false}
 use Prim.Native.Nat.{ℕ, _+_, _*_}
 use lib.IntN.{ℤ}
-use Rattle.lexer.specs.declared.token.Span.{Span}
-use Rattle.chunks.specs.declared.cursor.Cursor.{Cursor}
-use Rattle.chunks.specs.Readers.{Reader, _>>=_, _>>_, pure, keyword}
-use Rattle.chunks.specs.Folds.{folded, stepped, rowStep}
-use Rattle.chunks.specs.Fields.{fields, fieldsOf}
-use Rattle.chunks.specs.Cursors.{overlayAt}
+use Rattle.text_tokens.specs.declared.token.Span.{Span}
+use Rattle.parse_cursor.specs.declared.cursor.Cursor.{Cursor}
+use Rattle.parse_cursor.specs.Readers.{Reader, _>>=_, _>>_, pure, keyword}
+use Rattle.parse_rows.specs.Folds.{folded, stepped, rowStep}
+use Rattle.parse_cursor.specs.Fields.{fields, fieldsOf}
+use Rattle.table_rows.specs.Overlay.{overlayAt}
 use Rattle.bac6_text.specs.Grammar.{orZero, materialKinds, material}
 
 -- a field that has not been read is 0

@@ -4,11 +4,12 @@ use mathlib.Core.Bool.{Bool, true, false}
 use Prim.Native.Nat.{ℕ}
 use lib.IntN.{ℤ}
 use lib.ListN.{length}
-use Rattle.lexer.specs.Numbers.{Form}
-use Rattle.chunks.specs.Readers.{Reader, _>>=_, pure}
-use Rattle.chunks.specs.Branches.{startOf}
-use Rattle.chunks.specs.Into.{flat, rowsInto}
-use Rattle.chunks.specs.Cursors.{overlayAt}
+use Rattle.text_numbers.specs.Numbers.{Form}
+use Rattle.parse_cursor.specs.Readers.{Reader, _>>=_, pure}
+use Rattle.parse_cursor.specs.Branches.{startOf}
+use Rattle.parse_rows.specs.Into.{rowsInto}
+use Rattle.table_rows.specs.Flat.{flat}
+use Rattle.table_rows.specs.Overlay.{overlayAt}
 
 -- how many rows, and the table with them at its start
 unfoldable pub laidRows : List ℤ → List (List ℤ) → ℕ × List ℤ

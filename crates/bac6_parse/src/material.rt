@@ -3,17 +3,17 @@ ghost use mathlib.Core.Path.{_≡_};
 ghost use mathlib.Core.Bool.{Bool};
 ghost use Prim.Native.Nat.{ℕ, _<_};
 ghost use lib.ListN.{length};
-ghost use Rattle.lexer.specs.Tokens.{lexAt};
-ghost use Rattle.chunks.specs.Fields.{insideAt, kindFrom, fieldsIn, fieldsOf};
-ghost use Rattle.chunks.specs.Cursors.{reads, from};
+ghost use Rattle.text_tokens.specs.Tokens.{lexAt};
+ghost use Rattle.parse_cursor.specs.Fields.{insideAt, kindFrom, fieldsIn, fieldsOf};
+ghost use Rattle.parse_cursor.specs.Cursors.{reads, from};
 ghost use Rattle.bac6_text.specs.Grammar.{materialKinds, material};
 ghost use Rattle.bac6_parse.specs.Closing.{closeWith};
 ghost use Rattle.bac6_parse.specs.Into.{Settled, materialInto, materialsInto};
-ghost use Rattle.chunks.specs.Folds.{folded, rowStep};
-use chunks::Counted;
-use chunks::Cursor;
-use chunks::Form;
-use chunks::Numeric;
+ghost use Rattle.parse_rows.specs.Folds.{folded, rowStep};
+use parse_cursor::Cursor;
+use parse_numbers::Form;
+use parse_numbers::Numeric;
+use parse_rows::Counted;
 
 // The value in the chunk of column k, and the closing bracket.
 fn material_value(text: &[u8], c: Cursor, k: usize) -> Numeric
@@ -21,15 +21,18 @@ fn material_value(text: &[u8], c: Cursor, k: usize) -> Numeric
     ensures { λ r. ⌜ reads (now (text .entry)) (r .cursor) (r .value) ≡ from (now (text .entry)) c (insideAt materialKinds k) ⌝ }
 {
     if k == 0 {
-        return close(text, chunks::one_of(text, c, b"normal add sub half", 4));
+        return close(
+            text,
+            parse_words::one_of(text, c, b"normal add sub half", 4),
+        );
     }
     if k < 4 {
-        return close(text, chunks::one_of(text, c, b"false true", 2));
+        return close(text, parse_words::one_of(text, c, b"false true", 2));
     }
     if k < 6 {
-        return close(text, chunks::number(text, c, Form::Int));
+        return close(text, parse_numbers::number(text, c, Form::Int));
     }
-    close(text, chunks::number(text, c, Form::Float))
+    close(text, parse_numbers::number(text, c, Form::Float))
 }
 
 // A value, and the closing bracket after it.
@@ -38,7 +41,7 @@ fn close(text: &[u8], n: Numeric) -> Numeric
 {
     let c = n.cursor;
     Numeric {
-        cursor: chunks::closing(text, c),
+        cursor: parse_cursor::closing(text, c),
         value: n.value,
     }
 }
@@ -49,12 +52,12 @@ fn material_chunk(text: &[u8], at: usize, row: &mut [i64], seen: &mut [bool]) ->
     ensures { λ r. ⌜ reads (now (text .entry)) r (fieldsOf (now (seen .exit)) (now (row .exit))) ≡ kindFrom materialKinds (fieldsOf (now (seen .entry)) (now (row .entry))) (lexAt (now (text .entry)) at) ⌝ }
     ensures { λ r. ⌜ (Settled (now (seen .entry)) (now (row .entry)) → Settled (now (seen .exit)) (now (row .exit))) ⌝ }
 {
-    let t = lexer::next(text, at);
+    let t = text_tokens::next(text, at);
     let refused = Cursor {
         refusal: 5,
         at: t.start,
     };
-    let k = chunks::word_index(
+    let k = parse_words::word_index(
         text,
         t,
         b"blendMode doubleFace transparent lighting textureIndex colorIndex specular alpha shininess",
@@ -86,14 +89,14 @@ fn material_fields(text: &[u8], at: usize, row: &mut [i64], seen: &mut [bool]) -
     let mut from = at;
     let mut left: usize = 9;
     loop {
-        let t = lexer::next(text, from);
+        let t = text_tokens::next(text, from);
         let kind = t.kind;
         let refused = Cursor {
             refusal: 5,
             at: t.start,
         };
-        if chunks::is_closing(kind) {
-            return chunks::closed_at(
+        if parse_cursor::is_closing(kind) {
+            return parse_words::closed_at(
                 t,
                 &[true, true, true, true, true, true, true, false, false],
                 seen,
@@ -102,7 +105,7 @@ fn material_fields(text: &[u8], at: usize, row: &mut [i64], seen: &mut [bool]) -
         if left == 0 {
             return refused;
         }
-        if !chunks::is_opening(kind) {
+        if !parse_cursor::is_opening(kind) {
             return refused;
         }
         let m = material_chunk(text, t.end, row, seen);
@@ -118,14 +121,14 @@ fn material_fields(text: &[u8], at: usize, row: &mut [i64], seen: &mut [bool]) -
 fn material_tail(text: &[u8], c: Cursor, out: &mut [i64], to: usize) -> Cursor
     ensures { λ r. ⌜ reads (now (text .entry)) r (now (out .exit)) ≡ from (now (text .entry)) c (materialInto to (now (out .entry))) ⌝ }
 {
-    let d = chunks::keyword(text, c, b"material");
+    let d = parse_cursor::keyword(text, c, b"material");
     if d.refusal != 0 {
         return d;
     }
     let mut row = [0i64; 9];
     let mut seen = [false; 9];
     let r = material_fields(text, d.at, &mut row, &mut seen);
-    chunks::store(out, to, &row);
+    table_rows::store(out, to, &row);
     r
 }
 
@@ -133,7 +136,7 @@ fn material_tail(text: &[u8], c: Cursor, out: &mut [i64], to: usize) -> Cursor
 pub(crate) fn materials(text: &[u8], c: Cursor, out: &mut [i64]) -> Counted
     ensures { λ r. ⌜ reads (now (text .entry)) (r .cursor) (r .count, now (out .exit)) ≡ from (now (text .entry)) c (materialsInto (now (out .entry))) ⌝ }
 {
-    let first = material_tail(text, chunks::opening(text, c), out, 0);
+    let first = material_tail(text, parse_cursor::opening(text, c), out, 0);
     more_materials(text, first, out)
 }
 
@@ -145,7 +148,7 @@ fn more_materials(text: &[u8], c: Cursor, out: &mut [i64]) -> Counted
     let mut i = 9;
     let mut count = 1;
     loop {
-        let item = chunks::next_item(text, d);
+        let item = parse_numbers::next_item(text, d);
         let start = item.cursor;
         if item.ended {
             return Counted {
@@ -158,6 +161,6 @@ fn more_materials(text: &[u8], c: Cursor, out: &mut [i64]) -> Counted
             return Counted { cursor: d, count };
         }
         count += 1;
-        i = chunks::advance(i, 9, out.len());
+        i = table_rows::advance(i, 9, out.len());
     }
 }

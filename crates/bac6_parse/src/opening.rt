@@ -1,12 +1,12 @@
 // The front of a figure's text, from its head to its normals.
 ghost use mathlib.Core.Path.{_≡_};
-ghost use Rattle.chunks.specs.Cursors.{reads, from};
+ghost use Rattle.parse_cursor.specs.Cursors.{reads, from};
 ghost use Rattle.bac6_parse.specs.Front.{frontValue, frontInto};
 use crate::material::materials;
 use crate::rows::section;
-use chunks::Cursor;
-use chunks::Form;
-use chunks::opened;
+use parse_cursor::Cursor;
+use parse_cursor::opened;
+use parse_numbers::Form;
 
 // A cursor past the front, its name's place and length, and how many rows each list has; where the cursor has refused, all else is free.
 pub struct Front {
@@ -34,10 +34,10 @@ pub fn read_front(
 {
     let begun = opened(
         text,
-        chunks::head(text, c, b"bacVersion", b"6.0"),
+        parse_text::head(text, c, b"bacVersion", b"6.0"),
         b"Figure",
     );
-    let n = chunks::optional_name(text, begun);
+    let n = parse_names::optional_name(text, begun);
     let named = n.cursor;
     let t = section(text, named, b"Textures", b"i2", Form::Int, 2, texture_rows);
     let textured = t.cursor;
@@ -54,9 +54,9 @@ pub fn read_front(
     let m = materials(text, opened(text, coloured, b"Materials"), material_rows);
     let made = m.cursor;
     let coords = opened(text, opened(text, made, b"Vertices"), b"coords");
-    let p = chunks::some_rows(text, coords, b"pnt", 0, Form::Float, 3, point_rows, 0);
+    let p = parse_rows::some_rows(text, coords, b"pnt", 0, Form::Float, 3, point_rows, 0);
     let placed = p.cursor;
-    let v = chunks::rows(
+    let v = parse_rows::rows(
         text,
         opened(text, placed, b"normals"),
         b"vct",
@@ -68,7 +68,7 @@ pub fn read_front(
     );
     let d = v.cursor;
     Front {
-        cursor: chunks::closing(text, d),
+        cursor: parse_cursor::closing(text, d),
         place: n.place,
         length: n.length,
         textures: t.count,

@@ -12,10 +12,11 @@ use lib.Dec.{ltb, eqb}
 use lib.ListN.{length, take, drop, getD, set, replicate, length-set, length-take, length-append, length-replicate, getD-replicate, List·getD-append, take-append-drop}
 use lib.Seq.{getD-set-same, getD-set-other, drop-set-lt, getD-take, ext-getD, drop-at}
 use lib.IntN.{ℤ, pos, negsuc, natAbs}
-use Rattle.lexer.proofs.Numerals.{and-true}
-use Rattle.lexer.specs.Faults.{Fault, clear, fault}
+use Rattle.text_numbers.proofs.Numerals.{and-true}
+use Rattle.refusal.specs.Faults.{Fault, clear, fault}
 use Rattle.bac6_text.specs.Figure.{Bone}
-use Rattle.bac6_text.specs.Rules.{isRow, isNone, sameNumber, member, entriesFine, verticesFault, ownerFrom, ownerOf}
+use Rattle.bac6_text.specs.Rules.{entriesFine, verticesFault, ownerFrom, ownerOf}
+use Rattle.table_rows.specs.References.{isRow, isNone, sameNumber, member}
 use Rattle.bac6_text.specs.Layout.{ownersFrom}
 use Rattle.bac6_rules.specs.Claims.{isFree, afterClaim, claimedOne, claimed, faultAt, afterBone, claimedBone, claimedBones}
 use Rattle.bac6_text.proofs.Parents.{fault-not-clear}

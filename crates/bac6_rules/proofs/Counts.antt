@@ -2,7 +2,7 @@
 use mathlib.Core.Path.{_≡_}
 use Prim.Native.Nat.{ℕ}
 use borrow.Author.Tests.{eq-eqb, ne-eqb}
-use Rattle.lexer.specs.Faults.{clear, fault}
+use Rattle.refusal.specs.Faults.{clear, fault}
 use Rattle.bac6_text.specs.Rules.{normalsFault}
 
 pub normals-same : (p n : ℕ) → p ≡ n → normalsFault p n ≡ clear

@@ -14,9 +14,11 @@ use mir.Val.{SFits, ofZ}
 use Rattle.bac6_text.specs.Figure.{Face}
 use Rattle.bac6_text.specs.Layout.{corners, faceRow}
 use Rattle.bac6_text.proofs.Rows.{length-corners}
-use Rattle.bac6_text.specs.Rules.{isRow, isNone, sameNumber, all, faceFine}
+use Rattle.bac6_text.specs.Rules.{faceFine}
+use Rattle.refusal.specs.FirstBad.{all}
+use Rattle.table_rows.specs.References.{isRow, isNone, sameNumber}
 use Rattle.bac6_rules.specs.Rows.{faceSize, faceVertices, faceUvs, faceRowFine}
-use Rattle.lexer.proofs.Tests.{and3}
+use Rattle.text_numbers.proofs.Tests.{and3}
 
 -- ---- the corners of a row
 

@@ -9,12 +9,13 @@ use native.Mathlib.Omega.{arith}
 use lib.ListN.{length, getD, set, length-append}
 use lib.Seq.{take-at, drop-at, getD-at, getD-append-add, set-at, set-append-left}
 use lib.IntN.{ℤ, pos, negsuc}
-use Rattle.lexer.specs.Faults.{clear}
+use Rattle.refusal.specs.Faults.{clear}
 use Rattle.bac6_text.specs.Figure.{Bone, Face, Group, Figure}
-use Rattle.chunks.proofs.Widths.{Wide}
-use Rattle.chunks.specs.Into.{flat}
+use Rattle.parse_rows.proofs.Widths.{Wide}
+use Rattle.table_rows.specs.Flat.{flat}
 use Rattle.bac6_text.specs.Layout.{nameNumbers, boneRow, boneRows, faceRow, groupRows, faceRows}
-use Rattle.bac6_text.specs.Rules.{groupFaces, facesOf, flagsOf, firstBad, faceFine, parentsIn, wholeList, bonesFault}
+use Rattle.bac6_text.specs.Rules.{groupFaces, facesOf, flagsOf, faceFine, parentsIn, wholeList, bonesFault}
+use Rattle.refusal.specs.FirstBad.{firstBad}
 use Rattle.bac6_text.proofs.Whole.{WholeFaces, WholeBone, WholeBones}
 use Rattle.bac6_text.proofs.Rows.{nine, nine-length, bone-wide, bones-wide, bones-count, flags-count, face-rows-wide, face-rows-length}
 use Rattle.bac6_text.proofs.Parents.{whole-length}

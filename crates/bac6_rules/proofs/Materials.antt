@@ -7,8 +7,8 @@ use lib.ListN.{getD}
 use lib.IntN.{ℤ, pos, negsuc, natAbs, pos-ne-negsuc}
 use lib.Signed.{mag, leZ}
 use Rattle.bac6_text.specs.Rules.{isLevel, materialFine}
-use Rattle.references.specs.Index.{isIndex}
-use Rattle.lexer.proofs.Tests.{and3}
+use Rattle.table_rows.specs.Index.{isIndex}
+use Rattle.text_numbers.proofs.Tests.{and3}
 
 and4 : (a b c d : Bool) → (a && b && c && d) ≡ (a && (b && (c && d)))
 and4 true b c d = and3 b c d

@@ -4,17 +4,18 @@ use mathlib.Core.List.{List, [], _++_}
 use Prim.Native.Nat.{ℕ}
 use lib.ListN.{length}
 use lib.IntN.{ℤ}
-use Rattle.lexer.specs.Faults.{Fault, clear, fault}
-use Rattle.chunks.specs.Into.{flat}
+use Rattle.refusal.specs.Faults.{Fault, clear, fault}
+use Rattle.table_rows.specs.Flat.{flat}
 use Rattle.bac6_text.specs.Figure.{Figure}
 use Rattle.bac6_text.specs.Layout.{boneRows, faceRows}
-use Rattle.chunks.specs.Rules.{orElse, tooMany}
-use Rattle.bac6_text.specs.Rules.{facesOf, countsOf, mosts, normalsFault, flagsOf, bonesFault, wholeList, parentsIn, verticesFault, firstBad, materialFine, faceFine, figureFault}
-use Rattle.chunks.proofs.Rules.{or-fault, or-assoc, or-first, or-second}
+use Rattle.refusal.specs.Rules.{orElse, tooMany}
+use Rattle.bac6_text.specs.Rules.{facesOf, countsOf, mosts, normalsFault, flagsOf, bonesFault, wholeList, parentsIn, verticesFault, materialFine, faceFine, figureFault}
+use Rattle.refusal.specs.FirstBad.{firstBad}
+use Rattle.refusal.proofs.Rules.{or-fault, or-assoc, or-first, or-second}
 use Rattle.bac6_rules.specs.declared.order.Counts.{Counts}
 use Rattle.bac6_rules.specs.Bones.{flagsIn, Settled}
 use Rattle.bac6_rules.specs.Order.{countsIn, figureCounts, countsFault, laterFault, tablesFault, LeftBy, BonesLeft}
-use Rattle.chunks.proofs.Widths.{Wide}
+use Rattle.parse_rows.proofs.Widths.{Wide}
 use Rattle.bac6_text.proofs.Whole.{WholeBones, WholeFaces}
 use Rattle.bac6_rules.proofs.Laid.{rows-laid, flags-laid, faces-laid, bones-laid}
 

@@ -11,9 +11,9 @@ use lib.IntN.{ℤ, pos, negsuc, natAbs}
 use mir.Syntax.{w64}
 use mir.Val.{SFits, toZ, ofZ}
 use mir.Facts.{toZ-ofZ}
-use Rattle.bac6_text.specs.Rules.{isRow, isNone}
+use Rattle.table_rows.specs.References.{isRow, isNone}
 use Rattle.bac6_rules.specs.Claims.{isFree, afterClaim}
-use Rattle.lexer.proofs.Tests.{and3}
+use Rattle.text_numbers.proofs.Tests.{and3}
 
 -- a row is a natural number below the count
 pub row-natural : (n : ℕ) (z : ℤ) → isRow n z ≡ true → z ≡ pos (natAbs z)

@@ -9,8 +9,8 @@ use borrow.Author.Tests.{le-leb, lt-leb}
 use lib.ListN.{length, take, drop, length-take, length-drop}
 use lib.Seq.{drop-drop}
 use lib.IntN.{ℤ}
-use Rattle.lexer.specs.Faults.{Fault, clear, fault}
-use Rattle.bac6_text.specs.Rules.{firstBad}
+use Rattle.refusal.specs.Faults.{Fault, clear, fault}
+use Rattle.refusal.specs.FirstBad.{firstBad}
 use Rattle.bac6_rules.specs.Rows.{rowsOf}
 
 -- ---- rows

@@ -9,7 +9,7 @@ use borrow.Author.Tests.{leb-true, leb-false}
 use lib.Dec.{leb}
 use lib.ListN.{length, drop, length-drop}
 use lib.IntN.{ℤ, negsuc}
-use Rattle.lexer.specs.Faults.{clear, fault}
+use Rattle.refusal.specs.Faults.{clear, fault}
 use Rattle.bac6_text.specs.Rules.{Flags, Placed, placed, short, boneList, parentsIn, wholeList, placedFault, bonesFault}
 use Rattle.bac6_rules.specs.declared.bone.Walk.{Walk}
 use Rattle.bac6_rules.specs.declared.bone.Walk.the-variants.{At, Short}

@@ -4,9 +4,9 @@ use mathlib.Core.Bool.{Bool, true, false, _&&_}
 use Prim.Native.Nat.{ℕ, suc, min}
 use lib.ListN.{length, getD, set}
 use lib.IntN.{ℤ, pos, natAbs}
-use Rattle.lexer.specs.Faults.{Fault, clear, fault}
+use Rattle.refusal.specs.Faults.{Fault, clear, fault}
 use Rattle.bac6_text.specs.Figure.{Bone}
-use Rattle.bac6_text.specs.Rules.{isRow, isNone}
+use Rattle.table_rows.specs.References.{isRow, isNone}
 
 -- an entry names one of the first n vertices, and that is unclaimed
 unfoldable pub isFree : ℕ → ℤ → List ℤ → Bool

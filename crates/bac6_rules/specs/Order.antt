@@ -4,10 +4,11 @@ use mathlib.Core.List.{List, [], _∷_}
 use Prim.Native.Nat.{ℕ}
 use lib.ListN.{length}
 use lib.IntN.{ℤ}
-use Rattle.lexer.specs.Faults.{Fault, clear, fault}
+use Rattle.refusal.specs.Faults.{Fault, clear, fault}
 use Rattle.bac6_text.specs.Figure.{Figure}
-use Rattle.chunks.specs.Rules.{orElse, tooMany}
-use Rattle.bac6_text.specs.Rules.{facesOf, mosts, normalsFault, bonesFault, firstBad, materialFine, wholeList}
+use Rattle.refusal.specs.Rules.{orElse, tooMany}
+use Rattle.bac6_text.specs.Rules.{facesOf, mosts, normalsFault, bonesFault, materialFine, wholeList}
+use Rattle.refusal.specs.FirstBad.{firstBad}
 use Rattle.bac6_rules.specs.declared.order.Counts.{Counts}
 use Rattle.bac6_rules.specs.Rows.{rowsOf, faceRowFine}
 use Rattle.bac6_rules.specs.Bones.{flagsIn, Settled}

@@ -5,7 +5,8 @@ use Prim.Native.Nat.{ℕ, zero, suc}
 use lib.Dec.{leb}
 use lib.ListN.{length, take, drop, getD}
 use lib.IntN.{ℤ, pos}
-use Rattle.bac6_text.specs.Rules.{isRow, isNone, sameNumber, all}
+use Rattle.refusal.specs.FirstBad.{all}
+use Rattle.table_rows.specs.References.{isRow, isNone, sameNumber}
 
 -- the first n whole rows of a width; fewer where the table is shorter
 unfoldable pub rowsOf : ℕ → ℕ → List ℤ → List (List ℤ)

@@ -1,8 +1,8 @@
 // Rule 9: normals as many as points.
 ghost use mathlib.Core.Path.{_≡_};
-ghost use Rattle.lexer.specs.Answers.{refusal};
+ghost use Rattle.refusal.specs.Answers.{refusal};
 ghost use Rattle.bac6_text.specs.Rules.{normalsFault};
-use lexer::Checked;
+use refusal::Checked;
 
 // Whether there are as many normals as points.
 pub fn normals_fault(points: usize, normals: usize) -> Checked

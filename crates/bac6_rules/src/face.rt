@@ -1,12 +1,13 @@
 // Rule 13: a face's material, vertices and uvs.
 ghost use mathlib.Core.Path.{_≡_};
 ghost use lib.ListN.{length};
-ghost use Rattle.lexer.specs.Answers.{refusal};
-ghost use Rattle.bac6_text.specs.Rules.{isRow, isNone, all, firstBad};
+ghost use Rattle.refusal.specs.Answers.{refusal};
+ghost use Rattle.refusal.specs.FirstBad.{all, firstBad};
+ghost use Rattle.table_rows.specs.References.{isRow, isNone};
 ghost use Rattle.bac6_rules.specs.Rows.{rowsOf, faceRowFine, faceVertices, faceUvs};
-use lexer::Checked;
-use references::is_none;
-use references::is_row;
+use refusal::Checked;
+use table_rows::is_none;
+use table_rows::is_row;
 
 // A vertex number and a uv number count separate lists.
 pub struct VertexRow(pub i64);

@@ -1,11 +1,12 @@
 // Rule 12: a material's indices and levels.
 ghost use mathlib.Core.Path.{_≡_};
 ghost use lib.ListN.{length};
-ghost use Rattle.lexer.specs.Answers.{refusal};
-ghost use Rattle.bac6_text.specs.Rules.{isLevel, materialFine, firstBad};
+ghost use Rattle.refusal.specs.Answers.{refusal};
+ghost use Rattle.bac6_text.specs.Rules.{isLevel, materialFine};
+ghost use Rattle.refusal.specs.FirstBad.{firstBad};
 ghost use Rattle.bac6_rules.specs.Rows.{rowsOf};
-use lexer::Checked;
-use references::is_index;
+use refusal::Checked;
+use table_rows::is_index;
 
 // The first of `count` rows of 9 that breaks the rule; a row that is not whole is not looked at.
 pub fn material_fault(table: &[i64], count: usize, textures: usize, colours: usize) -> Checked

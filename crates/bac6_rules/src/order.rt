@@ -1,12 +1,12 @@
 // Rules 8 to 13 in order: of a figure's faults the lowest number, with its lowest row.
 ghost use mathlib.Core.Path.{_≡_};
-ghost use Rattle.lexer.specs.Answers.{refusal};
+ghost use Rattle.refusal.specs.Answers.{refusal};
 ghost use Rattle.bac6_rules.specs.Order.{countsFault, laterFault, tablesFault, BonesLeft};
 use crate::bone::place_bones;
 use crate::count::normals_fault;
 use crate::face::face_fault;
 use crate::material::material_fault;
-use lexer::Checked;
+use refusal::Checked;
 
 // How many rows each list has.
 pub struct Counts {
@@ -58,7 +58,7 @@ fn counts_fault(n: Counts) -> Checked
         n.groups,
     ];
     let mosts = [16, 256, 64, 2048, 2048, 128, 4096, 1024, 32];
-    match chunks::too_many(&counts, &mosts) {
+    match refusal::too_many(&counts, &mosts) {
         Checked::Refused { number, offset } => Checked::Refused { number, offset },
         Checked::Clear => normals_fault(n.points, n.normals),
     }

@@ -1,8 +1,8 @@
 // Rule 11: an entry names a vertex that no earlier entry has named.
 ghost use mathlib.Core.Path.{_≡_};
 ghost use Rattle.bac6_rules.specs.Claims.{isFree, afterClaim};
-use references::is_none;
-use references::is_row;
+use table_rows::is_none;
+use table_rows::is_row;
 
 // Whether an entry names one of the first `points` vertices that is unclaimed; if so, the bone owns it.
 pub fn claim(owners: &mut [i64], points: usize, z: i64, bone: i64) -> bool

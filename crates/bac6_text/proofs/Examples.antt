@@ -4,19 +4,22 @@ use mathlib.Core.List.{List, [], _∷_, _++_}
 use Prim.Native.Nat.{ℕ}
 use lib.IntN.{ℤ, pos, negsuc}
 use lib.ListN.{replicate}
-use Rattle.lexer.specs.Bytes.{bytes, isBlank, between, isLetter, classOf, inLine, inString, inWord, isDigit, isContent, run, part, same}
-use Rattle.lexer.specs.Numbers.{refusalOf, decimalFrom, decimal, signed, notEmpty, allDigits, intMost, intOf, millionths, floatOf, numberFrom, afterDigits, unsigned, negative, magnitude, numberOf, inForm}
-use Rattle.lexer.specs.Tokens.{lexeme, tokens, lexAt, lex, first, bytesOf, widthOf, isKeyword}
-use Rattle.lexer.specs.Faults.{faultIn, markOf, blankOrEnd, begins, marked, textFault}
-use Rattle.chunks.specs.Readers.{after, _>>=_, _>>_, pure, stop, tokenOf, rest, isOpening, isClosing, isPlain, isEnd, take-if, open-bracket, close-bracket, wordOf, keyword, text-end, openedOf, opened, closed, numberIn, numberAt, number, numbers, versionAt, version, absent, nameAt, string, oneFrom, oneOf, starts, optional, trailing, manyIn, many, many⁺, cells, rowOf, row, headOf, head}
-use Rattle.chunks.specs.Fields.{kind, isSome, unread, complete, kindFrom, fieldsIn, fields}
-use Rattle.chunks.specs.Into.{flat}
+use Rattle.text_bytes.specs.Bytes.{bytes, isBlank, between, isLetter, classOf, inLine, inString, inWord, isDigit, isContent, run, part, same}
+use Rattle.text_numbers.specs.Numbers.{refusalOf, decimalFrom, decimal, signed, notEmpty, allDigits, intMost, intOf, millionths, floatOf, numberFrom, afterDigits, unsigned, negative, magnitude, numberOf, inForm}
+use Rattle.text_tokens.specs.Tokens.{lexeme, tokens, lexAt, lex, first, bytesOf, widthOf, isKeyword}
+use Rattle.text_check.specs.Faults.{faultIn, markOf, blankOrEnd, begins, marked, textFault}
+use Rattle.parse_cursor.specs.Readers.{after, _>>=_, _>>_, pure, stop, tokenOf, rest, isOpening, isClosing, isPlain, isEnd, take-if, open-bracket, close-bracket, wordOf, keyword, text-end, openedOf, opened, closed, numberIn, numberAt, number, numbers, versionAt, version, absent, nameAt, string, oneFrom, oneOf, starts, optional, trailing, manyIn, many, many⁺, cells, rowOf, row, headOf, head}
+use Rattle.parse_cursor.specs.Fields.{kind, isSome, unread, complete, kindFrom, fieldsIn, fields}
+use Rattle.table_rows.specs.Flat.{flat}
 use Rattle.bac6_text.specs.Grammar.{word, truth, blend, materialKinds, orZero, material, boneKinds, nameIn, flagIn, numbersIn, boneOf, bone, faceOf, faceBy, face, group, figure}
-use Rattle.chunks.specs.Rules.{orElse, tooMany}
-use Rattle.bac6_text.specs.Rules.{groupFaces, facesOf, countsOf, mosts, normalsFault, flagsOf, isSet, joined, thenIf, boneList, wholeList, placedFault, parentsIn, bonesFault, isRow, isNone, sameNumber, member, all, firstBad, entriesFine, verticesFault, ownerFrom, ownerOf, isLevel, materialFine, faceFine, figureFault}
+use Rattle.refusal.specs.Rules.{orElse, tooMany}
+use Rattle.bac6_text.specs.Rules.{groupFaces, facesOf, countsOf, mosts, normalsFault, flagsOf, isSet, joined, thenIf, boneList, wholeList, placedFault, parentsIn, bonesFault, entriesFine, verticesFault, ownerFrom, ownerOf, isLevel, materialFine, faceFine, figureFault}
+use Rattle.refusal.specs.FirstBad.{all, firstBad}
+use Rattle.table_rows.specs.References.{isRow, isNone, sameNumber, member}
 use Rattle.bac6_text.specs.Layout.{nameNumbers, boneRow, boneRows, ownersFrom, corners, faceRow, groupRows, faceRows, groupNames, layoutOf}
 use Rattle.bac6_text.specs.Answer.{figureOutcome, figureAnswer, tableAfter}
-use Rattle.chunks.specs.Outcomes.{ruled, shaped, checked, outcome, fitted, laid}
+use Rattle.refusal.specs.Outcomes.{ruled, fitted, laid}
+use Rattle.parse_text.specs.Texts.{shaped, checked, outcome}
 
 abbrev text : List ℕ
 text =

@@ -1,4 +1,4 @@
--- Claims by computation, what every figure that is read is, its names in its text, and the widths and counts of its rows.
+-- Laws that belong to no one function.
 pub mod Examples
 pub mod Whole
 pub mod Names

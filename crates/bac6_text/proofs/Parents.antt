@@ -6,8 +6,8 @@ use Prim.Native.Nat.{ℕ, zero, suc, _+_}
 use native.Mathlib.Omega.{arith}
 use lib.ListN.{length, length-append}
 use lib.IntN.{ℤ, pos, negsuc}
-use Rattle.lexer.specs.Faults.{clear}
-pub use Rattle.lexer.proofs.Scanning.{fault-not-clear}
+use Rattle.refusal.specs.Faults.{clear}
+pub use Rattle.refusal.proofs.Faults.{fault-not-clear}
 use Rattle.bac6_text.specs.Rules.{Flags, Placed, placed, short, isSet, joined, thenIf, boneList, parentsIn, wholeList, placedFault, bonesFault}
 
 unfoldable pub Leaves : List Flags → Placed → Type 0

@@ -5,7 +5,7 @@ use Prim.Native.Nat.{ℕ, zero, suc}
 use native.Mathlib.Omega.{arith}
 use lib.ListN.{length, length-append, length-map}
 use lib.IntN.{ℤ, pos, negsuc}
-use Rattle.chunks.proofs.Widths.{Wide, wide-append}
+use Rattle.parse_rows.proofs.Widths.{Wide, wide-append}
 use Rattle.bac6_text.specs.Figure.{Bone, Face, Group, Figure}
 use Rattle.bac6_text.specs.Layout.{nameNumbers, boneRow, boneRows, corners, faceRow, groupRows, faceRows}
 use Rattle.bac6_text.specs.Rules.{groupFaces, facesOf, flagsOf}

@@ -7,16 +7,16 @@ use Prim.Native.Nat.{ℕ, zero, suc}
 use Prim.Native.String.{String}
 use lib.IntN.{ℤ, pos}
 use lib.ListN.{length, getD, length-map}
-use Rattle.lexer.specs.Every.{Every}
-use Rattle.lexer.specs.Numbers.{Form, INT, FLOAT}
-use Rattle.lexer.specs.Tokens.{Lexeme}
-use Rattle.lexer.proofs.Every.{every-as, every-append}
-use Rattle.chunks.specs.Readers.{Name, absent, _>>=_, pure, closed, number, numbers, optional, many, row}
-use Rattle.chunks.specs.Fields.{kind, fields, neededOf}
-use Rattle.chunks.proofs.Given.{GivesOn, LeavesOn, Gives, free, Naming, AnyToken, AnyName, any-names, pure-gives, bind-gives, then-gives, gives-as, leaves-on, closed-gives, open-leaves, close-leaves, opened-leaves, end-leaves, head-leaves, many-gives, some-give, optional-gives, trailing-gives, string-gives, name-gives}
-use Rattle.chunks.proofs.FieldFits.{AllGive, AllFit, Whole, Stands, fields-fit, fields-stand}
-use Rattle.chunks.proofs.Ranges.{AllIn, Numbers, number-gives, numbers-give, row-gives, choice-below}
-use Rattle.chunks.proofs.Widths.{Wide}
+use Rattle.text_bytes.specs.Every.{Every}
+use Rattle.text_numbers.specs.Numbers.{Form, INT, FLOAT}
+use Rattle.text_tokens.specs.Tokens.{Lexeme}
+use Rattle.text_bytes.proofs.Every.{every-as, every-append}
+use Rattle.parse_cursor.specs.Readers.{Name, absent, _>>=_, pure, closed, number, numbers, optional, many, row}
+use Rattle.parse_cursor.specs.Fields.{kind, fields, neededOf}
+use Rattle.parse_cursor.proofs.Given.{GivesOn, LeavesOn, Gives, free, Naming, AnyToken, AnyName, any-names, pure-gives, bind-gives, then-gives, gives-as, leaves-on, closed-gives, open-leaves, close-leaves, opened-leaves, end-leaves, head-leaves, many-gives, some-give, optional-gives, trailing-gives, string-gives, name-gives}
+use Rattle.parse_cursor.proofs.FieldFits.{AllGive, AllFit, Whole, Stands, fields-fit, fields-stand}
+use Rattle.parse_cursor.proofs.Ranges.{AllIn, Numbers, number-gives, numbers-give, row-gives, choice-below}
+use Rattle.parse_rows.proofs.Widths.{Wide}
 use Rattle.bac6_text.specs.Figure.{Bone, Face, Group, Figure}
 use Rattle.bac6_text.specs.Grammar.{word, truth, blend, BoneField, flag, several, boneKinds, boneOf, nameIn, numbersIn, bone, faceOf, faceBy, face, group, material, materialKinds, orZero, figure}
 use Rattle.bac6_text.specs.Names.{NamedFigure}

@@ -3,8 +3,9 @@ use mathlib.Core.List.{List}
 use Prim.Native.Nat.{ℕ}
 use lib.ListN.{length}
 use lib.IntN.{ℤ}
-use Rattle.lexer.specs.Faults.{bac}
-use Rattle.chunks.specs.Outcomes.{Outcome, outcome, fitted, laid}
+use Rattle.text_check.specs.Faults.{bac}
+use Rattle.refusal.specs.Outcomes.{Outcome, fitted, laid}
+use Rattle.parse_text.specs.Texts.{outcome}
 use Rattle.bac6_text.specs.Figure.{Figure}
 use Rattle.bac6_text.specs.Grammar.{figure}
 use Rattle.bac6_text.specs.Rules.{figureFault}

@@ -1,14 +1,14 @@
 -- The shape of a figure's text (Figure 1 of document 000, with document 01's "Figure shape").
 use mathlib.Core.List.{List, [], _∷_, map}
-use mathlib.Core.Bool.{Bool, true, false}
+use mathlib.Core.Bool.{true, false}
 use mathlib.Core.Option.{Option, none, some}
 use Prim.Native.Nat.{ℕ, zero, suc}
 use Prim.Native.String.{String}
 use lib.IntN.{ℤ, pos}
 use lib.ListN.{getD}
-use Rattle.lexer.specs.Numbers.{INT, FLOAT}
-use Rattle.chunks.specs.Readers.{Reader, Name, absent, _>>=_, _>>_, pure, open-bracket, close-bracket, keyword, opened, closed, number, numbers, string, oneOf, optional, trailing, many, many⁺, row, head, text-end}
-use Rattle.chunks.specs.Fields.{Kind, kind, fields}
+use Rattle.text_numbers.specs.Numbers.{INT, FLOAT}
+use Rattle.parse_cursor.specs.Readers.{Reader, Name, absent, _>>=_, _>>_, pure, open-bracket, close-bracket, opened, closed, number, numbers, string, oneOf, optional, trailing, many, many⁺, row, head, text-end}
+use Rattle.parse_cursor.specs.Fields.{Kind, kind, fields}
 use Rattle.bac6_text.specs.Figure.{Bone, Face, Group, Figure}
 
 -- one of some words, by its row

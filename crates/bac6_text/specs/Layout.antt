@@ -3,10 +3,10 @@ use mathlib.Core.List.{List, [], _∷_, _++_, map}
 use Prim.Native.Nat.{ℕ, zero, suc}
 use lib.ListN.{length}
 use lib.IntN.{ℤ, pos, negsuc}
-use Rattle.chunks.specs.Readers.{Name}
-use Rattle.chunks.specs.Into.{flat}
+use Rattle.parse_cursor.specs.Readers.{Name}
+use Rattle.table_rows.specs.Flat.{flat}
 use Rattle.bac6_text.specs.Figure.{Bone, Face, Group, Figure}
-use Rattle.bac6_text.specs.Rules.{facesOf, flagsOf, wholeList, parentsIn, ownerOf}
+use Rattle.bac6_text.specs.Rules.{flagsOf, wholeList, parentsIn, ownerOf}
 
 -- place and length
 unfoldable pub nameNumbers : Name → List ℤ

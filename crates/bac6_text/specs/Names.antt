@@ -1,6 +1,6 @@
 -- What holds of every name in a figure.
-use Rattle.lexer.specs.Every.{Every}
-use Rattle.chunks.specs.Readers.{Name}
+use Rattle.text_bytes.specs.Every.{Every}
+use Rattle.parse_cursor.specs.Readers.{Name}
 use Rattle.bac6_text.specs.Figure.{Figure}
 
 -- its own name, each bone's and each group's

@@ -2,12 +2,14 @@
 use mathlib.Core.List.{List, [], _∷_, _++_}
 use mathlib.Core.Bool.{Bool, true, false, not, cond, _&&_, _||_}
 use Prim.Native.Nat.{ℕ, zero, suc}
-use lib.Dec.{leb, ltb, eqb}
+use lib.Dec.{leb, eqb}
 use lib.ListN.{length, getD}
 use lib.IntN.{ℤ, pos, negsuc}
-use Rattle.lexer.specs.Faults.{Fault, clear, fault}
-use Rattle.chunks.specs.Rules.{orElse, tooMany}
+use Rattle.refusal.specs.Faults.{Fault, clear, fault}
+use Rattle.refusal.specs.Rules.{orElse, tooMany}
 use Rattle.bac6_text.specs.Figure.{Bone, Face, Group, Figure}
+use Rattle.table_rows.specs.References.{isNone, isRow, member}
+use Rattle.refusal.specs.FirstBad.{all, firstBad}
 
 -- the faces of `Polygons`, then group by group
 unfoldable pub groupFaces : List Group → List Face
@@ -90,34 +92,6 @@ unfoldable pub bonesFault : List Flags → Fault
 bonesFault flags = placedFault (length flags) (wholeList flags)
 
 -- ---- references
-
--- a row of a list of n rows
-unfoldable pub isRow : ℕ → ℤ → Bool
-isRow n (pos k) = ltb k n
-isRow n (negsuc k) = false
-
-unfoldable pub isNone : ℤ → Bool
-isNone (pos k) = false
-isNone (negsuc k) = eqb k 0
-
-unfoldable pub sameNumber : ℤ → ℤ → Bool
-sameNumber (pos a) (pos b) = eqb a b
-sameNumber (pos a) (negsuc b) = false
-sameNumber (negsuc a) (pos b) = false
-sameNumber (negsuc a) (negsuc b) = eqb a b
-
-unfoldable pub member : ℤ → List ℤ → Bool
-member z [] = false
-member z (y ∷ ys) = sameNumber z y || member z ys
-
-unfoldable pub all : {A : Type 0} → (A → Bool) → List A → Bool
-all t [] = true
-all t (a ∷ l) = t a && all t l
-
--- a fault of a number at the first row that fails a test
-unfoldable pub firstBad : {A : Type 0} → ℕ → (A → Bool) → ℕ → List A → Fault
-firstBad n t row [] = clear
-firstBad n t row (a ∷ l) = elim (t a) [ true ↦ firstBad n t (suc row) l | false ↦ fault n row ]
 
 -- ---- 11: a vertex entry names a vertex that no earlier entry has named, in this bone or another
 

@@ -9,20 +9,22 @@ use native.Mathlib.Omega.{arith}
 use borrow.Author.Tests.{lt-ltb, le-leb}
 use lib.IntN.{ℤ, negsuc, natAbs}
 use lib.ListN.{length, length-append}
-use Rattle.lexer.specs.Numbers.{FLOAT}
-use Rattle.lexer.specs.Faults.{clear}
-use Rattle.chunks.proofs.Given.{Every}
+use Rattle.text_numbers.specs.Numbers.{FLOAT}
+use Rattle.refusal.specs.Faults.{clear}
+use Rattle.parse_cursor.proofs.Given.{Every}
 use Rattle.bac6_text.specs.Figure.{Face, Figure}
 use Rattle.bac6_text.specs.Rules as bac6
-use Rattle.bac6_text.specs.Rules.{facesOf, countsOf, ownerOf, isRow, isNone, all, figureFault}
+use Rattle.bac6_text.specs.Rules.{facesOf, countsOf, ownerOf, figureFault}
+use Rattle.refusal.specs.FirstBad.{all}
+use Rattle.table_rows.specs.References.{isRow, isNone}
 use Rattle.bac6_text.specs.Layout.{layoutOf, faceRow, faceRows}
-use Rattle.chunks.proofs.Ranges.{AllIn}
+use Rattle.parse_cursor.proofs.Ranges.{AllIn}
 use Rattle.bac6_text.proofs.Whole.{WholeFace, WholeFigure, faces-whole}
 use Rattle.bac6_text.proofs.Rows.{face-rows-wide, face-rows-length}
 use Rattle.player.specs.declared.counts.FigureCounts.{FigureCounts}
 use Rattle.player.specs.Faces.{rowAt, uvAt, cornerOf}
 use Rattle.player.specs.Columns.{isClear, figureEnd, holdsFigure}
-use Rattle.references.specs.Index.{isIndex}
+use Rattle.table_rows.specs.Index.{isIndex}
 use Rattle.player.specs.Lookups.{onlyIf, allFloat, faceAt, ownerAt, faceFine, pointAt, uvRow, uvFine, uvIn, canCorner, cornerIn}
 use Rattle.movement_bridge.proofs.Laid.{row-laid}
 use Rattle.figure_bridge.specs.Rows.{noFace, faceOf, groupedFaceOf}

@@ -7,14 +7,15 @@ use Prim.Native.Nat.{ℕ, zero, suc, _+_, _<_}
 use native.Mathlib.Omega.{arith}
 use lib.IntN.{ℤ, pos, negsuc}
 use lib.ListN.{length, getD, take, drop}
-use Rattle.lexer.proofs.Numerals.{and-true}
+use Rattle.text_numbers.proofs.Numerals.{and-true}
 use Rattle.bac6_text.specs.Figure.{Face}
 use Rattle.bac6_text.specs.Rules as bac6
-use Rattle.bac6_text.specs.Rules.{isRow, isNone, all}
+use Rattle.refusal.specs.FirstBad.{all}
+use Rattle.table_rows.specs.References.{isRow, isNone, sameNumber}
 use Rattle.bac6_text.specs.Layout.{corners, faceRow}
 use Rattle.bac6_text.proofs.Whole.{WholeFace}
 use Rattle.player.specs.declared.counts.FigureCounts.{FigureCounts}
-use Rattle.references.specs.Index.{isIndex}
+use Rattle.table_rows.specs.Index.{isIndex}
 use Rattle.player.specs.Lookups.{sizeFine, cornersFine, allNone, faceFine}
 
 -- a corner's number, -1 where there is none
@@ -121,7 +122,7 @@ module _ (f : Face) (w : WholeFace f) where
   uv-corners = rw (w .uvs) (w .sizes)
 
   pub size-fine : sizeFine (pos (f .size)) ≡ true
-  unfolding sizeFine bac6.sameNumber
+  unfolding sizeFine sameNumber
   size-fine = ⊎-elim (λ (e : f .size ≡ 3). rw e) (λ (e : f .size ≡ 4). rw e) (w .sizes)
 
   pub below-four : (k : ℕ) → k < f .size → k < 4

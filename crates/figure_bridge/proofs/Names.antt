@@ -6,8 +6,8 @@ use native.Mathlib.Omega.{arith}
 use lib.IntN.{ℤ, pos}
 use lib.ListN.{length, getD}
 use lib.Seq.{getD-append-add}
-use Rattle.lexer.specs.Faults.{clear}
-use Rattle.chunks.specs.Readers.{Name, absent}
+use Rattle.refusal.specs.Faults.{clear}
+use Rattle.parse_cursor.specs.Readers.{Name, absent}
 use Rattle.bac6_text.specs.Figure.{Bone, Figure}
 use Rattle.bac6_text.specs.Rules.{figureFault, flagsOf, wholeList, parentsIn}
 use Rattle.bac6_text.specs.Layout.{nameNumbers, boneRow, boneRows, layoutOf}

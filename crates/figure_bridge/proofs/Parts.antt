@@ -7,8 +7,8 @@ use native.Mathlib.Omega.{arith}
 use lib.IntN.{ℤ, pos}
 use lib.ListN.{length, getD, length-append, List·getD-append}
 use lib.Seq.{getD-append-add}
-use Rattle.chunks.specs.Into.{flat}
-use Rattle.chunks.proofs.Widths.{Wide, flat-length}
+use Rattle.table_rows.specs.Flat.{flat}
+use Rattle.parse_rows.proofs.Widths.{Wide, flat-length}
 use Rattle.bac6_text.specs.Figure.{Bone, Group, Figure}
 use Rattle.bac6_text.specs.Rules.{facesOf, flagsOf, parentsIn, wholeList, ownerOf}
 use Rattle.bac6_text.specs.Layout.{layoutOf, nameNumbers, boneRows, ownersFrom, faceRows, groupNames}

@@ -7,11 +7,13 @@ use Prim.Native.Nat.{ℕ, _<_}
 use borrow.Author.Tests.{lt-ltb}
 use lib.IntN.{ℤ, pos}
 use lib.ListN.{length, getD}
-use Rattle.lexer.specs.Faults.{clear}
-use Rattle.lexer.proofs.Numerals.{and-true}
-use Rattle.chunks.proofs.Given.{Every}
+use Rattle.refusal.specs.Faults.{clear}
+use Rattle.text_numbers.proofs.Numerals.{and-true}
+use Rattle.parse_cursor.proofs.Given.{Every}
 use Rattle.bac6_text.specs.Figure.{Bone, Face, Figure}
-use Rattle.bac6_text.specs.Rules.{facesOf, ownerOf, isRow, isNone, all, figureFault}
+use Rattle.bac6_text.specs.Rules.{facesOf, ownerOf, figureFault}
+use Rattle.refusal.specs.FirstBad.{all}
+use Rattle.table_rows.specs.References.{isRow, isNone}
 use Rattle.bac6_text.specs.Layout.{layoutOf, corners, faceRow}
 use Rattle.bac6_text.proofs.Whole.{WholeFace, WholeFigure}
 use Rattle.tra4_text.specs.Movement.{Pattern, groupOf, Movement}
@@ -20,7 +22,7 @@ use Rattle.player.specs.declared.counts.FigureCounts.{FigureCounts}
 use Rattle.player.specs.declared.counts.MovementCounts.{MovementCounts}
 use Rattle.player.specs.Faces.{allOwned, groupShown, shownOf}
 use Rattle.player.specs.Columns.{numberAt, isClear, holdsFigure, holdsMovement}
-use Rattle.references.specs.Index.{isIndex}
+use Rattle.table_rows.specs.Index.{isIndex}
 use Rattle.player.specs.Lookups.{onlyIf, isAsked, sizeFine, cornersFine, faceAt, ownerAt, ownersFine, ownedCorners, patternRows, linesFine, patternsFine, canShow, groupFlag, shownIn}
 use Rattle.pair_text.specs.Rules.{groupsFault}
 use Rattle.figure_bridge.specs.Rows.{groupedFaceOf, hasNoGroup}

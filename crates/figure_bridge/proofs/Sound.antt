@@ -4,13 +4,14 @@ use mathlib.Core.List.{List, [], _∷_}
 use mathlib.Core.Bool.{Bool, true, false}
 use Prim.Native.Nat.{ℕ, suc}
 use lib.ListN.{length}
-use Rattle.lexer.specs.Faults.{clear}
-pub use Rattle.lexer.proofs.Every.{every-at}
-use Rattle.chunks.specs.Rules.{orElse, tooMany}
-use Rattle.chunks.proofs.Rules.{or-first, or-second}
-use Rattle.chunks.proofs.Given.{Every}
+use Rattle.refusal.specs.Faults.{clear}
+pub use Rattle.text_bytes.proofs.Every.{every-at}
+use Rattle.refusal.specs.Rules.{orElse, tooMany}
+use Rattle.refusal.proofs.Rules.{or-first, or-second}
+use Rattle.parse_cursor.proofs.Given.{Every}
 use Rattle.bac6_text.specs.Figure.{Figure}
-use Rattle.bac6_text.specs.Rules.{facesOf, countsOf, mosts, normalsFault, flagsOf, wholeList, parentsIn, bonesFault, verticesFault, firstBad, materialFine, faceFine, figureFault}
+use Rattle.bac6_text.specs.Rules.{facesOf, countsOf, mosts, normalsFault, flagsOf, wholeList, parentsIn, bonesFault, verticesFault, materialFine, faceFine, figureFault}
+use Rattle.refusal.specs.FirstBad.{firstBad}
 use Rattle.bac6_text.proofs.Rows.{flags-count}
 use Rattle.bac6_text.proofs.Parents.{whole-length, fault-not-clear}
 

@@ -8,12 +8,14 @@ use native.Mathlib.Omega.{arith}
 use borrow.Author.Tests.{ltb-true, lt-ltb}
 use lib.IntN.{ℤ, pos, negsuc, natAbs}
 use lib.ListN.{length, getD}
-use Rattle.lexer.specs.Numbers.{FLOAT}
-use Rattle.lexer.proofs.Numerals.{and-true}
+use Rattle.text_numbers.specs.Numbers.{FLOAT}
+use Rattle.text_numbers.proofs.Numerals.{and-true}
 use Rattle.bac6_text.specs.Figure.{Bone}
-use Rattle.bac6_text.specs.Rules.{isRow, isNone, all, firstBad, member, ownerFrom, ownerOf}
-use Rattle.chunks.proofs.Ranges.{AllIn}
-use Rattle.references.specs.Index.{isIndex}
+use Rattle.bac6_text.specs.Rules.{ownerFrom, ownerOf}
+use Rattle.refusal.specs.FirstBad.{all, firstBad}
+use Rattle.table_rows.specs.References.{isRow, isNone, member}
+use Rattle.parse_cursor.proofs.Ranges.{AllIn}
+use Rattle.table_rows.specs.Index.{isIndex}
 use Rattle.player.specs.Columns.{isClear}
 use Rattle.player.specs.Lookups.{allFloat}
 use Rattle.movement_bridge.proofs.Faultless.{float-in-form}

@@ -6,9 +6,10 @@ use mathlib.Core.Option.{Option, some}
 use Prim.Native.Nat.{ℕ, _<_}
 use lib.IntN.{ℤ, natAbs}
 use lib.ListN.{length, drop}
-use Rattle.lexer.specs.Faults.{bac, clear}
-use Rattle.lexer.specs.Tokens.{lex}
-use Rattle.chunks.specs.Outcomes.{Outcome, accepted, laid}
+use Rattle.text_check.specs.Faults.{bac}
+use Rattle.refusal.specs.Faults.{clear}
+use Rattle.text_tokens.specs.Tokens.{lex}
+use Rattle.refusal.specs.Outcomes.{Outcome, accepted, laid}
 use Rattle.bac6_text.specs.Figure.{Figure}
 use Rattle.bac6_text.specs.Grammar.{figure}
 use Rattle.bac6_text.specs.Rules.{facesOf, figureFault}

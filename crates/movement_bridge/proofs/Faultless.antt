@@ -8,11 +8,11 @@ use native.Mathlib.Omega.{arith}
 use borrow.Author.Tests.{leb-true, le-leb, lt-ltb}
 use lib.IntN.{ℤ, pos, negsuc, natAbs}
 use lib.ListN.{length, getD}
-use Rattle.lexer.specs.Faults.{clear, fault}
-use Rattle.lexer.specs.Numbers.{FLOAT, inForm}
-use Rattle.chunks.proofs.Given.{Every}
-use Rattle.chunks.proofs.Rules.{or-first, or-second}
-use Rattle.bac6_text.specs.Rules.{isRow}
+use Rattle.refusal.specs.Faults.{clear, fault}
+use Rattle.text_numbers.specs.Numbers.{FLOAT, inForm}
+use Rattle.parse_cursor.proofs.Given.{Every}
+use Rattle.refusal.proofs.Rules.{or-first, or-second}
+use Rattle.table_rows.specs.References.{isRow}
 use Rattle.tra4_text.specs.Movement.{Key, Channel, Pattern, frameOf}
 use Rattle.tra4_text.specs.Rules.{totalFault, framesFault, keyFine, keysFault}
 use Rattle.tra4_text.proofs.Whole.{FloatValue, Flagged}

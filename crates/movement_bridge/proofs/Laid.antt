@@ -7,8 +7,8 @@ use native.Mathlib.Omega.{arith}
 use lib.IntN.{ℤ, pos}
 use lib.ListN.{length, getD, drop, length-append}
 use lib.Seq.{take-at, drop-at, getD-take, getD-drop}
-use Rattle.chunks.specs.Into.{flat}
-use Rattle.chunks.proofs.Widths.{Wide, flat-append, flat-length}
+use Rattle.table_rows.specs.Flat.{flat}
+use Rattle.parse_rows.proofs.Widths.{Wide, flat-append, flat-length}
 use Rattle.player.specs.Columns.{numberAt, numbersAt, rowsAt}
 
 -- rows stand in a table from an index on

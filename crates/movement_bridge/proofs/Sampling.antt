@@ -8,10 +8,10 @@ use native.Mathlib.Omega.{arith}
 use borrow.Author.Tests.{lt-ltb}
 use lib.IntN.{ℤ, pos, natAbs}
 use lib.ListN.{length, drop, length-append}
-use Rattle.lexer.specs.Faults.{clear}
-use Rattle.lexer.proofs.Every.{every-append, every-first, every-last}
-use Rattle.chunks.specs.Outcomes.{accepted}
-use Rattle.chunks.proofs.Given.{Every}
+use Rattle.refusal.specs.Faults.{clear}
+use Rattle.text_bytes.proofs.Every.{every-append, every-first, every-last}
+use Rattle.refusal.specs.Outcomes.{accepted}
+use Rattle.parse_cursor.proofs.Given.{Every}
 use Rattle.tra4_text.specs.Movement.{Key, Channel, Bone, Movement}
 use Rattle.tra4_text.specs.Rules.{allKeys, channelsOf, keyRows, framesFault, keyFine, keysFault, movementFault}
 use Rattle.tra4_text.specs.Layout.{layoutOf}

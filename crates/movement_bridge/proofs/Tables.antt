@@ -7,15 +7,16 @@ use native.Mathlib.Omega.{arith}
 use borrow.Author.Tests.{le-leb}
 use lib.IntN.{ℤ, pos, natAbs}
 use lib.ListN.{length, getD, drop, length-append}
-use Rattle.lexer.specs.Faults.{clear, tra}
-use Rattle.lexer.specs.Tokens.{lex}
-use Rattle.chunks.specs.Into.{flat}
-use Rattle.chunks.specs.Rules.{tooMany, orElse}
-use Rattle.chunks.specs.Outcomes.{Outcome, accepted, laid}
-use Rattle.chunks.proofs.Given.{Every}
-use Rattle.chunks.proofs.Rules.{or-first, or-second}
-use Rattle.chunks.proofs.Widths.{Wide, flat-length}
-use Rattle.bac6_text.specs.Rules.{isRow}
+use Rattle.text_check.specs.Faults.{tra}
+use Rattle.refusal.specs.Faults.{clear}
+use Rattle.text_tokens.specs.Tokens.{lex}
+use Rattle.table_rows.specs.Flat.{flat}
+use Rattle.refusal.specs.Rules.{tooMany, orElse}
+use Rattle.refusal.specs.Outcomes.{Outcome, accepted, laid}
+use Rattle.parse_cursor.proofs.Given.{Every}
+use Rattle.refusal.proofs.Rules.{or-first, or-second}
+use Rattle.parse_rows.proofs.Widths.{Wide, flat-length}
+use Rattle.table_rows.specs.References.{isRow}
 use Rattle.tra4_text.specs.Movement.{Movement}
 use Rattle.tra4_text.specs.Grammar.{movement}
 use Rattle.tra4_text.specs.Rules.{channelsOf, keyRows, countsOf, mosts, totalFault, keysFault, patternsFault, movementFault}

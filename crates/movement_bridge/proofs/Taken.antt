@@ -7,11 +7,13 @@ use borrow.Author.Tests.{leb-true}
 use lib.Dec.{leb}
 use lib.ListN.{length}
 use lib.IntN.{ℤ}
-use Rattle.lexer.specs.Faults.{Fault, clear, fault, Format, textFault}
-use Rattle.lexer.specs.Tokens.{Lexeme, lex}
-use Rattle.chunks.specs.Readers.{Got, got, refused, Reader}
-use Rattle.chunks.proofs.Outcomes.{rejected-no}
-use Rattle.chunks.specs.Outcomes.{Outcome, rejected, accepted, ruled, shaped, checked, outcome, fitted}
+use Rattle.text_check.specs.Faults.{Format, textFault}
+use Rattle.refusal.specs.Faults.{Fault, clear, fault}
+use Rattle.text_tokens.specs.Tokens.{Lexeme, lex}
+use Rattle.parse_cursor.specs.Readers.{Got, got, refused, Reader}
+use Rattle.parse_text.proofs.Outcomes.{rejected-no}
+use Rattle.refusal.specs.Outcomes.{Outcome, rejected, accepted, ruled, fitted}
+use Rattle.parse_text.specs.Texts.{shaped, checked, outcome}
 
 module _ {A : Type 0} where
   pub record Shaped (rules : A → Fault) (g : Got A) (a : A) : Type 0 where

@@ -8,8 +8,8 @@ use borrow.Author.Tests.{ltb-true, ltb-false}
 use lib.Dec.{ltb}
 use lib.IntN.{ℤ, pos, natAbs}
 use lib.ListN.{length, getD, drop}
-use Rattle.lexer.specs.Faults.{clear}
-use Rattle.chunks.specs.Outcomes.{accepted}
+use Rattle.refusal.specs.Faults.{clear}
+use Rattle.refusal.specs.Outcomes.{accepted}
 use Rattle.bac6_text.specs.Figure.{Face, Figure}
 use Rattle.bac6_text.specs.Rules.{facesOf}
 use Rattle.bac6_text.specs.Layout.{layoutOf}

@@ -8,10 +8,10 @@ use native.Mathlib.Omega.{arith}
 use borrow.Author.Tests.{le-leb}
 use lib.IntN.{ℤ, pos}
 use lib.ListN.{length, getD, length-map}
-use Rattle.lexer.specs.Strings.{StringAt}
-use Rattle.lexer.specs.Faults.{clear}
-use Rattle.chunks.specs.Readers.{Name, absent}
-use Rattle.chunks.specs.Fields.{isSome}
+use Rattle.text_check.specs.Strings.{StringAt}
+use Rattle.refusal.specs.Faults.{clear}
+use Rattle.parse_cursor.specs.Readers.{Name, absent}
+use Rattle.parse_cursor.specs.Fields.{isSome}
 use Rattle.bac6_text.specs.Figure as bac6
 use Rattle.bac6_text.specs.Rules.{figureFault}
 use Rattle.bac6_text.specs.Layout as figures

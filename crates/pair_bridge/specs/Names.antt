@@ -4,7 +4,7 @@ use mathlib.Core.Bool.{Bool, true, _&&_}
 use mathlib.Core.Option.{Option}
 use Prim.Native.Nat.{ℕ, zero, suc}
 use lib.IntN.{ℤ}
-use Rattle.chunks.specs.Fields.{isSome}
+use Rattle.parse_cursor.specs.Fields.{isSome}
 use Rattle.player.specs.declared.counts.FigureCounts.{FigureCounts}
 use Rattle.player.specs.Columns.{holdsFigure}
 use Rattle.player.specs.Lookups.{onlyIf}

@@ -10,14 +10,15 @@ use lib.Dec.{eqb}
 use lib.IntN.{ℤ, pos, natAbs}
 use lib.ListN.{length, take, drop, getD, length-take}
 use lib.Seq.{take-all, length-take-le}
-use Rattle.lexer.specs.Bytes.{isDigit, run, part}
-use Rattle.lexer.specs.Numbers.{INT, value, beyond, wrong, numberOf, intOf, intMost, signed, allDigits, decimal, negative}
-use Rattle.lexer.specs.Answers.{testNamed, numberNamed}
-use Rattle.lexer.specs.declared.bytes.Run.the-variants.{Digits}
-use Rattle.lexer.specs.declared.number.Parsed.{Parsed}
-use Rattle.lexer.specs.declared.number.Parsed.the-variants.{Value, Beyond, Malformed}
-use Rattle.lexer.proofs.Runs.{run-length, run-take}
-use Rattle.lexer.proofs.Numerals.{and-true, negative-first, digits-at, digit-range, digits-short, digits-run, magnitude-no, lead-int, int-value, decimal-below}
+use Rattle.text_bytes.specs.Bytes.{isDigit, run, part}
+use Rattle.text_numbers.specs.Numbers.{INT, value, beyond, wrong, numberOf, intOf, intMost, signed, allDigits, decimal, negative}
+use Rattle.text_numbers.specs.Answers.{numberNamed}
+use Rattle.text_bytes.specs.Answers.{testNamed}
+use Rattle.text_bytes.specs.declared.bytes.Run.the-variants.{Digits}
+use Rattle.text_numbers.specs.declared.number.Parsed.{Parsed}
+use Rattle.text_numbers.specs.declared.number.Parsed.the-variants.{Value, Beyond, Malformed}
+use Rattle.text_bytes.proofs.Runs.{run-length, run-take}
+use Rattle.text_numbers.proofs.Numerals.{and-true, negative-first, digits-at, digit-range, digits-short, digits-run, magnitude-no, lead-int, int-value, decimal-below}
 use Rattle.pair_input.specs.Division.{isHead, headOf}
 use Rattle.pair_input.specs.Answers.{lengthNamed}
 use Rattle.pair_input.specs.declared.division.Head.{Head}

@@ -2,8 +2,8 @@
 ghost use mathlib.Core.Path.{_≡_};
 ghost use Rattle.pair_input.specs.Division.{headOf, dividedAt, divided};
 ghost use Rattle.pair_input.specs.Answers.{lengthNamed, divisionNamed};
-use lexer::Parsed;
-use lexer::Run;
+use text_bytes::Run;
+use text_numbers::Parsed;
 
 // The figure's length, or no head.
 pub enum Head {
@@ -25,14 +25,14 @@ pub fn parse_head(bytes: &[u8]) -> Head
         return Head::Wrong;
     }
     let digits = &bytes[..8];
-    if lexer::run_end(digits, 0, Run::Digits) < 8 {
+    if text_bytes::run_end(digits, 0, Run::Digits) < 8 {
         return Head::Wrong;
     }
     if bytes[8] != b'\n' {
         return Head::Wrong;
     }
-    match lexer::int(digits) {
-        Parsed::Value(value) => Head::Length(lexer::magnitude(value) as usize),
+    match text_numbers::int(digits) {
+        Parsed::Value(value) => Head::Length(text_numbers::magnitude(value) as usize),
         Parsed::Beyond => Head::Wrong,
         Parsed::Malformed => Head::Wrong,
     }

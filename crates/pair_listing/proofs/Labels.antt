@@ -4,7 +4,7 @@ use mathlib.Core.List.{List, [], _∷_, _++_}
 use Prim.Native.Nat.{ℕ, _+_, _≤_}
 use native.Mathlib.Omega.{arith}
 use lib.ListN.{length, length-append}
-use Rattle.lexer.specs.Bytes.{bytes}
+use Rattle.text_bytes.specs.Bytes.{bytes}
 use Rattle.report.specs.Text.{numeral}
 use Rattle.report.specs.Output.{Output, output, appended}
 use Rattle.report.specs.Lists.{appendedEach, textOf, shown}

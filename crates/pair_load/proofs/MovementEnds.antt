@@ -6,11 +6,11 @@ use mathlib.Core.Option.{none, some}
 use Prim.Native.Nat.{ℕ, _<_}
 use lib.IntN.{ℤ}
 use lib.ListN.{length}
-use Rattle.lexer.specs.Faults.{clear, fault}
-use Rattle.lexer.proofs.Numerals.{and-true}
-use Rattle.lexer.specs.Strings.{StringAt}
-use Rattle.chunks.specs.Fields.{isSome}
-use Rattle.chunks.specs.Outcomes.{rejected, accepted}
+use Rattle.refusal.specs.Faults.{clear, fault}
+use Rattle.text_numbers.proofs.Numerals.{and-true}
+use Rattle.text_check.specs.Strings.{StringAt}
+use Rattle.parse_cursor.specs.Fields.{isSome}
+use Rattle.refusal.specs.Outcomes.{rejected, accepted}
 use Rattle.tra4_text.specs.Movement.{Movement}
 use Rattle.tra4_text.specs.Answer.{movementAnswer, movementTable}
 use Rattle.tra4.specs.Answers.{answerOf}

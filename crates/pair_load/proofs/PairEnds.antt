@@ -6,8 +6,8 @@ use Prim.Native.Nat.{ℕ, _<_}
 use native.Mathlib.Omega.{arith}
 use lib.IntN.{ℤ}
 use lib.ListN.{length, drop}
-use Rattle.lexer.specs.Strings.{StringAt}
-use Rattle.chunks.specs.Outcomes.{rejected, accepted}
+use Rattle.text_check.specs.Strings.{StringAt}
+use Rattle.refusal.specs.Outcomes.{rejected, accepted}
 use Rattle.bac6_text.specs.Figure.{Figure}
 use Rattle.bac6_text.specs.Layout as figures
 use Rattle.bac6_text.specs.Answer.{figureAnswer, tableAfter}

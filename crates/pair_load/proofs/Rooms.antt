@@ -7,12 +7,13 @@ use native.Mathlib.Omega.{arith}
 use lib.IntN.{ℤ}
 use lib.ListN.{length, take}
 use lib.Seq.{take-at}
-use Rattle.lexer.specs.Faults.{clear, bac, tra}
-use Rattle.lexer.specs.Tokens.{lex}
-use Rattle.chunks.specs.Cursors.{overlayAt}
-use Rattle.chunks.specs.Outcomes.{Outcome, rejected, accepted, fitted, laid}
-use Rattle.chunks.proofs.Outcomes.{fitted-room, fitted-short, laid-accepted}
-use Rattle.chunks.proofs.Rules.{count-clear}
+use Rattle.text_check.specs.Faults.{bac, tra}
+use Rattle.refusal.specs.Faults.{clear}
+use Rattle.text_tokens.specs.Tokens.{lex}
+use Rattle.table_rows.specs.Overlay.{overlayAt}
+use Rattle.refusal.specs.Outcomes.{Outcome, rejected, accepted, fitted, laid}
+use Rattle.parse_text.proofs.Outcomes.{fitted-room, fitted-short, laid-accepted}
+use Rattle.refusal.proofs.Rules.{count-clear}
 use Rattle.bac6_text.specs.Figure.{Figure}
 use Rattle.bac6_text.specs.Grammar.{figure}
 use Rattle.bac6_text.specs.Rules as figures

@@ -5,12 +5,12 @@ use Prim.Native.Nat.{ℕ, zero, suc, _<_}
 use native.Mathlib.Nat.{le-refl}
 use native.Mathlib.Omega.{arith}
 use lib.ListN.{length, getD}
-use Rattle.lexer.specs.Every.{Every}
-use Rattle.lexer.specs.Strings.{StringAt}
-use Rattle.lexer.specs.Faults.{bac, tra}
-use Rattle.chunks.specs.Readers.{Name, absent}
-use Rattle.chunks.specs.Outcomes.{accepted, fitted}
-use Rattle.chunks.proofs.Outcomes.{fitted-room, accepted-clear}
+use Rattle.text_bytes.specs.Every.{Every}
+use Rattle.text_check.specs.Strings.{StringAt}
+use Rattle.text_check.specs.Faults.{bac, tra}
+use Rattle.parse_cursor.specs.Readers.{Name, absent}
+use Rattle.refusal.specs.Outcomes.{accepted, fitted}
+use Rattle.parse_text.proofs.Outcomes.{fitted-room, accepted-clear}
 use Rattle.bac6_text.specs.Figure as bac6
 use Rattle.bac6_text.specs.Grammar.{figure}
 use Rattle.bac6_text.specs.Rules.{figureFault}

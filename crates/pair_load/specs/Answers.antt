@@ -4,7 +4,7 @@ use mathlib.Core.Option.{Option, none, some}
 use Prim.Native.Nat.{ℕ}
 use lib.IntN.{ℤ}
 use lib.ListN.{length}
-use Rattle.chunks.specs.Outcomes.{Outcome, accepted}
+use Rattle.refusal.specs.Outcomes.{Outcome, accepted}
 use Rattle.bac6_text.specs.Figure.{Figure}
 use Rattle.bac6_text.specs.Layout as figures
 use Rattle.tra4_text.specs.Movement.{Movement}

@@ -3,12 +3,12 @@ ghost use mathlib.Core.Path.{_≡_};
 ghost use lib.ListN.{length};
 ghost use Rattle.pair_text.specs.Answer.{refused as refusedAt, movementLeft};
 ghost use Rattle.pair_load.specs.Answers.{movedAnswer, movedReply};
-use chunks::put;
-use lexer::Checked;
 use pair_rules::has_names;
 use pair_rules::pair_fault;
 use player::FigureCounts;
 use player::MovementCounts;
+use refusal::Checked;
+use table_rows::put;
 use tra4::MovementAnswer;
 
 fn refused(number: usize, place: usize, file: usize) -> MovementAnswer

@@ -7,9 +7,9 @@ ghost use Rattle.pair_text.specs.Answer.{refused as refusedAt, pairAnswer, figu
 ghost use Rattle.pair_load.specs.Answers.{pairReply};
 use crate::moving::load_movement;
 use bac6::FigureAnswer;
-use chunks::put;
 use player::FigureCounts;
 use player::MovementCounts;
+use table_rows::put;
 
 // A refusal's number, place and file, and zeros; or how many numbers and rows each table holds.
 pub struct PairAnswer {

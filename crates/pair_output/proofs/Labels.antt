@@ -9,9 +9,9 @@ use borrow.Author.Tests.{leb-true}
 use lib.Dec.{leb}
 use lib.IntN.{ℤ, pos, negsuc, natAbs}
 use lib.ListN.{length}
-use Rattle.lexer.specs.Bytes.{part}
-use Rattle.lexer.proofs.Parts.{part-length}
-use Rattle.lexer.proofs.Numerals.{and-true}
+use Rattle.text_bytes.specs.Bytes.{part}
+use Rattle.text_bytes.proofs.Parts.{part-length}
+use Rattle.text_numbers.proofs.Numerals.{and-true}
 use Rattle.report.specs.Output.{output}
 use Rattle.report.specs.Lists.{appendedEach, textOf}
 use Rattle.player.specs.declared.counts.FigureCounts.{FigureCounts}

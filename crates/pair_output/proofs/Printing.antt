@@ -7,7 +7,7 @@ use native.Mathlib.Omega.{arith}
 use lib.IntN.{ℤ, pos}
 use lib.ListN.{length, take, replicate, length-append, length-replicate}
 use lib.Seq.{length-take-le}
-use Rattle.lexer.specs.Bytes.{part}
+use Rattle.text_bytes.specs.Bytes.{part}
 use Rattle.io.specs.Counts.{Counts}
 use Rattle.report.specs.Output.{Output, output, appended}
 use Rattle.report.specs.Lists.{appendedEach, textOf}

@@ -4,7 +4,7 @@ use mathlib.Core.List.{List}
 use Prim.Native.Nat.{ℕ}
 use lib.IntN.{ℤ}
 use lib.ListN.{length, drop}
-use Rattle.chunks.specs.Outcomes.{accepted}
+use Rattle.refusal.specs.Outcomes.{accepted}
 use Rattle.bac6_text.specs.Figure.{Figure}
 use Rattle.bac6_text.specs.Layout as figures
 use Rattle.bac6_text.specs.Answer.{figureAnswer, tableAfter}

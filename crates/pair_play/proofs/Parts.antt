@@ -6,8 +6,8 @@ use Prim.Native.Nat.{ℕ}
 use lib.Dec.{leb}
 use lib.IntN.{ℤ}
 use lib.ListN.{length}
-use Rattle.chunks.specs.Outcomes.{Outcome, rejected, accepted, fitted}
-use Rattle.chunks.proofs.Outcomes.{rejected-no}
+use Rattle.refusal.specs.Outcomes.{Outcome, rejected, accepted, fitted}
+use Rattle.parse_text.proofs.Outcomes.{rejected-no}
 use Rattle.bac6_text.specs.Figure.{Figure}
 use Rattle.bac6_text.specs.Layout as figures
 use Rattle.bac6_text.specs.Answer.{figureOutcome, figureAnswer, tableAfter}

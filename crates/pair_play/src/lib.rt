@@ -7,11 +7,11 @@ ghost use Rattle.player.specs.Answers.{sampled, cornered, showed};
 ghost use Rattle.pair_text.specs.Answer.{pairAnswer, figureLeft, movementOf, movementLeft};
 ghost use Rattle.pair_bridge.specs.Playing.{sampleAsked, cornerAsked, shownAsked, labelAsked};
 ghost use Rattle.pair_play.specs.Playing.{played, sampleTold, cornerTold, shownTold, refusalOf, bytesOf};
-use lexer::part;
 use pair_load::load;
 use player::Cornered;
 use player::Sampled;
 use player::Visibility;
+use text_bytes::part;
 
 // A refusal's number, place and file, and a refused value; or zeros and the value.
 pub struct PlayedSample {

@@ -8,8 +8,8 @@ use native.Mathlib.Omega.{arith}
 use borrow.Author.Tests.{lt-ltb}
 use lib.IntN.{ℤ}
 use lib.ListN.{length}
-use Rattle.lexer.specs.Bytes.{same}
-use Rattle.chunks.specs.Fields.{isSome}
+use Rattle.text_bytes.specs.Bytes.{same}
+use Rattle.parse_cursor.specs.Fields.{isSome}
 use Rattle.player.specs.declared.counts.FigureCounts.{FigureCounts}
 use Rattle.player.specs.declared.counts.MovementCounts.{MovementCounts}
 use Rattle.player.specs.Columns.{holdsFigure, holdsMovement}

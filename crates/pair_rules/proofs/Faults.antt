@@ -7,8 +7,8 @@ use native.Mathlib.Omega.{arith}
 use borrow.Author.Tests.{eq-eqb, ne-eqb}
 use lib.IntN.{ℤ}
 use lib.ListN.{take, drop}
-use Rattle.lexer.specs.Faults.{Fault, clear, fault}
-use Rattle.chunks.proofs.Rules.{or-clear, or-fault}
+use Rattle.refusal.specs.Faults.{Fault, clear, fault}
+use Rattle.refusal.proofs.Rules.{or-clear, or-fault}
 use Rattle.player.specs.declared.counts.FigureCounts.{FigureCounts}
 use Rattle.player.specs.declared.counts.MovementCounts.{MovementCounts}
 use Rattle.player.specs.Columns.{rowsAt, keysBegin, patternsBegin, holdsFigure, holdsMovement}

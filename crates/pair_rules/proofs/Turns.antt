@@ -10,9 +10,10 @@ use native.Mathlib.Omega.{arith}
 use lib.IntN.{ℤ, pos}
 use lib.ListN.{getD, drop}
 use lib.Seq.{getD-take, getD-drop}
-use Rattle.lexer.specs.Faults.{Fault, clear, fault}
-use Rattle.chunks.specs.Fields.{isSome}
-use Rattle.bac6_text.specs.Rules.{isRow, firstBad}
+use Rattle.refusal.specs.Faults.{Fault, clear, fault}
+use Rattle.parse_cursor.specs.Fields.{isSome}
+use Rattle.refusal.specs.FirstBad.{firstBad}
+use Rattle.table_rows.specs.References.{isRow}
 use Rattle.tra4_text.specs.Movement.{Pattern, groupOf}
 use Rattle.player.specs.Columns.{numbersAt, rowsAt}
 use Rattle.player_label.specs.Labels.{orEmpty}

@@ -3,8 +3,8 @@ use mathlib.Core.List.{List}
 use mathlib.Core.Bool.{true, false, _&&_}
 use Prim.Native.Nat.{ℕ}
 use lib.IntN.{ℤ}
-use Rattle.lexer.specs.Faults.{Fault, fault}
-use Rattle.chunks.specs.Rules.{orElse}
+use Rattle.refusal.specs.Faults.{Fault, fault}
+use Rattle.refusal.specs.Rules.{orElse}
 use Rattle.player.specs.declared.counts.FigureCounts.{FigureCounts}
 use Rattle.player.specs.declared.counts.MovementCounts.{MovementCounts}
 use Rattle.player.specs.Columns.{rowsAt, patternsBegin, holdsFigure, holdsMovement}

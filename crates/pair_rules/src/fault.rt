@@ -3,14 +3,14 @@ ghost use mathlib.Core.Path.{_≡_};
 ghost use mathlib.Core.Bool.{true};
 ghost use Prim.Native.Nat.{_*_, _≤_};
 ghost use lib.ListN.{length};
-ghost use Rattle.lexer.specs.Answers.{refusal};
+ghost use Rattle.refusal.specs.Answers.{refusal};
 ghost use Rattle.player.specs.Columns.{rowsAt, holdsFigure, holdsMovement};
 ghost use Rattle.pair_text.specs.Rules.{groupsFault};
 ghost use Rattle.pair_rules.specs.Tables.{rowsFault, tablesFault};
 use crate::names::names_fault;
-use lexer::Checked;
 use player::FigureCounts;
 use player::MovementCounts;
+use refusal::Checked;
 
 // 20, at the first pattern line whose group is none of so many; lines are rows of three numbers.
 fn groups_fault(lines: &[i64], count: usize, groups: usize) -> Checked
@@ -20,7 +20,7 @@ fn groups_fault(lines: &[i64], count: usize, groups: usize) -> Checked
     let mut row = 0;
     while row < count {
         let group = lines[row * 3 + 1];
-        if !references::is_row(groups, group) {
+        if !table_rows::is_row(groups, group) {
             return Checked::Refused {
                 number: 20,
                 offset: row,

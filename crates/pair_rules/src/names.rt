@@ -3,22 +3,22 @@ ghost use mathlib.Core.Path.{_≡_};
 ghost use mathlib.Core.Bool.{true};
 ghost use Prim.Native.Nat.{_<_};
 ghost use lib.ListN.{length};
-ghost use Rattle.lexer.specs.Answers.{refusal};
-ghost use Rattle.chunks.specs.Fields.{isSome};
+ghost use Rattle.refusal.specs.Answers.{refusal};
+ghost use Rattle.parse_cursor.specs.Fields.{isSome};
 ghost use Rattle.player.specs.Columns.{holdsFigure, holdsMovement};
 ghost use Rattle.player_label.specs.Answers.{found};
 ghost use Rattle.player_label.specs.Names.{partAt, figureNamed, figureName, movementName};
 ghost use Rattle.player_label.specs.Labels.{orEmpty};
 ghost use Rattle.pair_text.specs.Rules.{namesAgree, namesFault};
 ghost use Rattle.pair_bridge.specs.Names.{namesFrom, namesIn};
-use lexer::Checked;
-use lexer::part;
-use lexer::same;
 use player::FigureCounts;
 use player::MovementCounts;
 use player_label::Found;
 use player_label::figure_name;
 use player_label::movement_name;
+use refusal::Checked;
+use text_bytes::part;
+use text_bytes::same;
 
 fn has_name(figure: &[u8], table: &[i64], n: FigureCounts, row: usize) -> bool
     ensures { λ r. ⌜ r ≡ isSome (figureNamed (length (now (figure .entry))) n (now (table .entry)) row) ⌝ }

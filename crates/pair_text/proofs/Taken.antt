@@ -4,9 +4,9 @@ use mathlib.Core.List.{List}
 use Prim.Native.Nat.{ℕ}
 use native.Mathlib.Omega.{arith}
 use lib.ListN.{length}
-use Rattle.lexer.specs.Faults.{Fault, clear, fault}
-use Rattle.chunks.specs.Outcomes.{Outcome, rejected, accepted}
-use Rattle.chunks.proofs.Rules.{or-first, or-second}
+use Rattle.refusal.specs.Faults.{Fault, clear, fault}
+use Rattle.refusal.specs.Outcomes.{Outcome, rejected, accepted}
+use Rattle.refusal.proofs.Rules.{or-first, or-second}
 use Rattle.bac6_text.specs.Figure.{Figure}
 use Rattle.tra4_text.specs.Movement.{Movement}
 use Rattle.pair_text.specs.Rules.{figureNames, movementNames, bonesFault, namesFault, groupsFault, pairFault}

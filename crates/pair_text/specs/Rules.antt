@@ -4,11 +4,12 @@ use mathlib.Core.Bool.{Bool, true, false, cond}
 use Prim.Native.Nat.{ℕ, suc}
 use lib.Dec.{eqb}
 use lib.ListN.{length}
-use Rattle.lexer.specs.Bytes.{same}
-use Rattle.lexer.specs.Faults.{Fault, clear, fault}
-use Rattle.chunks.specs.Rules.{orElse}
+use Rattle.text_bytes.specs.Bytes.{same}
+use Rattle.refusal.specs.Faults.{Fault, clear, fault}
+use Rattle.refusal.specs.Rules.{orElse}
 use Rattle.bac6_text.specs.Figure as bac6
-use Rattle.bac6_text.specs.Rules.{isRow, firstBad}
+use Rattle.refusal.specs.FirstBad.{firstBad}
+use Rattle.table_rows.specs.References.{isRow}
 use Rattle.tra4_text.specs.Movement as tra4
 use Rattle.tra4_text.specs.Movement.{Pattern, groupOf}
 

@@ -8,8 +8,8 @@ use borrow.Author.Tests.{lt-ltb, le-ltb}
 use lib.Dec.{ltb}
 use lib.IntN.{ℤ, pos, natAbs}
 use lib.ListN.{length, getD}
-use Rattle.bac6_text.specs.Rules.{isNone}
-use Rattle.references.specs.Index.{isIndex}
+use Rattle.table_rows.specs.References.{isNone}
+use Rattle.table_rows.specs.Index.{isIndex}
 use Rattle.player.specs.declared.counts.FigureCounts.{FigureCounts}
 use Rattle.player.specs.Faces.{CornerOf}
 use Rattle.player.specs.Columns.{numbersAt, holdsFigure}

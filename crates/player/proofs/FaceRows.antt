@@ -13,9 +13,9 @@ use lib.Seq.{drop-cons, getD-take, getD-drop}
 use mir.Syntax.{w64}
 use mir.Val.{SFits, toZ, ofZ}
 use mir.Facts.{toZ-ofZ}
-use Rattle.lexer.proofs.Numerals.{and-true}
-use Rattle.bac6_text.specs.Rules.{isRow, isNone, sameNumber}
-use Rattle.references.specs.Index.{isIndex}
+use Rattle.text_numbers.proofs.Numerals.{and-true}
+use Rattle.table_rows.specs.References.{isRow, isNone, sameNumber}
+use Rattle.table_rows.specs.Index.{isIndex}
 use Rattle.player.specs.declared.counts.FigureCounts.{FigureCounts}
 use Rattle.player.specs.Lookups.{isFloat, allFloat, sizeFine, cornersFine, allNone, faceFine}
 

@@ -7,8 +7,8 @@ use Prim.Native.Nat.{ℕ, suc}
 use lib.IntN.{ℤ, pos}
 use lib.ListN.{getD}
 use lib.Signed.{leZ}
-use Rattle.bac6_text.specs.Rules.{isRow}
-use Rattle.lexer.specs.Faults.{Fault}
+use Rattle.table_rows.specs.References.{isRow}
+use Rattle.refusal.specs.Faults.{Fault}
 use Rattle.tra4_text.specs.Movement.{Pattern, frameOf, groupOf}
 use Rattle.tra4_text.specs.Rules.{isFrame, isZero, neverFalls, framesFault, patternFine, patternsFault}
 use Rattle.player.specs.Columns.{isClear}

@@ -7,10 +7,10 @@ use borrow.Author.Tests.{leb-true}
 use lib.Dec.{leb}
 use lib.IntN.{ℤ}
 use lib.ListN.{length}
-use Rattle.lexer.proofs.Numerals.{and-true}
-use Rattle.lexer.specs.Faults.{Fault, clear, fault}
-use Rattle.chunks.specs.Rules.{tooMany}
-use Rattle.chunks.proofs.Rules.{count-clear}
+use Rattle.text_numbers.proofs.Numerals.{and-true}
+use Rattle.refusal.specs.Faults.{Fault, clear, fault}
+use Rattle.refusal.specs.Rules.{tooMany}
+use Rattle.refusal.proofs.Rules.{count-clear}
 use Rattle.bac6_text.specs.Rules as bac6
 use Rattle.tra4_text.specs.Rules.{mosts}
 use Rattle.player.specs.declared.counts.MovementCounts.{MovementCounts}

@@ -11,7 +11,7 @@ use lib.Dec.{T}
 use mir.Syntax.{w64}
 use mir.Val.{SFits, Fits, toZ, ofZ}
 use mir.Facts.{toZ-ofZ, fits-natAbs}
-use Rattle.lexer.specs.Faults.{Fault, clear, fault}
+use Rattle.refusal.specs.Faults.{Fault, clear, fault}
 use Rattle.tra4_text.specs.Rules.{totalFault}
 use Rattle.player.specs.Columns.{isClear}
 use Rattle.player.specs.Lookups.{isAsked, isRange}

@@ -8,8 +8,8 @@ use native.Mathlib.Omega.{arith}
 use lib.IntN.{ℤ, pos, natAbs}
 use lib.ListN.{length, getD, take, drop}
 use lib.Seq.{drop-cons}
-use Rattle.bac6_text.specs.Rules.{isNone}
-use Rattle.references.specs.Index.{isIndex}
+use Rattle.table_rows.specs.References.{isNone}
+use Rattle.table_rows.specs.Index.{isIndex}
 use Rattle.player.specs.declared.counts.FigureCounts.{FigureCounts}
 use Rattle.player.specs.Lookups.{onlyIf, sizeFine, cornersFine, ownerAt, ownersFine, ownedCorners}
 use Rattle.player.specs.Rows.{ownedIn, rowOwned}

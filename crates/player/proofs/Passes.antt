@@ -9,7 +9,7 @@ use borrow.Author.Tests.{ltb-true, ltb-false, le-leb, lt-leb}
 use lib.Dec.{leb, ltb}
 use lib.IntN.{ℤ, pos}
 use lib.ListN.{getD}
-use Rattle.lexer.specs.Faults.{Fault, clear, fault}
+use Rattle.refusal.specs.Faults.{Fault, clear, fault}
 use Rattle.tra4_text.specs.Movement.{Key, frameOf}
 use Rattle.tra4_text.specs.Rules.{framesFault, keyFine}
 use Rattle.player.specs.Fractions.{Fraction, whole}

@@ -11,10 +11,10 @@ use lib.IntN.{ℤ, pos, negsuc, natAbs}
 use lib.Signed.{ltZ, leZ}
 use mir.Syntax.{w64}
 use mir.Val.{SFits, ofZ}
-use Rattle.bac6_text.specs.Rules.{isRow}
-use Rattle.lexer.proofs.Numerals.{and-true}
-use Rattle.lexer.proofs.Signed.{from-zero}
-use Rattle.lexer.proofs.Tests.{most-above}
+use Rattle.table_rows.specs.References.{isRow}
+use Rattle.text_numbers.proofs.Numerals.{and-true}
+use Rattle.text_numbers.proofs.Signed.{from-zero}
+use Rattle.text_numbers.proofs.Tests.{most-above}
 use Rattle.tra4_text.specs.Movement.{frameOf, groupOf}
 use Rattle.tra4_text.specs.Rules.{isFrame, neverFalls, patternFine}
 use Rattle.player.specs.Faces.{applies, flagOf}

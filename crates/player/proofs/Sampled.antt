@@ -12,9 +12,9 @@ use lib.IntN.{ℤ, pos, negsuc, natAbs}
 use lib.ListN.{length, getD, take, drop, length-take, length-drop}
 use lib.Seq.{drop-drop}
 use Rattle.tra4_text.specs.Movement.{Key}
-use Rattle.lexer.proofs.Numerals.{and-true}
-use Rattle.lexer.specs.Faults.{Fault, clear, fault}
-use Rattle.chunks.specs.Rules.{tooMany}
+use Rattle.text_numbers.proofs.Numerals.{and-true}
+use Rattle.refusal.specs.Faults.{Fault, clear, fault}
+use Rattle.refusal.specs.Rules.{tooMany}
 use Rattle.tra4_text.specs.Rules.{mosts, framesFault, keyFine}
 use Rattle.player.specs.declared.pass.Pass.{Pass}
 use Rattle.player.specs.declared.counts.MovementCounts.{MovementCounts}

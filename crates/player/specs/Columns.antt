@@ -5,8 +5,8 @@ use Prim.Native.Nat.{ℕ, zero, suc, _+_, _*_, _≤_}
 use lib.Dec.{leb}
 use lib.IntN.{ℤ, pos}
 use lib.ListN.{length, getD, take, drop}
-use Rattle.lexer.specs.Faults.{Fault, clear, fault}
-use Rattle.chunks.specs.Rules.{tooMany}
+use Rattle.refusal.specs.Faults.{Fault, clear, fault}
+use Rattle.refusal.specs.Rules.{tooMany}
 use Rattle.bac6_text.specs.Rules as bac6
 use Rattle.tra4_text.specs.Rules as tra4
 use Rattle.player.specs.declared.counts.MovementCounts.{MovementCounts}

@@ -7,7 +7,8 @@ use lib.Dec.{leb, eqb}
 use lib.IntN.{ℤ, pos, negsuc, natAbs}
 use lib.ListN.{getD}
 use Rattle.bac6_text.specs.Figure.{Bone, Face, Group, Figure}
-use Rattle.bac6_text.specs.Rules.{ownerOf, isNone}
+use Rattle.bac6_text.specs.Rules.{ownerOf}
+use Rattle.table_rows.specs.References.{isNone}
 use Rattle.tra4_text.specs.Movement.{Pattern, frameOf, groupOf}
 
 -- ---- faces with their groups, in row order: those of `Polygons` have none

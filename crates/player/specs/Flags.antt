@@ -5,7 +5,7 @@ use mathlib.Core.Option.{Option, none, some}
 use Prim.Native.Nat.{ℕ}
 use lib.IntN.{ℤ, pos}
 use lib.ListN.{getD}
-use Rattle.bac6_text.specs.Rules.{isRow}
+use Rattle.table_rows.specs.References.{isRow}
 use Rattle.tra4_text.specs.Movement.{Pattern, frameOf, groupOf}
 use Rattle.tra4_text.specs.Rules.{isZero, patternFine}
 use Rattle.player.specs.Faces.{applies, flagOf}

@@ -6,9 +6,9 @@ use Prim.Native.Nat.{ℕ, zero, suc, _+_, _*_}
 use lib.Dec.{leb, ltb, eqb}
 use lib.IntN.{ℤ, pos, negsuc, natAbs}
 use lib.ListN.{length, getD, take, drop}
-use Rattle.lexer.specs.Faults.{Fault, clear}
-use Rattle.bac6_text.specs.Rules.{isRow, isNone, sameNumber}
-use Rattle.references.specs.Index.{isIndex}
+use Rattle.refusal.specs.Faults.{Fault, clear}
+use Rattle.table_rows.specs.References.{isRow, isNone, sameNumber}
+use Rattle.table_rows.specs.Index.{isIndex}
 use Rattle.tra4_text.specs.Movement.{Key, Pattern, groupOf}
 use Rattle.tra4_text.specs.Rules.{totalFault, framesFault, keyFine, patternsFault}
 use Rattle.player.specs.declared.counts.MovementCounts.{MovementCounts}

@@ -6,10 +6,10 @@ use Prim.Native.Nat.{ℕ, _+_}
 use lib.Dec.{ltb}
 use lib.IntN.{ℤ, pos, natAbs}
 use lib.ListN.{getD, take, drop}
-use Rattle.bac6_text.specs.Rules.{isNone}
+use Rattle.table_rows.specs.References.{isNone}
 use Rattle.tra4_text.specs.Movement.{Pattern}
 use Rattle.tra4_text.specs.Rules.{patternsFault}
-use Rattle.references.specs.Index.{isIndex}
+use Rattle.table_rows.specs.Index.{isIndex}
 use Rattle.player.specs.declared.counts.FigureCounts.{FigureCounts}
 use Rattle.player.specs.Faces.{CornerOf, lastFlag}
 use Rattle.player.specs.Columns.{isClear}

@@ -14,7 +14,7 @@ use crate::point::UvRow;
 use crate::point::VertexRow;
 use crate::point::point_at;
 use crate::point::uv_at;
-use references::is_none;
+use table_rows::is_none;
 
 // A position, its owner and a material's row, with a texture coordinate or without one; or refusal 21.
 pub enum Cornered {

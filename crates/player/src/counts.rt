@@ -2,7 +2,7 @@
 ghost use mathlib.Core.Path.{_≡_};
 ghost use Prim.Native.Nat.{_≤_};
 ghost use Rattle.player.specs.Columns.{patternsBegin, holdsMovement, pointsBegin, bonesBegin, ownersBegin, uvsBegin, facesBegin, holdsFigure, WithinMosts};
-use lexer::Checked;
+use refusal::Checked;
 
 pub struct MovementCounts {
     pub bones: usize,
@@ -27,7 +27,7 @@ pub struct FigureCounts {
 pub fn holds_movement(table: &[i64], n: MovementCounts) -> bool
     ensures { λ r. ⌜ r ≡ holdsMovement n (now (table .entry)) ⌝ }
 {
-    match chunks::too_many(&[n.bones, n.keys, n.patterns], &[128, 4096, 256]) {
+    match refusal::too_many(&[n.bones, n.keys, n.patterns], &[128, 4096, 256]) {
         Checked::Refused { number, offset } => false,
         Checked::Clear => 3 + n.bones * 22 + n.keys * 2 + n.patterns * 3 <= table.len(),
     }
@@ -91,7 +91,7 @@ pub fn holds_figure(table: &[i64], n: FigureCounts) -> bool
         n.faces,
         n.groups,
     ];
-    match chunks::too_many(&counts, &[16, 256, 64, 2048, 2048, 128, 4096, 1024, 32]) {
+    match refusal::too_many(&counts, &[16, 256, 64, 2048, 2048, 128, 4096, 1024, 32]) {
         Checked::Refused { number, offset } => false,
         Checked::Clear => faces_begin(n) + n.faces * 11 + n.groups * 2 <= table.len(),
     }

@@ -2,12 +2,12 @@
 ghost use mathlib.Core.Path.{_≡_};
 ghost use mathlib.Core.Bool.{cond, _||_};
 ghost use lib.ListN.{length};
-ghost use Rattle.bac6_text.specs.Rules.{isRow, isNone};
+ghost use Rattle.table_rows.specs.References.{isRow, isNone};
 ghost use Rattle.player.specs.Lookups.{sizeFine, cornersFine, allNone, faceFine};
 use crate::counts::FigureCounts;
-use references::is_index;
-use references::is_none;
-use references::is_row;
+use table_rows::is_index;
+use table_rows::is_none;
+use table_rows::is_row;
 
 pub(crate) fn size_fine(z: i64) -> bool
     ensures { λ r. ⌜ r ≡ sizeFine z ⌝ }

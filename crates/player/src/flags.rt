@@ -29,10 +29,10 @@ fn line_fine(total: i64, groups: usize, before: i64, f: i64, g: i64, flag: i64) 
     if f < before {
         return false;
     }
-    if !references::is_row(groups, g) {
+    if !table_rows::is_row(groups, g) {
         return false;
     }
-    references::is_row(2, flag)
+    table_rows::is_row(2, flag)
 }
 
 // The flag after a line: its own, if it is of the group and not after the frame.

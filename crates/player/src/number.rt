@@ -6,7 +6,7 @@ ghost use Rattle.player.specs.Lookups.{isFloat, isAsked, isRange};
 pub(crate) fn is_float(z: i64) -> bool
     ensures { λ r. ⌜ r ≡ isFloat z ⌝ }
 {
-    lexer::magnitude(z) <= 9999999999999
+    text_numbers::magnitude(z) <= 9999999999999
 }
 
 // Whether the total of frames is sound and the frame lies below it.

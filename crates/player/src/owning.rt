@@ -13,8 +13,8 @@ use crate::face::size_fine;
 use crate::flags::Visibility;
 use crate::point::VertexRow;
 use crate::point::owner_at;
-use references::is_index;
-use references::is_none;
+use table_rows::is_index;
+use table_rows::is_none;
 
 // The owners of so many vertices.
 fn owned(table: &[i64], n: FigureCounts, vertices: &[i64], used: usize) -> Visibility

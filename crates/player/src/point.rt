@@ -4,7 +4,7 @@ ghost use mathlib.Core.List.{[], _∷_};
 ghost use mathlib.Core.Bool.{true, _&&_};
 ghost use Prim.Native.Nat.{_<_};
 ghost use lib.IntN.{pos};
-ghost use Rattle.references.specs.Index.{isIndex};
+ghost use Rattle.table_rows.specs.Index.{isIndex};
 ghost use Rattle.player.specs.Columns.{holdsFigure};
 ghost use Rattle.player.specs.Lookups.{allFloat, ownerAt, pointAt, uvRow};
 use crate::counts::FigureCounts;
@@ -12,7 +12,7 @@ use crate::counts::owners_begin;
 use crate::counts::points_begin;
 use crate::counts::uvs_begin;
 use crate::number::is_float;
-use references::is_index;
+use table_rows::is_index;
 
 // A vertex number and a texture coordinate number count separate lists.
 pub(crate) struct VertexRow(pub usize);

@@ -17,8 +17,8 @@ use crate::flags::Visibility;
 use crate::flags::group_flag;
 use crate::number::is_asked;
 use crate::owning::row_owned;
-use references::is_index;
-use references::is_none;
+use table_rows::is_index;
+use table_rows::is_none;
 
 fn both(a: Visibility, b: Visibility) -> Visibility
     ensures { λ r. ⌜ visible r ≡ bothShown (visible a) (visible b) ⌝ }

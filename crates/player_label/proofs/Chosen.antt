@@ -8,8 +8,8 @@ use native.Mathlib.Omega.{arith}
 use lib.Dec.{ltb}
 use lib.IntN.{ℤ}
 use lib.ListN.{length, drop, length-take, length-drop}
-use Rattle.lexer.specs.Bytes.{part}
-use Rattle.lexer.proofs.Parts.{part-none}
+use Rattle.text_bytes.specs.Bytes.{part}
+use Rattle.text_bytes.proofs.Parts.{part-none}
 use Rattle.player.specs.declared.counts.MovementCounts.{MovementCounts}
 use Rattle.player.specs.declared.counts.FigureCounts.{FigureCounts}
 use Rattle.player.specs.Columns.{holdsMovement, holdsFigure}

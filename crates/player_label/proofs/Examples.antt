@@ -5,8 +5,8 @@ use mathlib.Core.Bool.{true, false}
 use mathlib.Core.Option.{none, some}
 use Prim.Native.Nat.{ℕ}
 use lib.IntN.{ℤ, pos, negsuc}
-use Rattle.lexer.specs.Bytes.{bytes, part}
-use Rattle.chunks.specs.Rules.{tooMany}
+use Rattle.text_bytes.specs.Bytes.{bytes, part}
+use Rattle.refusal.specs.Rules.{tooMany}
 use Rattle.bac6_text.specs.Rules as bac6
 use Rattle.tra4_text.specs.Rules as tra4
 use Rattle.player.specs.declared.counts.MovementCounts.{MovementCounts}

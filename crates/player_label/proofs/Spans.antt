@@ -13,7 +13,7 @@ use lib.Seq.{getD-take, getD-drop}
 use lib.Signed.{ltZ}
 use mir.Syntax.{w64}
 use mir.Val.{Fits, SFits}
-use Rattle.lexer.proofs.Numerals.{and-true}
+use Rattle.text_numbers.proofs.Numerals.{and-true}
 use Rattle.player.specs.declared.counts.MovementCounts.{MovementCounts}
 use Rattle.player.specs.declared.counts.FigureCounts.{FigureCounts}
 use Rattle.player.specs.Columns.{numberAt, numbersAt, bonesBegin, holdsMovement, holdsFigure}

@@ -2,7 +2,7 @@
 use mathlib.Core.List.{List}
 use mathlib.Core.Option.{Option, none, some}
 use Prim.Native.Nat.{ℕ}
-use Rattle.lexer.specs.Bytes.{part}
+use Rattle.text_bytes.specs.Bytes.{part}
 use Rattle.player_label.specs.declared.names.Found.{Found}
 use Rattle.player_label.specs.declared.names.Found.the-variants as names
 use Rattle.player_label.specs.declared.labels.Named.{Named}

@@ -6,9 +6,9 @@ ghost use Rattle.player_label.specs.Answers.{named};
 use crate::names::Found;
 use crate::names::figure_name;
 use crate::names::movement_name;
-use lexer::part;
 use player::FigureCounts;
 use player::MovementCounts;
+use text_bytes::part;
 
 // Which text holds the name, and from where to where; or refusal 21.
 pub(crate) enum Named {

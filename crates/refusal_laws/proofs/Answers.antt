@@ -6,7 +6,7 @@ use mathlib.Core.Option.{Option, none, some}
 use Prim.Native.Nat.{ℕ}
 use native.Mathlib.Omega.{arith}
 use lib.IntN.{ℤ}
-use Rattle.chunks.specs.Outcomes.{Outcome, rejected, accepted}
+use Rattle.refusal.specs.Outcomes.{Outcome, rejected, accepted}
 use Rattle.bac6_text.specs.Answer.{figureAnswer}
 use Rattle.tra4_text.specs.Answer.{movementAnswer}
 use Rattle.pair_text.specs.Answer.{Loaded, refused, loaded, pairAnswer}

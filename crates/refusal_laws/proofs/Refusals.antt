@@ -7,11 +7,13 @@ use native.Mathlib.Omega.{arith}
 use lib.Dec.{leb}
 use lib.ListN.{length}
 use lib.IntN.{ℤ}
-use Rattle.lexer.specs.Faults.{Fault, clear, fault, Format, bac, tra, textFault}
-use Rattle.lexer.specs.Tokens.{lex}
-use Rattle.chunks.specs.Readers as readers
-use Rattle.chunks.specs.Readers.{Got, got, Reader}
-use Rattle.chunks.specs.Outcomes.{Outcome, rejected, accepted, ruled, shaped, checked, outcome, fitted}
+use Rattle.text_check.specs.Faults.{Format, bac, tra, textFault}
+use Rattle.refusal.specs.Faults.{Fault, clear, fault}
+use Rattle.text_tokens.specs.Tokens.{lex}
+use Rattle.parse_cursor.specs.Readers as readers
+use Rattle.parse_cursor.specs.Readers.{Got, got, Reader}
+use Rattle.refusal.specs.Outcomes.{Outcome, rejected, accepted, ruled, fitted}
+use Rattle.parse_text.specs.Texts.{shaped, checked, outcome}
 use Rattle.bac6_text.specs.Figure.{Figure}
 use Rattle.bac6_text.specs.Grammar.{figure}
 use Rattle.bac6_text.specs.Rules.{figureFault}

@@ -7,11 +7,12 @@ use lib.Dec.{leb, eqb}
 use lib.IntN.{ℤ, pos}
 use lib.Signed.{leZ}
 use lib.ListN.{length}
-use Rattle.lexer.specs.Faults.{Fault, clear, fault}
-use Rattle.chunks.specs.Rules.{orElse, tooMany}
+use Rattle.refusal.specs.Faults.{Fault, clear, fault}
+use Rattle.refusal.specs.Rules.{orElse, tooMany}
 use Rattle.bac6_text.specs.Figure as bac6
 use Rattle.bac6_text.specs.Rules as figures
-use Rattle.bac6_text.specs.Rules.{Placed, placed, short, normalsFault, placedFault, bonesFault, firstBad, entriesFine, verticesFault, figureFault}
+use Rattle.bac6_text.specs.Rules.{Placed, placed, short, normalsFault, placedFault, bonesFault, entriesFine, verticesFault, figureFault}
+use Rattle.refusal.specs.FirstBad.{firstBad}
 use Rattle.tra4_text.specs.Movement as tra4
 use Rattle.tra4_text.specs.Movement.{frameOf}
 use Rattle.tra4_text.specs.Rules.{totalFault, framesFault, keyFine, keysFault, patternsFault, movementFault}

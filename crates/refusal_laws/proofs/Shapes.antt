@@ -4,10 +4,10 @@ use Prim.Native.Nat.{ℕ, zero, suc}
 use Prim.Native.String.{String}
 use lib.IntN.{ℤ}
 use lib.ListN.{length}
-use Rattle.lexer.specs.Bytes.{bytes}
-use Rattle.lexer.specs.Numbers.{Form, INT, FLOAT}
-use Rattle.chunks.specs.Readers.{Reader, _>>=_, pure, closed, number, numbers, optional, many, row, starts}
-use Rattle.chunks.specs.Fields.{kind}
+use Rattle.text_bytes.specs.Bytes.{bytes}
+use Rattle.text_numbers.specs.Numbers.{Form, INT, FLOAT}
+use Rattle.parse_cursor.specs.Readers.{Reader, _>>=_, pure, closed, number, numbers, optional, many, row, starts}
+use Rattle.parse_cursor.specs.Fields.{kind}
 use Rattle.bac6_text.specs.Grammar as bac6
 use Rattle.bac6_text.specs.Grammar.{word, blend, material, materialKinds, flag, several, boneKinds, faceOf, faceBy, face, group, figure}
 use Rattle.tra4_text.specs.Grammar as tra4

@@ -6,10 +6,11 @@ use Prim.Native.Nat.{ℕ, zero, suc, _+_, _≤_}
 use native.Mathlib.Omega.{arith}
 use lib.Dec.{leb, ltb, eqb}
 use lib.ListN.{length}
-use Rattle.lexer.specs.Bytes.{Class, blank, opener, closer, quote, semicolon, letter, other, classOf, isLetter, isContent, inLine, inString, run}
-use Rattle.lexer.specs.Every.{Every}
-use Rattle.lexer.specs.Faults.{Fault, clear, fault, Within, outside, comment, string, faultIn, Format, marked, textFault}
-use Rattle.lexer.specs.Tokens.{Lexeme, lexeme, tokens, lex}
+use Rattle.text_bytes.specs.Bytes.{Class, blank, opener, closer, quote, semicolon, letter, other, classOf, isLetter, isContent, inLine, inString, run}
+use Rattle.text_bytes.specs.Every.{Every}
+use Rattle.text_check.specs.Faults.{Within, outside, comment, string, faultIn, Format, marked, textFault}
+use Rattle.refusal.specs.Faults.{Fault, clear, fault}
+use Rattle.text_tokens.specs.Tokens.{Lexeme, lexeme, tokens, lex}
 use Rattle.refusal_laws.specs.Numbers.{isAmong}
 
 -- the numbers of a text's bytes, words and shape

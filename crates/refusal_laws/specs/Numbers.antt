@@ -5,7 +5,7 @@ use mathlib.Core.Bool.{Bool, true, false, _||_}
 use Prim.Native.Nat.{ℕ, zero, suc, _≤_}
 use lib.Dec.{eqb}
 use lib.ListN.{length}
-use Rattle.chunks.specs.Outcomes.{Outcome, accepted}
+use Rattle.refusal.specs.Outcomes.{Outcome, accepted}
 use Rattle.pair_text.specs.Answer.{Loaded, loaded}
 
 unfoldable pub isAmong : ℕ → List ℕ → Bool

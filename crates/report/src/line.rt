@@ -14,7 +14,7 @@ pub fn append_number(buf: &mut [u8], n: usize, z: i64) -> usize
     ensures { λ r. ⌜ output r (now (buf .exit)) ≡ appended (output n (now (buf .entry))) (numeral z) ⌝ }
 {
     let mut digits = [0u8; 20];
-    let k = io::decimal(lexer::magnitude(z), &mut digits);
+    let k = io::decimal(text_numbers::magnitude(z), &mut digits);
     if z < 0 {
         if !has_room(buf.len(), n, k + 1) {
             return n;
@@ -30,7 +30,7 @@ fn width(z: i64) -> usize
     ensures { λ r. ⌜ r ≡ length (numeral z) ⌝ }
 {
     let mut k = if z < 0 { 2 } else { 1 };
-    let mut rest = lexer::magnitude(z);
+    let mut rest = text_numbers::magnitude(z);
     while 10 <= rest {
         rest /= 10;
         k += 1;

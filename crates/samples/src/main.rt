@@ -49,6 +49,6 @@ fn main() {
         keys: answer.keys,
         patterns: answer.patterns,
     };
-    let total = lexer::magnitude(table[0]) as usize;
+    let total = text_numbers::magnitude(table[0]) as usize;
     tell_bones(&table, n, total);
 }

@@ -8,11 +8,13 @@ use borrow.Author.Tests.{lt-ltb, eqb-true}
 use lib.Dec.{eqb}
 use lib.IntN.{ℤ}
 use lib.ListN.{length, length-map}
-use Rattle.lexer.specs.Faults.{Fault, Format, bac, tra}
-use Rattle.lexer.proofs.Scanning.{fault-not-clear}
-use Rattle.chunks.specs.Readers.{Reader}
-use Rattle.chunks.specs.Outcomes.{rejected, accepted, outcome, fitted}
-use Rattle.chunks.proofs.Outcomes.{text-clear, all-taken, fitted-room, accepted-clear, laid-rejected}
+use Rattle.text_check.specs.Faults.{Format, bac, tra}
+use Rattle.refusal.specs.Faults.{Fault}
+use Rattle.refusal.proofs.Faults.{fault-not-clear}
+use Rattle.parse_cursor.specs.Readers.{Reader}
+use Rattle.refusal.specs.Outcomes.{rejected, accepted, fitted}
+use Rattle.parse_text.specs.Texts.{outcome}
+use Rattle.parse_text.proofs.Outcomes.{text-clear, all-taken, fitted-room, accepted-clear, laid-rejected}
 use Rattle.bac6_text.specs.Figure.{Figure}
 use Rattle.bac6_text.specs.Grammar.{figure}
 use Rattle.bac6_text.specs.Rules.{facesOf, figureFault}

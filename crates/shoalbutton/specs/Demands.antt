@@ -7,10 +7,11 @@ use mathlib.Core.Option.{some}
 use Prim.Native.Nat.{ℕ, suc, _≤_, _<_}
 use lib.IntN.{ℤ}
 use lib.ListN.{length, getD, drop}
-use Rattle.lexer.specs.Faults.{Fault, clear, Format, bac, tra, textFault}
-use Rattle.lexer.specs.Tokens.{Lexeme, lex}
-use Rattle.chunks.specs.Readers.{got, Reader}
-use Rattle.chunks.specs.Outcomes.{rejected, accepted}
+use Rattle.text_check.specs.Faults.{Format, bac, tra, textFault}
+use Rattle.refusal.specs.Faults.{Fault, clear}
+use Rattle.text_tokens.specs.Tokens.{Lexeme, lex}
+use Rattle.parse_cursor.specs.Readers.{got, Reader}
+use Rattle.refusal.specs.Outcomes.{rejected, accepted}
 use Rattle.bac6_text.specs.Figure.{Figure}
 use Rattle.bac6_text.specs.Grammar.{figure}
 use Rattle.bac6_text.specs.Rules.{facesOf, figureFault}

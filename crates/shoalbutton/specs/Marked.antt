@@ -3,9 +3,9 @@ use mathlib.Core.List.{List, [], _∷_}
 use Prim.Native.Nat.{ℕ}
 use Prim.Native.String.{String}
 use lib.IntN.{ℤ, pos, negsuc}
-use Rattle.lexer.specs.Bytes.{bytes}
-use Rattle.lexer.specs.Numbers.{Number, value, beyond, wrong, Form, INT, FLOAT, numberOf, refusalOf}
-use Rattle.lexer.specs.Faults.{Fault, clear, fault}
+use Rattle.text_bytes.specs.Bytes.{bytes}
+use Rattle.text_numbers.specs.Numbers.{Number, value, beyond, wrong, Form, INT, FLOAT, numberOf, refusalOf}
+use Rattle.refusal.specs.Faults.{Fault, clear, fault}
 use Rattle.bac6_text.specs.Rules.{Flags, bonesFault, wholeList, parentsIn}
 use Rattle.tra4_text.specs.Movement.{Channel}
 use Rattle.player.specs.Fractions.{Fraction}

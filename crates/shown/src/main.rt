@@ -45,7 +45,7 @@ fn tell_pair(figure: &[u8], movement: &[u8]) {
         tell_refusal(answer.refusal, answer.place, answer.file);
         return;
     }
-    let total = lexer::magnitude(moves[0]) as usize;
+    let total = text_numbers::magnitude(moves[0]) as usize;
     let n = answer.figure;
     let m = answer.movement;
     tell_faces(&table, n, &moves, m, total);
@@ -55,8 +55,8 @@ fn tell_text(text: &[u8], more: usize) {
     match pair_input::divide(text, more) {
         Division::Refused(number) => tell_refusal(number, 0, 0),
         Division::Figure(end) => tell_pair(
-            lexer::part(text, 9, end),
-            lexer::part(text, end, text.len()),
+            text_bytes::part(text, 9, end),
+            text_bytes::part(text, end, text.len()),
         ),
     }
 }

@@ -9,16 +9,16 @@ use borrow.Author.Tests.{le-leb, lt-leb, leb-true, leb-false}
 use lib.Dec.{leb}
 use lib.IntN.{ℤ}
 use lib.ListN.{length, length-append}
-use Rattle.chunks.specs.Into.{flat}
-use Rattle.chunks.specs.Cursors.{overlayAt}
-use Rattle.chunks.specs.Folds.{fold}
-use Rattle.chunks.proofs.Given.{Every}
-use Rattle.chunks.proofs.Tables.{overlayAt-none, overlayAt-append}
+use Rattle.table_rows.specs.Flat.{flat}
+use Rattle.table_rows.specs.Overlay.{overlayAt}
+use Rattle.parse_rows.specs.Folds.{fold}
+use Rattle.parse_cursor.proofs.Given.{Every}
+use Rattle.table_rows.proofs.Tables.{overlayAt-none, overlayAt-append}
 use Rattle.tra4_text.specs.Movement.{Bone}
 use Rattle.tra4_text.specs.Rules.{allKeys, channelsOf}
 use Rattle.tra4_text.specs.Layout.{boneRow, boneRows}
 use Rattle.tra4_bones.specs.Into.{Kept, keyCount, boneKept, boneStep}
-use Rattle.chunks.proofs.Widths.{Wide, flat-append, flat-length}
+use Rattle.parse_rows.proofs.Widths.{Wide, flat-append, flat-length}
 use Rattle.tra4_text.proofs.Whole.{WholeBone}
 use Rattle.tra4_text.proofs.Layouts.{keys-append, keys-wide, row-length}
 

@@ -9,18 +9,20 @@ use borrow.Author.Tests.{leb-true, leb-false}
 use lib.Dec.{leb}
 use lib.IntN.{ℤ, pos}
 use lib.ListN.{length, take}
-use Rattle.lexer.specs.Faults.{clear, fault}
-use Rattle.lexer.specs.Tokens.{lex}
-use Rattle.chunks.specs.Places.{placeOf}
-use Rattle.chunks.specs.Into.{flat}
-use Rattle.chunks.specs.Cursors.{reads, overlayAt}
-use Rattle.chunks.specs.Folds.{fold}
-use Rattle.chunks.specs.Rules.{tooMany}
-use Rattle.chunks.specs.Outcomes.{rejected, accepted, shaped, fitted, laid}
-use Rattle.chunks.proofs.Rules.{or-first, count-clear}
-use Rattle.chunks.proofs.Given.{Every}
-use Rattle.chunks.proofs.Widths.{Wide, held, part-is, room-is}
-use Rattle.chunks.proofs.Outcomes.{shape-rejected, rule-rejected, all-taken}
+use Rattle.refusal.specs.Faults.{clear, fault}
+use Rattle.text_tokens.specs.Tokens.{lex}
+use Rattle.parse_cursor.specs.Places.{placeOf}
+use Rattle.table_rows.specs.Flat.{flat}
+use Rattle.parse_cursor.specs.Cursors.{reads}
+use Rattle.table_rows.specs.Overlay.{overlayAt}
+use Rattle.parse_rows.specs.Folds.{fold}
+use Rattle.refusal.specs.Rules.{tooMany}
+use Rattle.refusal.specs.Outcomes.{rejected, accepted, fitted, laid}
+use Rattle.parse_text.specs.Texts.{shaped}
+use Rattle.refusal.proofs.Rules.{or-first, count-clear}
+use Rattle.parse_cursor.proofs.Given.{Every}
+use Rattle.parse_rows.proofs.Widths.{Wide, held, part-is, room-is}
+use Rattle.parse_text.proofs.Outcomes.{shape-rejected, rule-rejected, all-taken}
 use Rattle.tra4_text.specs.Movement.{Bone, Movement}
 use Rattle.tra4_text.specs.Grammar.{movement}
 use Rattle.tra4_text.specs.Rules.{allKeys, channelsOf, keyRows, countsOf, mosts, movementFault}

@@ -5,18 +5,19 @@ use mathlib.Core.Option.{some}
 use Prim.Native.Nat.{ℕ}
 use lib.IntN.{ℤ}
 use lib.ListN.{length}
-use Rattle.lexer.specs.Numbers.{INT}
-use Rattle.lexer.specs.Tokens.{Lexeme, lex, lexAt}
-use Rattle.chunks.specs.declared.cursor.Cursor.{Cursor}
-use Rattle.chunks.specs.Readers.{Name, absent, Got, got, refused, Reader, after, _>>=_, _>>_, pure, head, opened, closed, string, number, optional, trailing, many, close-bracket, text-end}
-use Rattle.chunks.specs.Places.{placeOf, optionalName}
-use Rattle.chunks.specs.Cursors.{reads, from, overlayAt}
-use Rattle.chunks.specs.Into.{flat}
-use Rattle.chunks.specs.Folds.{fold}
-use Rattle.chunks.proofs.Steps.{from-on, from-off}
-use Rattle.chunks.proofs.Many.{not-got, got-value}
-use Rattle.chunks.proofs.Given.{before}
-use Rattle.chunks.proofs.Sequences.{into-then, into-bind, into-end}
+use Rattle.text_numbers.specs.Numbers.{INT}
+use Rattle.text_tokens.specs.Tokens.{Lexeme, lex, lexAt}
+use Rattle.parse_cursor.specs.declared.cursor.Cursor.{Cursor}
+use Rattle.parse_cursor.specs.Readers.{Name, absent, Got, got, refused, Reader, after, _>>=_, _>>_, pure, head, opened, closed, string, number, optional, trailing, many, close-bracket, text-end}
+use Rattle.parse_cursor.specs.Places.{placeOf, optionalName}
+use Rattle.parse_cursor.specs.Cursors.{reads, from}
+use Rattle.table_rows.specs.Overlay.{overlayAt}
+use Rattle.table_rows.specs.Flat.{flat}
+use Rattle.parse_rows.specs.Folds.{fold}
+use Rattle.parse_cursor.proofs.Steps.{from-on, from-off}
+use Rattle.parse_cursor.proofs.Many.{not-got, got-value}
+use Rattle.parse_cursor.proofs.Given.{before}
+use Rattle.parse_cursor.proofs.Sequences.{into-then, into-bind, into-end}
 use Rattle.tra4_text.specs.Movement.{Bone, Pattern, Movement}
 use Rattle.tra4_text.specs.Grammar.{bone, pattern, repeated⁺, movement}
 use Rattle.tra4_bones.specs.Into.{Kept, boneStep, bonesInto}

@@ -10,10 +10,10 @@ use lib.Dec.{leb}
 use lib.IntN.{ℤ, pos}
 use native.Mathlib.Omega.{arith}
 use lib.ListN.{length, take, length-take}
-use Rattle.lexer.proofs.Signed.{bits-pos}
-use Rattle.chunks.specs.Cursors.{overlayAt}
-use Rattle.chunks.specs.Outcomes.{Outcome, rejected, accepted, fitted, laid}
-use Rattle.chunks.proofs.Outcomes.{fitted-room, fitted-short, fitted-rejected, laid-rejected, laid-accepted}
+use Rattle.text_numbers.proofs.Signed.{bits-pos}
+use Rattle.table_rows.specs.Overlay.{overlayAt}
+use Rattle.refusal.specs.Outcomes.{Outcome, rejected, accepted, fitted, laid}
+use Rattle.parse_text.proofs.Outcomes.{fitted-room, fitted-short, fitted-rejected, laid-rejected, laid-accepted}
 use Rattle.tra4_text.specs.Movement.{Movement}
 use Rattle.tra4_text.specs.Layout.{layoutOf}
 use Rattle.tra4_parse.specs.declared.shape.Parsed.{Parsed}

@@ -6,9 +6,9 @@ use Prim.Native.Nat.{ℕ, _+_, _*_, _≤_}
 use lib.Dec.{leb}
 use lib.IntN.{ℤ, pos}
 use lib.ListN.{length, take}
-use Rattle.lexer.specs.Faults.{Fault, clear, fault}
-use Rattle.chunks.specs.Cursors.{overlayAt}
-use Rattle.chunks.specs.Outcomes.{Outcome, rejected, accepted}
+use Rattle.refusal.specs.Faults.{Fault, clear, fault}
+use Rattle.table_rows.specs.Overlay.{overlayAt}
+use Rattle.refusal.specs.Outcomes.{Outcome, rejected, accepted}
 use Rattle.tra4_text.specs.Movement.{Movement}
 use Rattle.tra4_text.specs.Rules.{keyRows}
 use Rattle.tra4_text.specs.Layout.{layoutOf}

@@ -3,10 +3,10 @@ use mathlib.Core.List.{List}
 use mathlib.Core.Option.{some}
 use lib.IntN.{ℤ}
 use lib.ListN.{length}
-use Rattle.chunks.specs.Places.{placeOf}
-use Rattle.chunks.specs.Into.{flat}
-use Rattle.chunks.specs.Cursors.{overlayAt}
-use Rattle.chunks.specs.Folds.{fold}
+use Rattle.parse_cursor.specs.Places.{placeOf}
+use Rattle.table_rows.specs.Flat.{flat}
+use Rattle.table_rows.specs.Overlay.{overlayAt}
+use Rattle.parse_rows.specs.Folds.{fold}
 use Rattle.tra4_text.specs.Movement.{Movement}
 use Rattle.tra4_bones.specs.Into.{boneStep}
 use Rattle.tra4_parse.specs.Parse.{MovementValue, movementValue}

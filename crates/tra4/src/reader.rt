@@ -2,8 +2,9 @@
 ghost use mathlib.Core.Path.{_≡_};
 ghost use Prim.Native.Nat.{_≤_};
 ghost use lib.ListN.{length};
-ghost use Rattle.lexer.specs.Tokens.{lex};
-ghost use Rattle.chunks.specs.Outcomes.{shaped, fitted, laid};
+ghost use Rattle.text_tokens.specs.Tokens.{lex};
+ghost use Rattle.refusal.specs.Outcomes.{fitted, laid};
+ghost use Rattle.parse_text.specs.Texts.{shaped};
 ghost use Rattle.tra4_text.specs.Grammar.{movement};
 ghost use Rattle.tra4_text.specs.Rules.{movementFault};
 ghost use Rattle.tra4_text.specs.Layout.{layoutOf};
@@ -12,8 +13,8 @@ ghost use Rattle.tra4.specs.Answers.{Blank, answerOf, keyCount};
 use crate::setting::MovementAnswer;
 use crate::setting::refused;
 use crate::setting::set_down;
-use lexer::Checked;
-use lexer::Format;
+use refusal::Checked;
+use text_check::Format;
 use tra4_parse::parse;
 
 // The answer is document 01's, and the table holds the layout from its start on; or, where refused, what it held.
@@ -21,7 +22,7 @@ pub fn read(text: &[u8], table: &mut [i64]) -> MovementAnswer
     ensures answer { λ r. ⌜ r ≡ answerOf (movementAnswer (now (text .entry)) (length (now (table .entry)))) ⌝ }
     ensures content { λ r. ⌜ now (table .exit) ≡ movementTable (now (text .entry)) (now (table .entry)) ⌝ }
 {
-    match lexer::check_text(text, Format::Tra) {
+    match text_check::check_text(text, Format::Tra) {
         Checked::Refused { number, offset } => refused(number as usize, offset),
         Checked::Clear => read_shape(text, table),
     }

@@ -2,7 +2,7 @@
 ghost use mathlib.Core.Path.{_≡_};
 ghost use lib.ListN.{length};
 ghost use Rattle.tra4.specs.Answers.{Fits, refusedWith, downAnswer, downTable, partsOf};
-use chunks::put;
+use table_rows::put;
 use tra4_parse::Parsed;
 
 // A refusal's number, place and file; or the total and how many rows each list has. All else is 0.

@@ -7,11 +7,11 @@ use Prim.Native.String.{String}
 use native.Mathlib.Omega.{arith}
 use lib.IntN.{ℤ}
 use lib.ListN.{length, getD, set, length-append}
-use Rattle.chunks.specs.Readers.{many⁺}
-use Rattle.chunks.specs.Fields.{kind, insideAt}
-use Rattle.chunks.specs.Into.{flat}
-use Rattle.chunks.proofs.Given.{GivesOn, AnyToken, gives-as}
-use Rattle.chunks.proofs.Widths.{Wide, flat-length}
+use Rattle.parse_cursor.specs.Readers.{many⁺}
+use Rattle.parse_cursor.specs.Fields.{kind, insideAt}
+use Rattle.table_rows.specs.Flat.{flat}
+use Rattle.parse_cursor.proofs.Given.{GivesOn, AnyToken, gives-as}
+use Rattle.parse_rows.proofs.Widths.{Wide, flat-length}
 use Rattle.tra4_text.specs.Movement.{Channel}
 use Rattle.tra4_text.specs.Grammar.{key, channel, channelNames, channelKinds, keysIn}
 use Rattle.tra4_text.specs.Rules.{allKeys}

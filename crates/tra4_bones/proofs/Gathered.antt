@@ -7,8 +7,8 @@ use Prim.Native.Nat.{ℕ, suc, _+_, _*_, _≤_, _<_}
 use native.Mathlib.Omega.{arith}
 use lib.IntN.{ℤ, pos}
 use lib.ListN.{length, getD, length-append}
-use Rattle.chunks.specs.Into.{flat}
-use Rattle.chunks.proofs.Widths.{flat-append}
+use Rattle.table_rows.specs.Flat.{flat}
+use Rattle.parse_rows.proofs.Widths.{flat-append}
 use Rattle.tra4_text.specs.Movement.{Key, Channel}
 use Rattle.tra4_text.specs.Grammar.{keysIn}
 use Rattle.tra4_text.specs.Rules.{allKeys}

@@ -10,11 +10,11 @@ use lib.Dec.{eqb}
 use lib.IntN.{ℤ, pos}
 use lib.ListN.{length, getD, set, take, drop, length-set}
 use lib.Seq.{getD-set-same, getD-set-other}
-use Rattle.chunks.specs.Fields.{isSome}
-use Rattle.chunks.specs.Cursors.{overlayAt}
-use Rattle.chunks.specs.Into.{flat}
-use Rattle.chunks.proofs.FieldFlags.{flags-set}
-use Rattle.chunks.proofs.Tables.{overlayAt-length, overlayAt-part, overlayAt-below}
+use Rattle.parse_cursor.specs.Fields.{isSome}
+use Rattle.table_rows.specs.Overlay.{overlayAt}
+use Rattle.table_rows.specs.Flat.{flat}
+use Rattle.parse_cursor.proofs.FieldFlags.{flags-set}
+use Rattle.table_rows.proofs.Tables.{overlayAt-length, overlayAt-part, overlayAt-below}
 use Rattle.tra4_text.specs.Movement.{Channel}
 use Rattle.tra4_bones.specs.Held.{keysRead, Stored, Held}
 use Rattle.tra4_bones.proofs.Counts.{Pairs, flat-pairs, keys-set}

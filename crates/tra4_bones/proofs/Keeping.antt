@@ -8,16 +8,17 @@ use native.Mathlib.Omega.{arith}
 use borrow.Author.Tests.{le-leb, lt-leb}
 use lib.IntN.{ℤ, pos}
 use lib.ListN.{length}
-use Rattle.lexer.specs.Tokens.{Lexeme, lexAt}
-use Rattle.chunks.specs.declared.cursor.Cursor.{Cursor}
-use Rattle.chunks.specs.Readers.{Got, got, Reader, after, _>>=_, pure, absent, closed, string, optional}
-use Rattle.chunks.specs.Places.{placeOf, optionalName}
-use Rattle.chunks.specs.Fields.{fields}
-use Rattle.chunks.specs.Cursors.{from, reads, overlayAt}
-use Rattle.chunks.specs.Into.{flat}
-use Rattle.chunks.proofs.Steps.{join, from-on, from-same, passed}
-use Rattle.chunks.proofs.Binds.{after-after, after-same}
-use Rattle.chunks.proofs.Tables.{overlayAt-append, overlayAt-same}
+use Rattle.text_tokens.specs.Tokens.{Lexeme, lexAt}
+use Rattle.parse_cursor.specs.declared.cursor.Cursor.{Cursor}
+use Rattle.parse_cursor.specs.Readers.{Got, got, Reader, after, _>>=_, pure, absent, closed, string, optional}
+use Rattle.parse_cursor.specs.Places.{placeOf, optionalName}
+use Rattle.parse_cursor.specs.Fields.{fields}
+use Rattle.parse_cursor.specs.Cursors.{from, reads}
+use Rattle.table_rows.specs.Overlay.{overlayAt}
+use Rattle.table_rows.specs.Flat.{flat}
+use Rattle.parse_cursor.proofs.Steps.{join, from-on, from-same, passed}
+use Rattle.parse_cursor.proofs.Binds.{after-after, after-same}
+use Rattle.table_rows.proofs.Tables.{overlayAt-append, overlayAt-same}
 use Rattle.tra4_text.specs.Movement.{Channel, Bone}
 use Rattle.tra4_text.specs.Grammar.{channelKinds, keysIn, bone}
 use Rattle.tra4_text.specs.Rules.{allKeys}

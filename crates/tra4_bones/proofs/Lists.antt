@@ -8,19 +8,19 @@ use mathlib.Core.Option.{none, some}
 use lib.Dec.{leb}
 use lib.IntN.{ℤ}
 use lib.ListN.{length}
-use Rattle.lexer.specs.Bytes.{bytes}
-use Rattle.lexer.specs.Numbers.{FLOAT}
-use Rattle.lexer.specs.Tokens.{Lexeme, lexAt}
-use Rattle.chunks.specs.declared.cursor.Cursor.{Cursor}
-use Rattle.chunks.specs.Readers.{Got, got, Reader, after, _>>=_, _>>_, pure, opened, openedOf, many⁺, rowOf, absent, closed, string, optional}
-use Rattle.chunks.specs.Cursors.{from, reads}
-use Rattle.chunks.specs.Folds.{fold, stepped}
-use Rattle.chunks.specs.Fields.{kind, fields}
-use Rattle.chunks.proofs.Steps.{join, seq, from-same}
-use Rattle.chunks.proofs.Binds.{after-after, after-same, then-bind}
-use Rattle.chunks.proofs.Tables.{overlayAt-same}
-use Rattle.chunks.proofs.Many.{Keeps, takes-keeps, pure-keeps, bind-keeps, closed-keeps, string-takes, optional-keeps, many⁺-takes, row-of-takes}
-use Rattle.chunks.proofs.FieldKeeps.{AllKeep, fields-keeps}
+use Rattle.text_bytes.specs.Bytes.{bytes}
+use Rattle.text_numbers.specs.Numbers.{FLOAT}
+use Rattle.text_tokens.specs.Tokens.{Lexeme, lexAt}
+use Rattle.parse_cursor.specs.declared.cursor.Cursor.{Cursor}
+use Rattle.parse_cursor.specs.Readers.{Got, got, Reader, after, _>>=_, _>>_, pure, opened, openedOf, many⁺, rowOf, absent, closed, string, optional}
+use Rattle.parse_cursor.specs.Cursors.{from, reads}
+use Rattle.parse_rows.specs.Folds.{fold, stepped}
+use Rattle.parse_cursor.specs.Fields.{kind, fields}
+use Rattle.parse_cursor.proofs.Steps.{join, seq, from-same}
+use Rattle.parse_cursor.proofs.Binds.{after-after, after-same, then-bind}
+use Rattle.table_rows.proofs.Tables.{overlayAt-same}
+use Rattle.parse_cursor.proofs.Many.{Keeps, takes-keeps, pure-keeps, bind-keeps, closed-keeps, string-takes, optional-keeps, many⁺-takes, row-of-takes}
+use Rattle.parse_cursor.proofs.FieldKeeps.{AllKeep, fields-keeps}
 use Rattle.tra4_text.specs.Movement.{Bone}
 use Rattle.tra4_text.specs.Grammar.{key, channel, channelNames, channelKinds, keysIn, bone, repeated, repeated⁺}
 use Rattle.tra4_text.specs.Layout.{boneRow}

@@ -11,8 +11,8 @@ use lib.Seq.{drop-cons, take-suc, take-all, take-suc-set, drop-set-lt, getD-set-
 use mir.Syntax.{w64}
 use mir.Val.{Fits, SFits, toZ, ofZ}
 use mir.Facts.{toZ-ofZ, fits-natAbs}
-use Rattle.chunks.specs.Cursors.{overlayAt}
-use Rattle.chunks.proofs.Tables.{overlayAt-none, overlayAt-append, overlayAt-length}
+use Rattle.table_rows.specs.Overlay.{overlayAt}
+use Rattle.table_rows.proofs.Tables.{overlayAt-none, overlayAt-append, overlayAt-length}
 use Rattle.tra4_bones.specs.Laying.{magnitude, rangeRows, gathered, rangesTotal, renumbered, RangeIn, Within}
 
 -- the magnitude of a natural number is what a cast gives

@@ -7,21 +7,23 @@ use Prim.Native.Nat.{ℕ, suc, _+_, _*_, _-_, _≤_, _<_}
 use native.Mathlib.Omega.{arith}
 use lib.IntN.{ℤ, pos}
 use lib.ListN.{length, getD, set}
-use Rattle.lexer.specs.Bytes.{bytes, same, inWord}
-use Rattle.lexer.specs.Numbers.{FLOAT}
-use Rattle.lexer.specs.Tokens.{lexAt}
-use Rattle.lexer.specs.declared.token.Span.{Span}
-use Rattle.lexer.specs.Answers.{Next, lexemeOf}
-use Rattle.chunks.specs.declared.cursor.Cursor.{Cursor}
-use Rattle.chunks.specs.Readers.{Got, _>>=_, pure, many⁺, rowOf}
-use Rattle.chunks.specs.Cursors.{reads, from, overlayAt}
-use Rattle.chunks.specs.Fields.{kind, isSome, kindFrom, insideAt}
-use Rattle.chunks.specs.Into.{flat, someInto}
-use Rattle.chunks.specs.Words.{words, onto, keysOf, apart, differs, indexIn}
-use Rattle.chunks.proofs.Steps.{from-on}
-use Rattle.chunks.proofs.Behind.{Behind, behind, given}
-use Rattle.chunks.proofs.FieldFlags.{flags-length, flag-unread, flag-read}
-use Rattle.chunks.proofs.Vocabulary.{chunk-other, chunk-again, chunk-took}
+use Rattle.text_bytes.specs.Bytes.{bytes, same, inWord}
+use Rattle.text_numbers.specs.Numbers.{FLOAT}
+use Rattle.text_tokens.specs.Tokens.{lexAt}
+use Rattle.text_tokens.specs.declared.token.Span.{Span}
+use Rattle.text_tokens.specs.Answers.{Next, lexemeOf}
+use Rattle.parse_cursor.specs.declared.cursor.Cursor.{Cursor}
+use Rattle.parse_cursor.specs.Readers.{Got, _>>=_, pure, many⁺, rowOf}
+use Rattle.parse_cursor.specs.Cursors.{reads, from}
+use Rattle.table_rows.specs.Overlay.{overlayAt}
+use Rattle.parse_cursor.specs.Fields.{kind, isSome, kindFrom, insideAt}
+use Rattle.parse_rows.specs.Into.{someInto}
+use Rattle.table_rows.specs.Flat.{flat}
+use Rattle.parse_words.specs.Words.{words, onto, keysOf, apart, differs, indexIn}
+use Rattle.parse_cursor.proofs.Steps.{from-on}
+use Rattle.parse_cursor.proofs.Behind.{Behind, behind, given}
+use Rattle.parse_cursor.proofs.FieldFlags.{flags-length, flag-unread, flag-read}
+use Rattle.parse_words.proofs.Vocabulary.{chunk-other, chunk-again, chunk-took}
 use Rattle.tra4_text.specs.Movement.{Channel}
 use Rattle.tra4_text.specs.Grammar.{key, channel, channelNames, channelKinds}
 use Rattle.tra4_bones.specs.Held.{Held, Reached, KeysRead, ChunkRead}

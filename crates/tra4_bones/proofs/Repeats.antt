@@ -6,18 +6,18 @@ use Prim.Native.Nat.{ℕ, suc, _≤_, _<_}
 use Prim.Native.String.{String}
 use native.Mathlib.Omega.{arith}
 use lib.ListN.{length}
-use Rattle.lexer.specs.Bytes.{bytes}
-use Rattle.lexer.specs.Tokens.{Lexeme, lexAt}
-use Rattle.chunks.specs.declared.cursor.Cursor.{Cursor}
-use Rattle.chunks.specs.Readers.{Got, got, Reader, after, _>>=_, _>>_, pure, tokenOf, rest, isOpening, starts}
-use Rattle.chunks.specs.Cursors.{from, reads}
-use Rattle.chunks.specs.Branches.{startOf}
-use Rattle.chunks.specs.Folds.{fold, stepped}
-use Rattle.chunks.proofs.Steps.{from-on, reads-on, from-same, from-bind, after-reads, passed}
-use Rattle.chunks.proofs.Binds.{after-after, after-same}
-use Rattle.chunks.proofs.Counts.{alive, short}
-use Rattle.chunks.proofs.Many.{Keeps, rest-short, got-rest, pure-keeps, bind-keeps}
-use Rattle.chunks.proofs.Branches.{pick, chosen-yes, chosen-no}
+use Rattle.text_bytes.specs.Bytes.{bytes}
+use Rattle.text_tokens.specs.Tokens.{Lexeme, lexAt}
+use Rattle.parse_cursor.specs.declared.cursor.Cursor.{Cursor}
+use Rattle.parse_cursor.specs.Readers.{Got, got, Reader, after, _>>=_, _>>_, pure, tokenOf, rest, isOpening, starts}
+use Rattle.parse_cursor.specs.Cursors.{from, reads}
+use Rattle.parse_cursor.specs.Branches.{startOf}
+use Rattle.parse_rows.specs.Folds.{fold, stepped}
+use Rattle.parse_cursor.proofs.Steps.{from-on, reads-on, from-same, from-bind, after-reads, passed}
+use Rattle.parse_cursor.proofs.Binds.{after-after, after-same}
+use Rattle.parse_cursor.proofs.Counts.{alive, short}
+use Rattle.parse_cursor.proofs.Many.{Keeps, rest-short, got-rest, pure-keeps, bind-keeps}
+use Rattle.parse_cursor.proofs.Branches.{pick, chosen-yes, chosen-no}
 use Rattle.tra4_text.specs.Grammar.{repeated}
 use Rattle.tra4_text.proofs.Repeated.{repeated-end, repeated-more}
 

@@ -7,16 +7,16 @@ use Prim.Native.Nat.{ℕ, zero, suc, _-_, _≤_}
 use native.Mathlib.Omega.{arith}
 use lib.IntN.{ℤ}
 use lib.ListN.{length, getD, replicate}
-use Rattle.lexer.specs.Tokens.{lexAt}
-use Rattle.lexer.specs.declared.token.Span.{Span}
-use Rattle.lexer.specs.Answers.{Next, lexemeOf}
-use Rattle.chunks.specs.declared.cursor.Cursor.{Cursor}
-use Rattle.chunks.specs.Readers.{isClosing, isOpening}
-use Rattle.chunks.specs.Cursors.{reads, from, closedAt}
-use Rattle.chunks.specs.Fields.{kind, isSome, kindFrom, fieldsIn, fields, unread, neededOf, coversAll}
-use Rattle.chunks.proofs.Steps.{passed, from-on}
-use Rattle.chunks.proofs.FieldFlags.{flags-length}
-use Rattle.chunks.proofs.FieldSteps.{complete-seen, turn-ended, turn-full, turn-other, turn-chunk}
+use Rattle.text_tokens.specs.Tokens.{lexAt}
+use Rattle.text_tokens.specs.declared.token.Span.{Span}
+use Rattle.text_tokens.specs.Answers.{Next, lexemeOf}
+use Rattle.parse_cursor.specs.declared.cursor.Cursor.{Cursor}
+use Rattle.parse_cursor.specs.Readers.{isClosing, isOpening}
+use Rattle.parse_cursor.specs.Cursors.{reads, from, closedAt}
+use Rattle.parse_cursor.specs.Fields.{kind, isSome, kindFrom, fieldsIn, fields, unread, neededOf, coversAll}
+use Rattle.parse_cursor.proofs.Steps.{passed, from-on}
+use Rattle.parse_cursor.proofs.FieldFlags.{flags-length}
+use Rattle.parse_cursor.proofs.FieldSteps.{complete-seen, turn-ended, turn-full, turn-other, turn-chunk}
 use Rattle.tra4_text.specs.Movement.{Channel}
 use Rattle.tra4_text.specs.Grammar.{channel, channelNames, channelKinds, keysIn}
 use Rattle.tra4_text.specs.Rules.{allKeys}

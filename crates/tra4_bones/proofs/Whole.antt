@@ -7,13 +7,13 @@ use Prim.Native.Nat.{ℕ, zero, suc, _<_}
 use Prim.Native.String.{String}
 use native.Mathlib.Omega.{arith}
 use lib.ListN.{length, getD}
-use Rattle.lexer.specs.Tokens.{Lexeme}
-use Rattle.chunks.specs.declared.cursor.Cursor.{Cursor}
-use Rattle.chunks.specs.Cursors.{reads}
-use Rattle.chunks.specs.Fields.{kind, isSome, complete, fields}
-use Rattle.chunks.proofs.Behind.{given}
-use Rattle.chunks.proofs.Given.{GivesOn, AnyToken, gives-as, Every}
-use Rattle.chunks.proofs.FieldFits.{AllGive, AllFit, Whole, fields-fit}
+use Rattle.text_tokens.specs.Tokens.{Lexeme}
+use Rattle.parse_cursor.specs.declared.cursor.Cursor.{Cursor}
+use Rattle.parse_cursor.specs.Cursors.{reads}
+use Rattle.parse_cursor.specs.Fields.{kind, isSome, complete, fields}
+use Rattle.parse_cursor.proofs.Behind.{given}
+use Rattle.parse_cursor.proofs.Given.{GivesOn, AnyToken, gives-as, Every}
+use Rattle.parse_cursor.proofs.FieldFits.{AllGive, AllFit, Whole, fields-fit}
 use Rattle.tra4_text.specs.Movement.{Channel}
 use Rattle.tra4_text.specs.Grammar.{channel, channelNames, channelKinds, keysIn}
 use Rattle.tra4_text.specs.Rules.{allKeys}

@@ -6,12 +6,12 @@ use mathlib.Core.Option.{Option, none, some}
 use Prim.Native.Nat.{ℕ, _+_, _*_, _≤_, _<_}
 use lib.IntN.{ℤ, pos}
 use lib.ListN.{length, getD, set, take, drop}
-use Rattle.lexer.specs.Tokens.{lexAt}
-use Rattle.chunks.specs.declared.cursor.Cursor.{Cursor}
-use Rattle.chunks.specs.Readers.{Got}
-use Rattle.chunks.specs.Cursors.{reads}
-use Rattle.chunks.specs.Fields.{isSome, kindFrom, insideAt}
-use Rattle.chunks.specs.Into.{flat}
+use Rattle.text_tokens.specs.Tokens.{lexAt}
+use Rattle.parse_cursor.specs.declared.cursor.Cursor.{Cursor}
+use Rattle.parse_cursor.specs.Readers.{Got}
+use Rattle.parse_cursor.specs.Cursors.{reads}
+use Rattle.parse_cursor.specs.Fields.{isSome, kindFrom, insideAt}
+use Rattle.table_rows.specs.Flat.{flat}
 use Rattle.tra4_text.specs.Movement.{Channel}
 use Rattle.tra4_text.specs.Grammar.{channelKinds, keysIn}
 use Rattle.tra4_text.specs.Rules.{allKeys}

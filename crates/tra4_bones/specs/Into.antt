@@ -6,10 +6,10 @@ use Prim.Native.Nat.{ℕ, _+_, _*_}
 use lib.Dec.{leb}
 use lib.IntN.{ℤ, pos}
 use lib.ListN.{length}
-use Rattle.chunks.specs.Readers.{Reader, _>>=_, pure}
-use Rattle.chunks.specs.Cursors.{overlayAt}
-use Rattle.chunks.specs.Into.{flat}
-use Rattle.chunks.specs.Folds.{fold}
+use Rattle.parse_cursor.specs.Readers.{Reader, _>>=_, pure}
+use Rattle.table_rows.specs.Overlay.{overlayAt}
+use Rattle.table_rows.specs.Flat.{flat}
+use Rattle.parse_rows.specs.Folds.{fold}
 use Rattle.tra4_text.specs.Movement.{Channel, Bone}
 use Rattle.tra4_text.specs.Grammar.{repeated, repeated⁺, bone}
 use Rattle.tra4_text.specs.Rules.{allKeys}

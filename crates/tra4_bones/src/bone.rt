@@ -5,14 +5,14 @@ ghost use mathlib.Core.List.{List, map};
 ghost use mathlib.Core.Option.{some};
 ghost use Prim.Native.Nat.{_^_, _<_, _≤_};
 ghost use lib.ListN.{length};
-ghost use Rattle.chunks.specs.Cursors.{reads, from};
+ghost use Rattle.parse_cursor.specs.Cursors.{reads, from};
 ghost use Rattle.tra4_text.specs.Movement.{Channel};
 ghost use Rattle.tra4_bones.specs.Held.{Held, AllHeld};
 ghost use Rattle.tra4_bones.specs.Into.{kept, keptBy, boneInto};
 use crate::channel::Keyed;
 use crate::channel::channels;
 use crate::laying::lay_keys;
-use chunks::Cursor;
+use parse_cursor::Cursor;
 
 // The channels that were read, set down: the bone's row to the bones from index `to` on, its keys after the `count` that stand in
 // their table; or there are too many, and nothing is set down.
@@ -45,8 +45,12 @@ fn set_bone(
         return over;
     }
     lay_keys(ranges, scratch, key_rows, count);
-    chunks::store(bone_rows, to, &[place as i64, size as i64]);
-    chunks::store(bone_rows, chunks::advance(to, 2, bone_rows.len()), ranges);
+    table_rows::store(bone_rows, to, &[place as i64, size as i64]);
+    table_rows::store(
+        bone_rows,
+        table_rows::advance(to, 2, bone_rows.len()),
+        ranges,
+    );
     Keyed {
         cursor: d,
         count: count + n,
@@ -69,7 +73,7 @@ pub(crate) fn bone_tail(
     ensures { λ r. ⌜ reads (now (text .entry)) (r .cursor) (kept (r .over) (now («bone_rows» .exit)) (r .count) (now («key_rows» .exit))) ≡ from (now (text .entry)) c (boneInto to (kept over (now («bone_rows» .entry)) count (now («key_rows» .entry)))) ⌝ }
     ensures { λ r. ⌜ r .count ≤ 4096 ⌝ }
 {
-    let n = chunks::optional_name(text, c);
+    let n = parse_names::optional_name(text, c);
     let d = n.cursor;
     if d.refusal != 0 {
         return Keyed {

@@ -3,12 +3,12 @@ ghost use mathlib.Core.Path.{_≡_};
 ghost use mathlib.Core.Bool.{false};
 ghost use Prim.Native.Nat.{_<_, _≤_};
 ghost use lib.ListN.{length, replicate};
-ghost use Rattle.lexer.specs.Tokens.{lexAt};
-ghost use Rattle.chunks.specs.Fields.{fields};
+ghost use Rattle.text_tokens.specs.Tokens.{lexAt};
+ghost use Rattle.parse_cursor.specs.Fields.{fields};
 ghost use Rattle.tra4_text.specs.Grammar.{channelKinds};
 ghost use Rattle.tra4_bones.specs.Held.{Held, Reached, KeysRead, ChunkRead};
-use chunks::Cursor;
-use chunks::Form;
+use parse_cursor::Cursor;
+use parse_numbers::Form;
 
 // A cursor past what was read; how many keys stand in the table, and whether there were more than fit.
 // Where the cursor has refused, the two and all tables are free; where there were too many, the table of keys and that of ranges are.
@@ -32,7 +32,7 @@ fn channel_keys(
     ensures { λ r. ⌜ KeysRead (now (text .entry)) at k (now (ranges .entry), now (keys .entry), count, over) (r .cursor) (now (ranges .exit), now (keys .exit), r .count, r .over) ⌝ }
 {
     let inside = Cursor { refusal: 0, at };
-    let read = chunks::some_rows(text, inside, b"kf", 1, Form::Float, 1, keys, count * 2);
+    let read = parse_rows::some_rows(text, inside, b"kf", 1, Form::Float, 1, keys, count * 2);
     let d = read.cursor;
     let n = read.count;
     if d.refusal != 0 {
@@ -81,7 +81,7 @@ fn channel_chunk(
     requires { ⌜ (length (now seen) ≡ 10) × (length (now ranges) ≡ 20) × (length (now keys) ≡ 8192) × (count ≤ 4096) ⌝ }
     ensures { λ r. ⌜ ChunkRead (now (text .entry)) at (now (seen .entry), now (ranges .entry), now (keys .entry), count, over) (r .cursor) (now (seen .exit), now (ranges .exit), now (keys .exit), r .count, r .over) ⌝ }
 {
-    let t = lexer::next(text, at);
+    let t = text_tokens::next(text, at);
     let refused = Keyed {
         cursor: Cursor {
             refusal: 5,
@@ -90,7 +90,7 @@ fn channel_chunk(
         count,
         over,
     };
-    let k = chunks::word_index(
+    let k = parse_words::word_index(
         text,
         t,
         b"translate.x translate.y translate.z scale.x scale.y scale.z rotate.x rotate.y rotate.z roll",
@@ -121,7 +121,7 @@ pub(crate) fn channels(
     let mut count: usize = 0;
     let mut over = false;
     loop {
-        let t = lexer::next(text, from);
+        let t = text_tokens::next(text, from);
         let kind = t.kind;
         let refused = Keyed {
             cursor: Cursor {
@@ -131,9 +131,9 @@ pub(crate) fn channels(
             count,
             over,
         };
-        if chunks::is_closing(kind) {
+        if parse_cursor::is_closing(kind) {
             return Keyed {
-                cursor: chunks::closed_at(
+                cursor: parse_words::closed_at(
                     t,
                     &[true, true, true, true, true, true, true, true, true, true],
                     seen,
@@ -145,7 +145,7 @@ pub(crate) fn channels(
         if left == 0 {
             return refused;
         }
-        if !chunks::is_opening(kind) {
+        if !parse_cursor::is_opening(kind) {
             return refused;
         }
         let m = channel_chunk(text, t.end, seen, ranges, keys, count, over);

@@ -3,9 +3,9 @@ ghost use mathlib.Core.Path.{_≡_};
 ghost use Prim.Native.Nat.{_+_, _*_, _≤_, _<_};
 ghost use lib.IntN.{pos};
 ghost use lib.ListN.{length, getD, set};
-ghost use Rattle.chunks.specs.Cursors.{overlayAt};
+ghost use Rattle.table_rows.specs.Overlay.{overlayAt};
 ghost use Rattle.tra4_bones.specs.Laying.{magnitude, rangeRows, gathered, rangesTotal, renumbered, RangeIn, Within};
-use chunks::store;
+use table_rows::store;
 
 // Copies the key rows of ten ranges (first row, count) to a table, one after the other from a row on; the ranges
 // then say where they lie there. Numbers past the table's end are dropped.

@@ -2,12 +2,12 @@
 ghost use mathlib.Core.Path.{_≡_};
 ghost use Prim.Native.Nat.{_+_, _*_, _^_, _<_, _≤_, min};
 ghost use lib.ListN.{length};
-ghost use Rattle.chunks.specs.Cursors.{reads, from};
-ghost use Rattle.chunks.specs.Folds.{stepped};
+ghost use Rattle.parse_cursor.specs.Cursors.{reads, from};
+ghost use Rattle.parse_rows.specs.Folds.{stepped};
 ghost use Rattle.tra4_text.specs.Grammar.{bone as boneRead};
 ghost use Rattle.tra4_bones.specs.Into.{kept, boneStep, moreInto, bonesInto};
 use crate::bone::bone_tail;
-use chunks::Cursor;
+use parse_cursor::Cursor;
 
 // How many bones were read, how many keys they have, whether those are more than 4,096, and a cursor past the bones; where there are
 // too many keys, how many is free, and where the cursor has refused, all but the cursor is.
@@ -61,7 +61,7 @@ fn more_bones(
     let mut over = first.over;
     let mut i = 22;
     loop {
-        let s = chunks::optional(text, d, b"bone");
+        let s = parse_names::optional(text, d, b"bone");
         let start = s.cursor;
         let so_far = Boned {
             cursor: start,
@@ -93,7 +93,7 @@ fn more_bones(
         count = b.count;
         keys = b.keys;
         over = b.over;
-        i = chunks::advance(i, 22, bone_rows.len());
+        i = table_rows::advance(i, 22, bone_rows.len());
     }
 }
 
@@ -103,7 +103,7 @@ pub fn bones(text: &[u8], c: Cursor, bone_rows: &mut [i64], key_rows: &mut [i64]
     ensures { λ r. ⌜ reads (now (text .entry)) (r .cursor) (r .count, kept (r .over) (now («bone_rows» .exit)) (r .keys) (now («key_rows» .exit))) ≡ from (now (text .entry)) c (bonesInto (now («bone_rows» .entry)) (now («key_rows» .entry))) ⌝ }
 {
     let mut scratch = [0i64; 8192];
-    let start = chunks::opened(text, c, b"bone");
+    let start = parse_cursor::opened(text, c, b"bone");
     let first = next_bone(
         text,
         start,

@@ -6,25 +6,27 @@ use Prim.Native.Nat.{ℕ, _+_, min}
 use native.Mathlib.Nat.{zero-add}
 use lib.IntN.{ℤ, pos}
 use lib.ListN.{length}
-use Rattle.lexer.specs.Bytes.{bytes, inWord}
-use Rattle.lexer.specs.Numbers.{INT}
-use Rattle.lexer.specs.Tokens.{Lexeme}
-use Rattle.chunks.specs.declared.cursor.Cursor.{Cursor}
-use Rattle.chunks.specs.Readers.{Got, got, Reader, after, _>>=_, _>>_, pure, open-bracket, close-bracket, wordOf, openedOf, opened, closed, numbers, trailing, many}
-use Rattle.chunks.specs.Words.{words, onto, wordIn}
-use Rattle.chunks.specs.Branches.{lastOf}
-use Rattle.chunks.specs.Cursors.{from, reads, overlayAt}
-use Rattle.chunks.specs.Into.{flat, numbersInto}
-use Rattle.chunks.specs.Folds.{fold, folded, rowStep}
-use Rattle.chunks.proofs.Steps.{join, seq, from-same}
-use Rattle.chunks.proofs.Binds.{after-after, after-same, after-when, then-assoc}
-use Rattle.chunks.proofs.Branches.{trailing-yes, trailing-no, trailing-map}
-use Rattle.chunks.proofs.Vocabulary.{wordList, one-word}
-use Rattle.chunks.proofs.Tables.{overlayAt-append, overlayAt-same}
-use Rattle.chunks.proofs.Folds.{fold-rows}
-use Rattle.chunks.proofs.Given.{Every, free, many-gives, trailing-gives}
-use Rattle.chunks.proofs.Ranges.{numbers-give}
-use Rattle.chunks.proofs.Many.{Keeps, Takes, takes-keeps, pure-keeps, bind-keeps, then-keeps, then-takes, word-takes, opened-takes, closed-keeps, numbers-keeps, one-of-takes}
+use Rattle.text_bytes.specs.Bytes.{bytes, inWord}
+use Rattle.text_numbers.specs.Numbers.{INT}
+use Rattle.text_tokens.specs.Tokens.{Lexeme}
+use Rattle.parse_cursor.specs.declared.cursor.Cursor.{Cursor}
+use Rattle.parse_cursor.specs.Readers.{Got, got, Reader, after, _>>=_, _>>_, pure, open-bracket, close-bracket, wordOf, openedOf, opened, closed, numbers, trailing, many}
+use Rattle.parse_words.specs.Words.{words, onto, wordIn}
+use Rattle.parse_cursor.specs.Branches.{lastOf}
+use Rattle.parse_cursor.specs.Cursors.{from, reads}
+use Rattle.table_rows.specs.Overlay.{overlayAt}
+use Rattle.parse_rows.specs.Into.{numbersInto}
+use Rattle.table_rows.specs.Flat.{flat}
+use Rattle.parse_rows.specs.Folds.{fold, folded, rowStep}
+use Rattle.parse_cursor.proofs.Steps.{join, seq, from-same}
+use Rattle.parse_cursor.proofs.Binds.{after-after, after-same, after-when, then-assoc}
+use Rattle.parse_cursor.proofs.Branches.{trailing-yes, trailing-no, trailing-map}
+use Rattle.parse_words.proofs.Vocabulary.{wordList, one-word}
+use Rattle.table_rows.proofs.Tables.{overlayAt-append, overlayAt-same}
+use Rattle.parse_rows.proofs.Folds.{fold-rows}
+use Rattle.parse_cursor.proofs.Given.{Every, free, many-gives, trailing-gives}
+use Rattle.parse_cursor.proofs.Ranges.{numbers-give}
+use Rattle.parse_cursor.proofs.Many.{Keeps, Takes, takes-keeps, pure-keeps, bind-keeps, then-keeps, then-takes, word-takes, opened-takes, closed-keeps, numbers-keeps, one-of-takes}
 use Rattle.tra4_text.specs.Movement.{Pattern}
 use Rattle.tra4_text.specs.Grammar.{truth, pattern}
 use Rattle.tra4_text.proofs.Whole.{pattern-wide}

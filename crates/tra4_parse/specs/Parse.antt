@@ -2,9 +2,9 @@
 use mathlib.Core.List.{List}
 use Prim.Native.Nat.{ℕ}
 use lib.IntN.{ℤ}
-use Rattle.lexer.specs.Numbers.{INT}
-use Rattle.chunks.specs.Readers.{Reader, _>>=_, _>>_, pure, head, opened, closed, number, close-bracket, text-end}
-use Rattle.chunks.specs.Places.{optionalName}
+use Rattle.text_numbers.specs.Numbers.{INT}
+use Rattle.parse_cursor.specs.Readers.{Reader, _>>=_, _>>_, pure, head, opened, closed, number, close-bracket, text-end}
+use Rattle.parse_cursor.specs.Places.{optionalName}
 use Rattle.tra4_bones.specs.Into.{Kept, bonesInto}
 use Rattle.tra4_parse.specs.Patterns.{patternsInto}
 

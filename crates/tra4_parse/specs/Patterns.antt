@@ -3,11 +3,11 @@ use mathlib.Core.List.{List, [], _∷_, _++_}
 use Prim.Native.Nat.{ℕ}
 use lib.IntN.{ℤ}
 use lib.ListN.{length}
-use Rattle.lexer.specs.Bytes.{bytes}
-use Rattle.lexer.specs.Numbers.{INT}
-use Rattle.chunks.specs.Readers.{Reader, _>>=_, _>>_, pure, wordOf, closed, numbers, trailing, many}
-use Rattle.chunks.specs.Into.{flat}
-use Rattle.chunks.specs.Cursors.{overlayAt}
+use Rattle.text_bytes.specs.Bytes.{bytes}
+use Rattle.text_numbers.specs.Numbers.{INT}
+use Rattle.parse_cursor.specs.Readers.{Reader, _>>=_, _>>_, pure, wordOf, closed, numbers, trailing, many}
+use Rattle.table_rows.specs.Flat.{flat}
+use Rattle.table_rows.specs.Overlay.{overlayAt}
 use Rattle.tra4_text.specs.Movement.{Pattern}
 use Rattle.tra4_text.specs.Grammar.{truth, pattern}
 

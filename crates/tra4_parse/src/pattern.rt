@@ -1,30 +1,30 @@
 // The pattern lines of a movement.
 ghost use mathlib.Core.Path.{_≡_};
-ghost use Rattle.chunks.specs.Cursors.{reads, from};
-ghost use Rattle.chunks.specs.Folds.{folded, rowStep};
+ghost use Rattle.parse_cursor.specs.Cursors.{reads, from};
+ghost use Rattle.parse_rows.specs.Folds.{folded, rowStep};
 ghost use Rattle.tra4_text.specs.Grammar.{pattern as patternRead};
 ghost use Rattle.tra4_parse.specs.Patterns.{patternInto, patternsInto};
-use chunks::Counted;
-use chunks::Cursor;
-use chunks::Form;
+use parse_cursor::Cursor;
+use parse_numbers::Form;
+use parse_rows::Counted;
 
 // What stands in a pattern line after its opening bracket: frame, group and flag, to the table from index `at` on.
 fn pattern_tail(text: &[u8], c: Cursor, out: &mut [i64], at: usize) -> Cursor
     ensures { λ r. ⌜ reads (now (text .entry)) r (now (out .exit)) ≡ from (now (text .entry)) c (patternInto at (now (out .entry))) ⌝ }
 {
-    let d = chunks::numbers(
+    let d = parse_rows::numbers(
         text,
-        chunks::keyword(text, c, b"kgf"),
+        parse_cursor::keyword(text, c, b"kgf"),
         Form::Int,
         2,
         out,
         at,
     );
-    let n = chunks::one_of(text, d, b"false true", 2);
+    let n = parse_words::one_of(text, d, b"false true", 2);
     let e = n.cursor;
     let flag = n.value;
-    chunks::store(out, chunks::advance(at, 2, out.len()), &[flag]);
-    chunks::closing(text, e)
+    table_rows::store(out, table_rows::advance(at, 2, out.len()), &[flag]);
+    parse_cursor::closing(text, e)
 }
 
 // Pattern lines up to the closing bracket.
@@ -35,7 +35,7 @@ fn pattern_list(text: &[u8], c: Cursor, out: &mut [i64]) -> Counted
     let mut i = 0;
     let mut count = 0;
     loop {
-        let item = chunks::next_item(text, d);
+        let item = parse_numbers::next_item(text, d);
         let start = item.cursor;
         if item.ended {
             return Counted {
@@ -48,7 +48,7 @@ fn pattern_list(text: &[u8], c: Cursor, out: &mut [i64]) -> Counted
             return Counted { cursor: d, count };
         }
         count += 1;
-        i = chunks::advance(i, 3, out.len());
+        i = table_rows::advance(i, 3, out.len());
     }
 }
 
@@ -57,7 +57,7 @@ fn pattern_list(text: &[u8], c: Cursor, out: &mut [i64]) -> Counted
 pub(crate) fn patterns(text: &[u8], c: Cursor, out: &mut [i64]) -> Counted
     ensures { λ r. ⌜ reads (now (text .entry)) (r .cursor) (r .count, now (out .exit)) ≡ from (now (text .entry)) c (patternsInto (now (out .entry))) ⌝ }
 {
-    let start = chunks::trailing(text, c, b"DynamicPolygons");
+    let start = parse_names::trailing(text, c, b"DynamicPolygons");
     let d = start.cursor;
     if start.present {
         return pattern_list(text, d, out);

@@ -1,13 +1,13 @@
 // The shape of a movement's text.
 ghost use mathlib.Core.Path.{_≡_};
-ghost use Rattle.lexer.specs.Tokens.{lex};
-ghost use Rattle.chunks.specs.Cursors.{reads};
+ghost use Rattle.text_tokens.specs.Tokens.{lex};
+ghost use Rattle.parse_cursor.specs.Cursors.{reads};
 ghost use Rattle.tra4_bones.specs.Into.{kept};
 ghost use Rattle.tra4_parse.specs.Parse.{movementValue, movementInto};
 use crate::pattern::patterns;
-use chunks::Cursor;
-use chunks::Form;
-use chunks::opened;
+use parse_cursor::Cursor;
+use parse_cursor::opened;
+use parse_numbers::Form;
 
 // A cursor past the text, the total of frames, the name's place and length, how many rows each list has, and whether there are more
 // keys than 4,096 (then `keys` is free); where the cursor has refused, all else is free.
@@ -36,20 +36,25 @@ pub fn parse(
     let start = Cursor { refusal: 0, at: 0 };
     let begun = opened(
         text,
-        chunks::head(text, start, b"traVersion", b"4.0"),
+        parse_text::head(text, start, b"traVersion", b"4.0"),
         b"Figure",
     );
-    let n = chunks::optional_name(text, begun);
+    let n = parse_names::optional_name(text, begun);
     let named = n.cursor;
-    let f = chunks::number(text, opened(text, named, b"totalFrame"), Form::Int);
+    let f = parse_numbers::number(text, opened(text, named, b"totalFrame"), Form::Int);
     let framed = f.cursor;
     let total = f.value;
-    let b = tra4_bones::bones(text, chunks::closing(text, framed), bone_rows, key_rows);
+    let b = tra4_bones::bones(
+        text,
+        parse_cursor::closing(text, framed),
+        bone_rows,
+        key_rows,
+    );
     let boned = b.cursor;
     let p = patterns(text, boned, pattern_rows);
     let d = p.cursor;
     Parsed {
-        cursor: chunks::text_end(text, chunks::closing(text, d)),
+        cursor: parse_text::text_end(text, parse_cursor::closing(text, d)),
         total,
         place: n.place,
         length: n.length,

@@ -6,10 +6,10 @@ use Prim.Native.Nat.{ℕ, suc, _≤_, _<_}
 use borrow.Author.Tests.{le-leb, lt-leb}
 use lib.IntN.{ℤ, pos}
 use lib.Signed.{ltZ}
-use Rattle.lexer.specs.Faults.{clear, fault}
-use Rattle.chunks.specs.Rules.{tooMany}
+use Rattle.refusal.specs.Faults.{clear, fault}
+use Rattle.refusal.specs.Rules.{tooMany}
 use Rattle.tra4_text.specs.Rules.{totalFault}
-use Rattle.lexer.proofs.Tests.{most-above}
+use Rattle.text_numbers.proofs.Tests.{most-above}
 
 module _ (i n m : ℕ) (ns ms : List ℕ) where
   pub count-within : n ≤ m → tooMany i (n ∷ ns) (m ∷ ms) ≡ tooMany (suc i) ns ms

@@ -15,7 +15,7 @@ use mir.Val.{SFits, toZ, ofZ}
 use mir.Facts.{toZ-ofZ}
 use lib.IntN.{ℤ, pos}
 use lib.Signed.{ltZ, leZ}
-use Rattle.lexer.specs.Faults.{Fault, clear, fault}
+use Rattle.refusal.specs.Faults.{Fault, clear, fault}
 use Rattle.tra4_text.specs.Movement.{frameOf, groupOf}
 use Rattle.tra4_text.specs.Rules.{isFrame, isZero, rises, neverFalls, framesFault, keyFine, patternFine, patternsFault}
 use Rattle.tra4_rules.specs.declared.frame.Timed.{Timed}
@@ -23,7 +23,7 @@ use Rattle.tra4_rules.specs.declared.frame.Timed.the-variants.{Key, Patt
 use Rattle.tra4_rules.specs.Rows.{rowsOf}
 use Rattle.tra4_rules.specs.Frames.{widthOf, numberOf, rowFine, beforeOf, follows, frameFits}
 use Rattle.tra4_rules.proofs.Tables.{rows-more, rows-short, row-part, part-rest}
-use Rattle.lexer.proofs.Tests.{most-above}
+use Rattle.text_numbers.proofs.Tests.{most-above}
 
 -- ---- one frame
 

@@ -9,8 +9,8 @@ use lib.ListN.{length, take, drop, getD, length-drop}
 use lib.Seq.{drop-cons, drop-drop}
 use lib.IntN.{ℤ, pos, negsuc, natAbs, pos-ne-negsuc}
 use lib.Signed.{mag}
-use Rattle.lexer.specs.Faults.{clear, fault}
-use Rattle.chunks.specs.Rules.{orElse}
+use Rattle.refusal.specs.Faults.{clear, fault}
+use Rattle.refusal.specs.Rules.{orElse}
 use Rattle.tra4_text.specs.Rules.{framesFault, keyFine, keysFault}
 use Rattle.tra4_rules.specs.declared.key.Walk.{Walk}
 use Rattle.tra4_rules.specs.declared.key.Walk.the-variants.{At, Refused}

@@ -10,20 +10,20 @@ use lib.Dec.{leb}
 use lib.ListN.{length, length-append}
 use lib.Seq.{take-at, drop-at}
 use lib.IntN.{ℤ}
-use Rattle.lexer.specs.Faults.{Fault, clear, fault}
-use Rattle.chunks.proofs.Widths.{Wide}
-use Rattle.chunks.specs.Into.{flat}
-use Rattle.chunks.proofs.Given.{Every}
+use Rattle.refusal.specs.Faults.{Fault, clear, fault}
+use Rattle.parse_rows.proofs.Widths.{Wide}
+use Rattle.table_rows.specs.Flat.{flat}
+use Rattle.parse_cursor.proofs.Given.{Every}
 use Rattle.tra4_text.specs.Movement.{Key, Channel, Bone, Movement}
 use Rattle.tra4_text.specs.Layout.{nameNumbers, keyRanges, boneRow, boneRows}
-use Rattle.chunks.specs.Rules.{tooMany}
+use Rattle.refusal.specs.Rules.{tooMany}
 use Rattle.tra4_text.specs.Rules.{channelsOf, allKeys, keyRows, countsOf, mosts, movementFault}
 use Rattle.tra4_rules.specs.Rows.{rowsOf, wholeRows}
 use Rattle.tra4_rules.specs.Keys.{countOf, pairCounts, boneCounts, rowCounts, keyCounts, cut, channelsIn}
 use Rattle.tra4_rules.specs.Order.{tablesFault}
 use Rattle.tra4_rules.proofs.Tables.{rows-more}
 use Rattle.tra4_rules.proofs.Counts.{count-beyond}
-use Rattle.chunks.proofs.Rules.{or-fault}
+use Rattle.refusal.proofs.Rules.{or-fault}
 
 -- ---- rows of one width
 

@@ -4,7 +4,7 @@ use mathlib.Core.List.{List, [], _∷_, _++_}
 use Prim.Native.Nat.{ℕ, _*_, _≤_}
 use lib.ListN.{length, take, drop}
 use lib.IntN.{ℤ, pos, negsuc}
-use Rattle.lexer.specs.Faults.{Fault, fault}
+use Rattle.refusal.specs.Faults.{Fault, fault}
 use Rattle.tra4_text.specs.Movement.{Key, Channel}
 use Rattle.tra4_text.specs.Rules.{keysFault}
 use Rattle.tra4_rules.specs.declared.key.Walk.{Walk}

@@ -2,8 +2,8 @@
 use mathlib.Core.List.{List, [], _∷_}
 use Prim.Native.Nat.{ℕ}
 use lib.IntN.{ℤ}
-use Rattle.lexer.specs.Faults.{Fault}
-use Rattle.chunks.specs.Rules.{orElse, tooMany}
+use Rattle.refusal.specs.Faults.{Fault}
+use Rattle.refusal.specs.Rules.{orElse, tooMany}
 use Rattle.tra4_text.specs.Rules.{mosts, totalFault, keysFault, patternsFault}
 use Rattle.tra4_rules.specs.Rows.{rowsOf}
 use Rattle.tra4_rules.specs.Keys.{channelsIn}

@@ -1,10 +1,10 @@
 // Rules 8 and 14: how many rows each list has, and how many frames a movement has.
 ghost use mathlib.Core.Path.{_≡_};
 ghost use mathlib.Core.List.{[], _∷_};
-ghost use Rattle.lexer.specs.Answers.{refusal};
-ghost use Rattle.chunks.specs.Rules.{tooMany};
+ghost use Rattle.refusal.specs.Answers.{refusal};
+ghost use Rattle.refusal.specs.Rules.{tooMany};
 ghost use Rattle.tra4_text.specs.Rules.{mosts, totalFault};
-use lexer::Checked;
+use refusal::Checked;
 
 // The first list with more rows than it may have.
 pub fn counts_fault(bones: usize, keys: usize, patterns: usize) -> Checked

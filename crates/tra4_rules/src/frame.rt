@@ -3,11 +3,11 @@ ghost use mathlib.Core.Path.{_≡_};
 ghost use mathlib.Core.Option.{none};
 ghost use Prim.Native.Nat.{_-_, _≤_};
 ghost use lib.ListN.{length};
-ghost use Rattle.lexer.specs.Answers.{refusal};
+ghost use Rattle.refusal.specs.Answers.{refusal};
 ghost use Rattle.tra4_text.specs.Rules.{framesFault, patternsFault};
 ghost use Rattle.tra4_rules.specs.Rows.{rowsOf};
 ghost use Rattle.tra4_rules.specs.Frames.{widthOf, numberOf, rowFine, beforeOf, frameFits};
-use lexer::Checked;
+use refusal::Checked;
 
 // The rows that have a frame, in column 0.
 pub enum Timed {

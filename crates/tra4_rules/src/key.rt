@@ -2,12 +2,12 @@
 ghost use mathlib.Core.Path.{_≡_};
 ghost use Prim.Native.Nat.{_*_, _≤_, min};
 ghost use lib.ListN.{length};
-ghost use Rattle.lexer.specs.Answers.{refusal};
+ghost use Rattle.refusal.specs.Answers.{refusal};
 ghost use Rattle.tra4_text.specs.Rules.{keysFault};
 ghost use Rattle.tra4_rules.specs.Keys.{countOf, boneCounts, channelsIn, Walked};
 use crate::frame::Timed;
 use crate::frame::frames_fault;
-use lexer::Checked;
+use refusal::Checked;
 
 // The row after the keys that were walked, or the first fault among them.
 enum Walk {

@@ -1,12 +1,12 @@
 // Rules 8 and 14 to 16 in order: of a movement's faults the lowest number, with its lowest row.
 ghost use mathlib.Core.Path.{_≡_};
-ghost use Rattle.lexer.specs.Answers.{refusal};
+ghost use Rattle.refusal.specs.Answers.{refusal};
 ghost use Rattle.tra4_rules.specs.Order.{tablesFault};
 use crate::count::counts_fault;
 use crate::count::total_fault;
 use crate::frame::patterns_fault;
 use crate::key::keys_fault;
-use lexer::Checked;
+use refusal::Checked;
 
 // The first fault of the tables.
 pub fn first_fault(

@@ -9,17 +9,17 @@ use native.Mathlib.Omega.{arith}
 use lib.ListN.{length, getD, drop, length-map, length-append}
 use lib.Seq.{getD-at}
 use lib.IntN.{ℤ, pos}
-use Rattle.lexer.specs.Bytes.{bytes}
-use Rattle.lexer.specs.Every.{Every}
-use Rattle.lexer.specs.Numbers.{INT, FLOAT}
-use Rattle.lexer.specs.Tokens.{Lexeme}
-use Rattle.lexer.proofs.Every.{every-as}
-use Rattle.chunks.specs.Readers.{Name, absent, Reader, pure, starts, many⁺}
-use Rattle.chunks.specs.Fields.{kind, isSome, complete, fields}
-use Rattle.chunks.proofs.Given.{GivesOn, Gives, free, Naming, AnyName, any-names, pure-gives, later-gives, either-gives, bind-gives, then-gives, gives-as, leaves-on, both-give, closed-gives, close-leaves, opened-leaves, end-leaves, head-leaves, more-give, many-gives, some-give, trailing-gives, name-gives}
-use Rattle.chunks.proofs.FieldFits.{AllGive, AllFit, Whole, fields-fit}
-use Rattle.chunks.proofs.Ranges.{InForm, number-gives, numbers-give, row-of-gives, choice-below, some-stand}
-use Rattle.chunks.proofs.Widths.{Wide}
+use Rattle.text_bytes.specs.Bytes.{bytes}
+use Rattle.text_bytes.specs.Every.{Every}
+use Rattle.text_numbers.specs.Numbers.{INT, FLOAT}
+use Rattle.text_tokens.specs.Tokens.{Lexeme}
+use Rattle.text_bytes.proofs.Every.{every-as}
+use Rattle.parse_cursor.specs.Readers.{Name, absent, Reader, pure, starts, many⁺}
+use Rattle.parse_cursor.specs.Fields.{kind, isSome, complete, fields}
+use Rattle.parse_cursor.proofs.Given.{GivesOn, Gives, free, Naming, AnyName, any-names, pure-gives, later-gives, either-gives, bind-gives, then-gives, gives-as, leaves-on, both-give, closed-gives, close-leaves, opened-leaves, end-leaves, head-leaves, more-give, many-gives, some-give, trailing-gives, name-gives}
+use Rattle.parse_cursor.proofs.FieldFits.{AllGive, AllFit, Whole, fields-fit}
+use Rattle.parse_cursor.proofs.Ranges.{InForm, number-gives, numbers-give, row-of-gives, choice-below, some-stand}
+use Rattle.parse_rows.proofs.Widths.{Wide}
 use Rattle.tra4_text.specs.Movement.{Key, Channel, Bone, Pattern, Movement}
 use Rattle.tra4_text.specs.Grammar.{repeatedIn, repeated, repeated⁺, key, channel, channelNames, channelKinds, keysIn, bone, truth, pattern, movement}
 use Rattle.tra4_text.specs.Names.{NamedMovement}

@@ -3,8 +3,9 @@ use mathlib.Core.List.{List}
 use Prim.Native.Nat.{ℕ}
 use lib.ListN.{length}
 use lib.IntN.{ℤ}
-use Rattle.lexer.specs.Faults.{tra}
-use Rattle.chunks.specs.Outcomes.{Outcome, outcome, fitted, laid}
+use Rattle.text_check.specs.Faults.{tra}
+use Rattle.refusal.specs.Outcomes.{Outcome, fitted, laid}
+use Rattle.parse_text.specs.Texts.{outcome}
 use Rattle.tra4_text.specs.Movement.{Movement}
 use Rattle.tra4_text.specs.Grammar.{movement}
 use Rattle.tra4_text.specs.Rules.{movementFault}

@@ -6,10 +6,10 @@ use Prim.Native.Nat.{ℕ, zero, suc}
 use Prim.Native.String.{String}
 use lib.IntN.{ℤ, pos}
 use lib.ListN.{length}
-use Rattle.lexer.specs.Bytes.{bytes}
-use Rattle.lexer.specs.Numbers.{INT, FLOAT}
-use Rattle.chunks.specs.Readers.{Reader, got, absent, _>>=_, _>>_, pure, rest, close-bracket, opened, closed, number, numbers, string, oneOf, starts, optional, trailing, many, many⁺, head, text-end, rowOf}
-use Rattle.chunks.specs.Fields.{Kind, kind, fields}
+use Rattle.text_bytes.specs.Bytes.{bytes}
+use Rattle.text_numbers.specs.Numbers.{INT, FLOAT}
+use Rattle.parse_cursor.specs.Readers.{Reader, got, absent, _>>=_, _>>_, pure, rest, close-bracket, opened, closed, number, numbers, string, oneOf, starts, optional, trailing, many, many⁺, head, text-end, rowOf}
+use Rattle.parse_cursor.specs.Fields.{Kind, kind, fields}
 use Rattle.tra4_text.specs.Movement.{Key, Channel, Pattern, Bone, Movement}
 
 -- chunks of one keyword, as many as stand; each takes at least one token, so there are turns enough

@@ -3,8 +3,8 @@ use mathlib.Core.List.{List, [], _∷_, _++_}
 use Prim.Native.Nat.{ℕ, _+_}
 use lib.ListN.{length}
 use lib.IntN.{ℤ, pos}
-use Rattle.chunks.specs.Readers.{Name}
-use Rattle.chunks.specs.Into.{flat}
+use Rattle.parse_cursor.specs.Readers.{Name}
+use Rattle.table_rows.specs.Flat.{flat}
 use Rattle.tra4_text.specs.Movement.{Channel, Bone, Movement}
 use Rattle.tra4_text.specs.Rules.{allKeys, keyRows}
 

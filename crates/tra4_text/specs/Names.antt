@@ -1,6 +1,6 @@
 -- What holds of every name in a movement.
-use Rattle.lexer.specs.Every.{Every}
-use Rattle.chunks.specs.Readers.{Name}
+use Rattle.text_bytes.specs.Every.{Every}
+use Rattle.parse_cursor.specs.Readers.{Name}
 use Rattle.tra4_text.specs.Movement.{Movement}
 
 -- its own name, and each bone's

@@ -7,8 +7,8 @@ use lib.Dec.{eqb}
 use lib.ListN.{length}
 use lib.IntN.{ℤ, pos, negsuc}
 use lib.Signed.{ltZ, leZ}
-use Rattle.lexer.specs.Faults.{Fault, clear, fault}
-use Rattle.chunks.specs.Rules.{orElse, tooMany}
+use Rattle.refusal.specs.Faults.{Fault, clear, fault}
+use Rattle.refusal.specs.Rules.{orElse, tooMany}
 use Rattle.tra4_text.specs.Movement.{Key, Channel, Pattern, frameOf, groupOf, Bone, Movement}
 
 -- every channel, by bone and then channel number

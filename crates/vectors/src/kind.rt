@@ -1,5 +1,5 @@
 // The kinds of records: those that are kept, questions on texts, and questions on tables. Each is the row of its word.
-use lexer::Span;
+use text_tokens::Span;
 
 pub(crate) const FRONT: usize = 0;
 
@@ -34,7 +34,7 @@ pub(crate) const CORNER: usize = 16;
 pub(crate) const SHOWN: usize = 17;
 
 pub(crate) fn kind_of(input: &[u8], word: Span) -> usize {
-    chunks::word_index(
+    parse_words::word_index(
         input,
         word,
         b"front back pad copies figure_table figure_counts movement_table movement_counts bac tra int float tokens figure movement sample corner shown",

@@ -15,12 +15,12 @@ use kind::MOVEMENT_TABLE;
 use kind::PAD;
 use kind::SAMPLE;
 use kind::kind_of;
-use lexer::Run;
 use libc::STDIN_FILENO;
 use record::after;
 use record::first;
 use record::numbers;
 use record::put;
+use text_bytes::Run;
 
 // A record that is kept for the questions after it. The frame is where the front and the back of a text stand, its least
 // length, and where the copies after the front stand and how many they are; n and m are how many numbers of each table are
@@ -36,7 +36,7 @@ fn keep(
     n: &mut [i64; 10],
     m: &mut [i64; 4],
 ) {
-    let args = lexer::part(input, from, end);
+    let args = text_bytes::part(input, from, end);
     match kind {
         FRONT => {
             frame[0] = from;
@@ -49,7 +49,7 @@ fn keep(
         }
         PAD => frame[4] = first(args),
         COPIES => {
-            frame[5] = after(lexer::next(input, from).end, end);
+            frame[5] = after(text_tokens::next(input, from).end, end);
             frame[6] = end;
             frame[7] = first(args);
         }
@@ -79,24 +79,24 @@ fn run_record(
     n: &mut [i64; 10],
     m: &mut [i64; 4],
 ) {
-    let word = lexer::next(input, at);
+    let word = text_tokens::next(input, at);
     if end <= word.start {
         return;
     }
-    let label = lexer::next(input, word.end);
+    let label = text_tokens::next(input, word.end);
     let from = after(label.end, end);
     let kind = kind_of(input, word);
     if kind < BAC {
         keep(kind, input, from, end, frame, table, moves, n, m);
         return;
     }
-    put(lexer::part(input, word.start, label.end));
+    put(text_bytes::part(input, word.start, label.end));
     put(b"\t");
     if kind < SAMPLE {
         texts::ask(kind, input, from, end, frame, table, moves, n, m);
         return;
     }
-    play::ask(kind, lexer::part(input, from, end), table, moves, n, m);
+    play::ask(kind, text_bytes::part(input, from, end), table, moves, n, m);
 }
 
 fn run(input: &[u8], table: &mut [i64; 11400], moves: &mut [i64; 11779]) {
@@ -105,7 +105,7 @@ fn run(input: &[u8], table: &mut [i64; 11400], moves: &mut [i64; 11779]) {
     let mut m = [0i64; 4];
     let mut at = 0;
     loop {
-        let end = lexer::run_end(input, at, Run::Line);
+        let end = text_bytes::run_end(input, at, Run::Line);
         run_record(input, at, end, &mut frame, table, moves, &mut n, &mut m);
         if input.len() <= end {
             return;

@@ -67,7 +67,7 @@ fn tell_sample(moves: &[i64], m: MovementCounts, bone: usize, channel: usize, at
     let answer = player::sample(moves, m, bone, channel, at);
     let mut out = [0u8; 64];
     let filled = player_listing::list_fraction(&mut out, answer);
-    put(lexer::part(&out, 0, filled));
+    put(text_bytes::part(&out, 0, filled));
 }
 
 // A corner that does not exist has no line.
@@ -79,7 +79,7 @@ fn tell_corner(table: &[i64], n: FigureCounts, face: usize, k: usize) {
         put(b"refused\t21\t0\n");
         return;
     }
-    put(lexer::part(&out, 0, filled));
+    put(text_bytes::part(&out, 0, filled));
 }
 
 fn tell_shown(
@@ -93,7 +93,7 @@ fn tell_shown(
     let answer = player::shown(table, n, moves, m, face, at);
     let mut out = [0u8; 128];
     let filled = player_listing::append_shown(&mut out, 0, face, at, answer);
-    put(lexer::part(&out, 0, filled));
+    put(text_bytes::part(&out, 0, filled));
 }
 
 fn answer(
@@ -127,8 +127,8 @@ pub(crate) fn ask(
 ) {
     let mut asked = [0i64; 3];
     let next = numbers(args, 0, &mut asked);
-    let name = lexer::next(args, next);
-    let file = chunks::word_index(args, name, b"figure movement");
+    let name = text_tokens::next(args, next);
+    let file = parse_words::word_index(args, name, b"figure movement");
     let mut altered = [0i64; 2];
     numbers(args, name.end, &mut altered);
     let at = count(altered[0]);

@@ -89,11 +89,11 @@ pub(crate) fn put_text(
     end: usize,
     frame: &[usize; 8],
 ) -> usize {
-    let fronts = append_text(buf, 0, lexer::part(input, frame[0], frame[1]));
-    let copied = lexer::part(input, frame[5], frame[6]);
+    let fronts = append_text(buf, 0, text_bytes::part(input, frame[0], frame[1]));
+    let copied = text_bytes::part(input, frame[5], frame[6]);
     let copies = append_copies(buf, fronts, copied, frame[7]);
-    let parts = append_text(buf, copies, lexer::part(input, from, end));
-    let backs = append_text(buf, parts, lexer::part(input, frame[2], frame[3]));
+    let parts = append_text(buf, copies, text_bytes::part(input, from, end));
+    let backs = append_text(buf, parts, text_bytes::part(input, frame[2], frame[3]));
     let least = frame[4];
     if backs < least { least } else { backs }
 }
@@ -144,8 +144,8 @@ pub(crate) fn numbers(args: &[u8], from: usize, out: &mut [i64]) -> usize {
     let mut at = from;
     let mut i = 0;
     while i < out.len() {
-        let t = lexer::next(args, at);
-        let word = lexer::part(args, t.start, t.end);
+        let t = text_tokens::next(args, at);
+        let word = text_bytes::part(args, t.start, t.end);
         out[i] = decimal(word);
         at = passed(word, at, t.end);
         i += 1;
@@ -154,7 +154,7 @@ pub(crate) fn numbers(args: &[u8], from: usize, out: &mut [i64]) -> usize {
 }
 
 pub(crate) fn count(z: i64) -> usize {
-    lexer::magnitude(z) as usize
+    text_numbers::magnitude(z) as usize
 }
 
 // The first number.

@@ -9,16 +9,16 @@ use crate::record::count;
 use crate::record::numbers;
 use crate::record::put;
 use crate::record::put_text;
-use lexer::Checked;
-use lexer::Format;
-use lexer::Kind;
-use lexer::Parsed;
+use refusal::Checked;
+use text_check::Format;
+use text_numbers::Parsed;
+use text_tokens::Kind;
 
 // A line of a word, and of numbers after tabs.
 fn put_row(word: &[u8], row: &[i64]) {
     let mut out = [0u8; 128];
     let n = report::append_row(&mut out, 0, word, row);
-    put(lexer::part(&out, 0, n));
+    put(text_bytes::part(&out, 0, n));
 }
 
 fn tell_checked(answer: Checked) {
@@ -53,7 +53,7 @@ fn tell_tokens(text: &[u8]) {
     let mut at = 0;
     let mut i = 0;
     while i <= text.len() {
-        let t = lexer::next(text, at);
+        let t = text_tokens::next(text, at);
         let row = [
             report::shown(t.start),
             report::shown(t.end),
@@ -73,14 +73,14 @@ fn tell_figure(text: &[u8], table: &mut [i64]) {
     let answer = bac6::read(text, table);
     let mut out = [0u8; 4096];
     let n = bac6_listing::list_figure(answer, table, &mut out);
-    put(lexer::part(&out, 0, n));
+    put(text_bytes::part(&out, 0, n));
 }
 
 fn tell_movement(text: &[u8], table: &mut [i64]) {
     let answer = tra4::read(text, table);
     let mut out = [0u8; 4096];
     let n = tra4_listing::list_movement(answer, table, &mut out);
-    put(lexer::part(&out, 0, n));
+    put(text_bytes::part(&out, 0, n));
 }
 
 // The listing of a figure or a movement, read into the first numbers of a table of zeros.
@@ -109,12 +109,12 @@ pub(crate) fn ask(
 ) {
     let mut buf = [32u8; 65600];
     let size = put_text(&mut buf, input, from, end, frame);
-    let text = lexer::part(&buf, 0, size);
+    let text = text_bytes::part(&buf, 0, size);
     match kind {
-        BAC => tell_checked(lexer::check_text(text, Format::Bac)),
-        TRA => tell_checked(lexer::check_text(text, Format::Tra)),
-        INT => tell_number(lexer::int(text)),
-        FLOAT => tell_number(lexer::float(text)),
+        BAC => tell_checked(text_check::check_text(text, Format::Bac)),
+        TRA => tell_checked(text_check::check_text(text, Format::Tra)),
+        INT => tell_number(text_numbers::int(text)),
+        FLOAT => tell_number(text_numbers::float(text)),
         TOKENS => tell_tokens(text),
         FIGURE => tell_listing(kind, text, table, count(n[0])),
         _ => tell_listing(kind, text, moves, count(m[0])),

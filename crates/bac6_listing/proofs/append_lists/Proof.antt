@@ -1,7 +1,7 @@
 -- `append_lists` puts the lists one after the other, each by `append_list`.
 use mathlib.Core.Path.{ap, _∙_}
 use denote.Ref.{now}
-use Rattle.lexer.specs.Bytes.{bytes}
+use Rattle.text_bytes.specs.Bytes.{bytes}
 use Rattle.report.specs.Output.{output}
 use Rattle.report.specs.Lists.{reached}
 use Rattle.report.proofs.Texts.{next-list, allListed, putOf, all-lines}

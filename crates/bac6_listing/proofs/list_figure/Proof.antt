@@ -1,7 +1,7 @@
 -- `list_figure` puts the first line, and the lists where nothing is refused.
 use denote.Ref.{now}
 use borrow.Author.Tests.{eq-eqb, ne-eqb}
-use Rattle.lexer.specs.Bytes.{bytes}
+use Rattle.text_bytes.specs.Bytes.{bytes}
 use Rattle.report.proofs.Listings.{said-taken, said-refused}
 use Rattle.bac6_listing.specs.Figures.{figureLists, figureLines, figureText}
 use borrow.Author.Needs.{needs}

@@ -2,9 +2,9 @@
 use native.Mathlib.Omega.{arith}
 use denote.Ref.{now}
 use borrow.Author.Needs.{needs}
-use Rattle.lexer.specs.Answers.{testNamed}
-use Rattle.lexer.specs.declared.bytes.Run.the-variants.{Line}
-use Rattle.lexer.proofs.Runs.{run-within}
+use Rattle.text_bytes.specs.Answers.{testNamed}
+use Rattle.text_bytes.specs.declared.bytes.Run.the-variants.{Line}
+use Rattle.text_bytes.proofs.Runs.{run-within}
 use Rattle.pair_vectors.proofs.line_end.Statement.{statement}
 use Rattle.pair_vectors.proofs.line_end.Tie as tie
 

@@ -1,7 +1,7 @@
 -- `list_movement` puts the first line, and the lists where nothing is refused.
 use denote.Ref.{now}
 use borrow.Author.Tests.{eq-eqb, ne-eqb}
-use Rattle.lexer.specs.Bytes.{bytes}
+use Rattle.text_bytes.specs.Bytes.{bytes}
 use Rattle.report.proofs.Listings.{said-taken, said-refused}
 use Rattle.tra4_listing.specs.Movements.{movementLists, movementLines, movementText}
 use borrow.Author.Needs.{needs}

@@ -1,10 +1,10 @@
 -- `read_back` is the back of a figure: its readers one after the other.
 use mathlib.Core.Path.{refl}
-use Rattle.lexer.specs.Bytes.{bytes}
-use Rattle.chunks.specs.Answers.{formNamed}
-use Rattle.chunks.specs.Cursors.{reads}
-use Rattle.chunks.specs.Readers.{opened}
-use Rattle.chunks.proofs.Steps.{join, seq}
+use Rattle.text_bytes.specs.Bytes.{bytes}
+use Rattle.parse_numbers.specs.Answers.{formNamed}
+use Rattle.parse_cursor.specs.Cursors.{reads}
+use Rattle.parse_cursor.specs.Readers.{opened}
+use Rattle.parse_cursor.proofs.Steps.{join, seq}
 use Rattle.bac6.specs.Parse.{backInto, backValue}
 use borrow.Author.Needs.{needs}
 use Rattle.bac6.proofs.back.read_back.Statement.{statement}

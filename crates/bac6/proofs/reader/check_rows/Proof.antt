@@ -2,7 +2,7 @@
 use mathlib.Core.Path.{refl, sym, _∙_}
 use lib.ListN.{length}
 use denote.Ref.{now}
-use Rattle.chunks.proofs.Rules.{refused-by, clear-by}
+use Rattle.refusal.proofs.Rules.{refused-by, clear-by}
 use Rattle.bac6.proofs.Checks.{rules-by, left-by, refused-checked, refused-left, clear-checked, clear-laid}
 use borrow.Author.Needs.{needs}
 use Rattle.bac6.proofs.reader.check_rows.Statement.{statement}

@@ -1,6 +1,6 @@
 -- `claims_of` is the fault that the parsed flag and row name, by the flag.
 use mathlib.Core.Path.{refl}
-use Rattle.lexer.specs.Answers.{refusal}
+use Rattle.refusal.specs.Answers.{refusal}
 use Rattle.bac6_bones.specs.Into.{faultOf}
 use Rattle.bac6.proofs.reader.claims_of.Statement.{statement}
 use Rattle.bac6.proofs.reader.claims_of.Tie as tie

@@ -2,12 +2,12 @@
 use mathlib.Core.Path.{refl, ap, sym, _∙_}
 use lib.ListN.{length}
 use denote.Ref.{now}
-use Rattle.lexer.specs.Answers.{formatNamed}
-use Rattle.chunks.specs.Outcomes.{fitted, laid}
-use Rattle.chunks.proofs.Outcomes.{text-short, text-refused, text-clear}
+use Rattle.text_check.specs.Answers.{formatNamed}
+use Rattle.refusal.specs.Outcomes.{fitted, laid}
+use Rattle.parse_text.proofs.Outcomes.{text-short, text-refused, text-clear}
 use Rattle.bac6_text.specs.Layout.{layoutOf}
 use Rattle.bac6_text.specs.Answer.{figureOutcome, figureAnswer, tableAfter}
-use Rattle.chunks.proofs.Rules.{refused-by, clear-by}
+use Rattle.refusal.proofs.Rules.{refused-by, clear-by}
 use Rattle.bac6.specs.Answers.{answerOf}
 use Rattle.bac6.proofs.Ends.{refused-answer, refused-table}
 use borrow.Author.Needs.{needs}

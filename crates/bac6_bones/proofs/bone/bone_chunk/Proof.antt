@@ -1,7 +1,7 @@
 -- `bone_chunk` reads the field of its keyword: by the keyword's row in the list, and whether that field has been read.
 use mathlib.Core.Path.{_≡_, _∙_}
 use native.Mathlib.Omega.{arith}
-use Rattle.lexer.specs.Bytes.{bytes}
+use Rattle.text_bytes.specs.Bytes.{bytes}
 use Rattle.bac6_bones.proofs.Entries.{entries-bits}
 use Rattle.bac6_bones.proofs.Fields.{bone-other, bone-again, bone-took}
 use Rattle.bac6_bones.proofs.Values.{row-read, entries-read-at}

@@ -1,7 +1,7 @@
 -- `bone_flag` sets down the row of one of two words.
 use mir.Syntax.{w64}
 use mir.Facts.{toZ-ofZ}
-use Rattle.lexer.specs.Bytes.{bytes}
+use Rattle.text_bytes.specs.Bytes.{bytes}
 use Rattle.bac6_bones.proofs.Values.{flag-read}
 use borrow.Author.Needs.{needs}
 use Rattle.bac6_bones.proofs.bone.bone_flag.Statement.{statement}

@@ -2,8 +2,8 @@
 use mathlib.Core.Path.{refl}
 use Prim.Native.Nat.{_<_, _^_}
 use native.Mathlib.Omega.{arith}
-use Rattle.lexer.proofs.Signed.{bits-pos}
-use Rattle.chunks.proofs.Within.{name-bounds}
+use Rattle.text_numbers.proofs.Signed.{bits-pos}
+use Rattle.parse_cursor.proofs.Within.{name-bounds}
 use Rattle.bac6_bones.proofs.Values.{name-read}
 use borrow.Author.Needs.{needs}
 use Rattle.bac6_bones.proofs.bone.bone_name.Statement.{statement}

@@ -1,5 +1,5 @@
 -- `bone_tail` is a bone's row, set down in the table, and its claims.
-use Rattle.lexer.specs.Bytes.{bytes}
+use Rattle.text_bytes.specs.Bytes.{bytes}
 use Rattle.bac6_bones.proofs.Turns.{bone-off, bone-on, state-bits}
 use borrow.Author.Needs.{needs}
 use Rattle.bac6_bones.proofs.bone.bone_tail.Statement.{statement}

@@ -5,12 +5,12 @@ use lib.ListN.{length}
 use mir.Syntax.{w64}
 use mir.Val.{toZ, ofZ}
 use denote.Ref.{now}
-use Rattle.chunks.specs.Answers.{formNamed}
-use Rattle.chunks.specs.Cursors.{from}
-use Rattle.chunks.proofs.Steps.{passed, from-on}
+use Rattle.parse_numbers.specs.Answers.{formNamed}
+use Rattle.parse_cursor.specs.Cursors.{from}
+use Rattle.parse_cursor.proofs.Steps.{passed, from-on}
 use Rattle.bac6_rules.specs.Claims.{claimedOne}
-use Rattle.lexer.specs.Tokens.{lexAt, lexeme}
-use Rattle.lexer.specs.Answers.{lexemeOf}
+use Rattle.text_tokens.specs.Tokens.{lexAt, lexeme}
+use Rattle.text_tokens.specs.Answers.{lexemeOf}
 use Rattle.bac6_bones.specs.Into.{entriesInto}
 use Rattle.bac6_bones.proofs.Entries.{entries-end, entries-more, entry-falls, entries-bits, entries-tried}
 use Rattle.bac6_bones.proofs.entry.entries.Statement.{statement}

@@ -5,12 +5,12 @@ use native.Mathlib.Omega.{arith}
 use borrow.Author.Needs.{needs}
 use denote.Ref.{now}
 use lib.ListN.{length}
-use Rattle.lexer.specs.Tokens.{lexAt}
-use Rattle.chunks.specs.Cursors.{from}
-use Rattle.chunks.specs.Folds.{folded}
-use Rattle.chunks.proofs.Steps.{passed}
-use Rattle.chunks.proofs.Counts.{lexAt-count}
-use Rattle.chunks.proofs.Folds.{folded-end, folded-more, folded-fall}
+use Rattle.text_tokens.specs.Tokens.{lexAt}
+use Rattle.parse_cursor.specs.Cursors.{from}
+use Rattle.parse_rows.specs.Folds.{folded}
+use Rattle.parse_cursor.proofs.Steps.{passed}
+use Rattle.parse_cursor.proofs.Counts.{lexAt-count}
+use Rattle.parse_rows.proofs.Folds.{folded-end, folded-more, folded-fall}
 use Rattle.bac6_text.specs.Grammar.{bone}
 use Rattle.bac6_bones.specs.Into.{faultOf, boneTail, boneStep}
 use Rattle.bac6_bones.proofs.Lists.{bone-opens, bone-keeps, bone-takes, item-falls, folded-refused}

@@ -1,9 +1,9 @@
 -- `polygons` reads the faces and then the groups, where there are any.
 use native.Mathlib.Omega.{arith}
 use denote.Ref.{now}
-use Rattle.lexer.specs.Bytes.{bytes}
-use Rattle.chunks.proofs.Counts.{alive, short, lexAt-count}
-use Rattle.chunks.proofs.Branches.{last-keeps}
+use Rattle.text_bytes.specs.Bytes.{bytes}
+use Rattle.parse_cursor.proofs.Counts.{alive, short, lexAt-count}
+use Rattle.parse_cursor.proofs.Branches.{last-keeps}
 use Rattle.bac6_faces.proofs.PolygonSteps.{polygons-groups, polygons-alone}
 use borrow.Author.Needs.{needs}
 use Rattle.bac6_faces.proofs.ending.polygons.Statement.{statement}

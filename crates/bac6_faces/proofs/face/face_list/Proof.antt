@@ -8,14 +8,14 @@ use mir.Syntax.{w64}
 use mir.Val.{toZ, ofZ}
 use mir.Facts.{toZ-ofZ}
 use lib.ListN.{length}
-use Rattle.lexer.specs.Tokens.{lexAt}
-use Rattle.chunks.specs.Branches.{itemOf}
-use Rattle.chunks.specs.Cursors.{reads, from}
-use Rattle.chunks.specs.Folds.{folded, stepped}
-use Rattle.chunks.proofs.Branches.{item-takes}
-use Rattle.chunks.proofs.Steps.{passed}
-use Rattle.chunks.proofs.Counts.{alive, falls}
-use Rattle.chunks.proofs.Folds.{folded-end, folded-more, folded-fall}
+use Rattle.text_tokens.specs.Tokens.{lexAt}
+use Rattle.parse_cursor.specs.Branches.{itemOf}
+use Rattle.parse_cursor.specs.Cursors.{reads, from}
+use Rattle.parse_rows.specs.Folds.{folded, stepped}
+use Rattle.parse_cursor.proofs.Branches.{item-takes}
+use Rattle.parse_cursor.proofs.Steps.{passed}
+use Rattle.parse_cursor.proofs.Counts.{alive, falls}
+use Rattle.parse_rows.proofs.Folds.{folded-end, folded-more, folded-fall}
 use Rattle.bac6_text.specs.Grammar.{face}
 use Rattle.bac6_faces.specs.Bounds.{Bounded, Fewer}
 use Rattle.bac6_faces.specs.Into.{faceTail, faceStep}

@@ -1,8 +1,8 @@
 -- `face_tail` goes by the row of the face's first word.
 use mir.Syntax.{w64}
 use mir.Val.{SFits}
-use Rattle.lexer.specs.Bytes.{bytes}
-use Rattle.chunks.specs.Answers.{formNamed}
+use Rattle.text_bytes.specs.Bytes.{bytes}
+use Rattle.parse_numbers.specs.Answers.{formNamed}
 use Rattle.bac6_faces.proofs.Faces.{zero-bits, other-bits, by-first, by-second, face-joined}
 use borrow.Author.Needs.{needs}
 use Rattle.bac6_faces.proofs.face.face_tail.Statement.{statement}

@@ -5,14 +5,14 @@ use native.Mathlib.Omega.{arith}
 use borrow.Author.Needs.{needs}
 use denote.Ref.{now}
 use lib.ListN.{length}
-use Rattle.lexer.specs.Tokens.{lexAt}
-use Rattle.chunks.specs.Branches.{itemOf}
-use Rattle.chunks.specs.Cursors.{from}
-use Rattle.chunks.specs.Folds.{folded}
-use Rattle.chunks.proofs.Branches.{item-takes}
-use Rattle.chunks.proofs.Steps.{passed}
-use Rattle.chunks.proofs.Counts.{alive, lexAt-some, lexAt-count, falls}
-use Rattle.chunks.proofs.Folds.{folded-end, folded-more, folded-fall}
+use Rattle.text_tokens.specs.Tokens.{lexAt}
+use Rattle.parse_cursor.specs.Branches.{itemOf}
+use Rattle.parse_cursor.specs.Cursors.{from}
+use Rattle.parse_rows.specs.Folds.{folded}
+use Rattle.parse_cursor.proofs.Branches.{item-takes}
+use Rattle.parse_cursor.proofs.Steps.{passed}
+use Rattle.parse_cursor.proofs.Counts.{alive, lexAt-some, lexAt-count, falls}
+use Rattle.parse_rows.proofs.Folds.{folded-end, folded-more, folded-fall}
 use Rattle.bac6_text.specs.Grammar.{group}
 use Rattle.bac6_faces.specs.Bounds.{Bounded}
 use Rattle.bac6_faces.specs.Into.{groupTail, groupStep}

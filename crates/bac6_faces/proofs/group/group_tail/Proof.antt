@@ -1,11 +1,11 @@
 -- `group_tail` reads a name, sets its row down and hands the faces to `face_list`.
 use Prim.Native.Nat.{_^_, _<_}
 use native.Mathlib.Omega.{arith}
-use Rattle.lexer.specs.Bytes.{bytes}
-use Rattle.lexer.proofs.Signed.{bits-pos}
-use Rattle.chunks.proofs.Steps.{passed}
-use Rattle.chunks.proofs.Counts.{alive}
-use Rattle.chunks.proofs.Within.{place-bounds}
+use Rattle.text_bytes.specs.Bytes.{bytes}
+use Rattle.text_numbers.proofs.Signed.{bits-pos}
+use Rattle.parse_cursor.proofs.Steps.{passed}
+use Rattle.parse_cursor.proofs.Counts.{alive}
+use Rattle.parse_cursor.proofs.Within.{place-bounds}
 use Rattle.bac6_faces.proofs.Groups.{named-short, name-row, group-joined}
 use borrow.Author.Needs.{needs}
 use Rattle.bac6_faces.proofs.group.group_tail.Statement.{statement}

@@ -2,8 +2,8 @@
 use mathlib.Core.Path.{ap, _∙_}
 use denote.Ref.{now}
 use lib.ListN.{length}
-use Rattle.chunks.proofs.Tables.{overlayAt-length}
-use Rattle.chunks.proofs.Chains.{laid-first, laid-next}
+use Rattle.table_rows.proofs.Tables.{overlayAt-length}
+use Rattle.table_rows.proofs.Chains.{laid-first, laid-next}
 use borrow.Author.Needs.{needs}
 use Rattle.bac6_layout.proofs.figure.lay.Statement.{statement}
 use Rattle.bac6_layout.proofs.figure.lay.Tie as tie

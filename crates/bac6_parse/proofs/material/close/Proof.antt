@@ -2,8 +2,8 @@
 use mathlib.Core.Path.{refl}
 use mir.Syntax.{w64}
 use mir.Facts.{toZ-ofZ}
-use Rattle.chunks.specs.Cursors.{reads}
-use Rattle.chunks.proofs.Steps.{seq}
+use Rattle.parse_cursor.specs.Cursors.{reads}
+use Rattle.parse_cursor.proofs.Steps.{seq}
 use Rattle.bac6_parse.specs.Closing.{closeWith}
 use borrow.Author.Needs.{needs}
 use Rattle.bac6_parse.proofs.material.close.Statement.{statement}

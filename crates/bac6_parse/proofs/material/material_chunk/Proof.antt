@@ -6,9 +6,9 @@ use denote.Ref.{now}
 use lib.IntN.{pos}
 use mir.Syntax.{w64}
 use mir.Facts.{toZ-ofZ}
-use Rattle.lexer.specs.Bytes.{bytes}
-use Rattle.chunks.proofs.Choices.{fieldsOf-length, fieldsOf-set, fieldsOf-unread, fieldsOf-read}
-use Rattle.chunks.proofs.Vocabulary.{chunk-other, chunk-again, chunk-took}
+use Rattle.text_bytes.specs.Bytes.{bytes}
+use Rattle.parse_cursor.proofs.Choices.{fieldsOf-length, fieldsOf-set, fieldsOf-unread, fieldsOf-read}
+use Rattle.parse_words.proofs.Vocabulary.{chunk-other, chunk-again, chunk-took}
 use Rattle.bac6_text.specs.Grammar.{materialKinds}
 use Rattle.bac6_parse.proofs.Materials.{material-words, material-apart, material-count, settled-set}
 use borrow.Author.Needs.{needs}

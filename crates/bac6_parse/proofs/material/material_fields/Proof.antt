@@ -5,24 +5,18 @@ use native.Mathlib.Omega.{arith}
 use borrow.Author.Tests.{not-true, not-false}
 use denote.Ref.{now}
 use lib.ListN.{length}
-use Rattle.lexer.specs.Tokens.{lexAt, lexeme}
-use Rattle.lexer.specs.Answers.{lexemeOf}
-use Rattle.chunks.specs.Fields.{fieldsIn, fieldsOf}
-use Rattle.chunks.specs.Cursors.{from}
-use Rattle.chunks.proofs.Steps.{passed, from-on}
-use Rattle.chunks.proofs.FieldSteps.{turn-full, turn-other, turn-chunk}
+use Rattle.text_tokens.specs.Tokens.{lexAt, lexeme}
+use Rattle.text_tokens.specs.Answers.{lexemeOf}
+use Rattle.parse_cursor.specs.Fields.{fieldsIn, fieldsOf}
+use Rattle.parse_cursor.specs.Cursors.{from}
+use Rattle.parse_cursor.proofs.Steps.{passed, from-on}
+use Rattle.parse_cursor.proofs.FieldSteps.{turn-full, turn-other, turn-chunk}
 use Rattle.bac6_text.specs.Grammar.{materialKinds}
 use Rattle.bac6_parse.specs.Into.{Settled}
 use Rattle.bac6_parse.proofs.Closings.{closed-turn, fields-count}
 use borrow.Author.Needs.{needs}
 use Rattle.bac6_parse.proofs.material.material_fields.Statement.{statement}
 use Rattle.bac6_parse.proofs.material.material_fields.Tie as tie
-use Rattle.bac6_parse.proofs.material.material_fields.Reads as reads
-use Rattle.bac6_parse.proofs.material.material_fields.Lts as lts
-use Rattle.bac6_parse.proofs.material.material_chunk.Reads as material-chunk-reads
-use Rattle.chunks.proofs.is_closing.Reads as is-closing-reads
-use Rattle.chunks.proofs.is_opening.Reads as is-opening-reads
-use Rattle.lexer.proofs.next.Reads as next-reads
 
 abbrev Inv-loop : tie.InvT-loop
 Inv-loop text at row₀ seen₀ from₀ left₀ needed row seen from left =

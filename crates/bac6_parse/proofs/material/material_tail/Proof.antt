@@ -1,6 +1,6 @@
 -- `material_tail` is a material's row, set down in the table.
 use mathlib.Core.Path.{_≡_, refl, ap, sym, _∙_}
-use Rattle.lexer.specs.Bytes.{bytes}
+use Rattle.text_bytes.specs.Bytes.{bytes}
 use Rattle.bac6_parse.proofs.Materials.{unread-fields, unread-settled, material-off, material-on}
 use borrow.Author.Needs.{needs}
 use Rattle.bac6_parse.proofs.material.material_tail.Statement.{statement}

@@ -1,11 +1,11 @@
 -- `material_value` reads what stands in the chunk of its column.
 use mathlib.Core.Path.{refl}
 use mathlib.Core.List.{[], _∷_}
-use Rattle.lexer.specs.Bytes.{bytes, inWord}
-use Rattle.chunks.specs.Answers.{formNamed}
-use Rattle.chunks.specs.Fields.{insideAt, kind}
-use Rattle.chunks.specs.Words.{words, onto}
-use Rattle.chunks.proofs.Vocabulary.{wordList}
+use Rattle.text_bytes.specs.Bytes.{bytes, inWord}
+use Rattle.parse_numbers.specs.Answers.{formNamed}
+use Rattle.parse_cursor.specs.Fields.{insideAt, kind}
+use Rattle.parse_words.specs.Words.{words, onto}
+use Rattle.parse_words.proofs.Vocabulary.{wordList}
 use Rattle.bac6_text.specs.Grammar.{materialKinds, blend, truth}
 use Rattle.bac6_parse.proofs.Closings.{close-join, close-word}
 use Rattle.bac6_parse.proofs.Materials.{inside-truth, inside-index, inside-level}

@@ -1,7 +1,7 @@
 -- `materials` is the first material and then the others.
 use mathlib.Core.Path.{refl}
-use Rattle.chunks.specs.Folds.{rowStep}
-use Rattle.chunks.proofs.Folds.{folded-first, row-stepped}
+use Rattle.parse_rows.specs.Folds.{rowStep}
+use Rattle.parse_rows.proofs.Folds.{folded-first, row-stepped}
 use Rattle.bac6_text.specs.Grammar.{material}
 use Rattle.bac6_parse.specs.Into.{materialTail, materialInto, materialsInto}
 use Rattle.bac6_parse.proofs.Materials.{material-opens}

@@ -5,12 +5,12 @@ use native.Mathlib.Omega.{arith}
 use borrow.Author.Needs.{needs}
 use denote.Ref.{now}
 use lib.ListN.{length}
-use Rattle.lexer.specs.Tokens.{lexAt}
-use Rattle.chunks.specs.Cursors.{reads, from}
-use Rattle.chunks.specs.Folds.{folded, stepped, rowStep}
-use Rattle.chunks.proofs.Steps.{passed}
-use Rattle.chunks.proofs.Counts.{lexAt-count}
-use Rattle.chunks.proofs.Folds.{folded-end, folded-more, folded-fall, row-stepped}
+use Rattle.text_tokens.specs.Tokens.{lexAt}
+use Rattle.parse_cursor.specs.Cursors.{reads, from}
+use Rattle.parse_rows.specs.Folds.{folded, stepped, rowStep}
+use Rattle.parse_cursor.proofs.Steps.{passed}
+use Rattle.parse_cursor.proofs.Counts.{lexAt-count}
+use Rattle.parse_rows.proofs.Folds.{folded-end, folded-more, folded-fall, row-stepped}
 use Rattle.bac6_text.specs.Grammar.{material}
 use Rattle.bac6_parse.specs.Into.{materialTail, materialInto}
 use Rattle.bac6_parse.proofs.Materials.{material-opens, material-keeps, material-takes}

@@ -1,10 +1,10 @@
 -- `read_front` is the front of a figure: its readers one after the other.
 use mathlib.Core.Path.{refl}
-use Rattle.lexer.specs.Bytes.{bytes}
-use Rattle.chunks.specs.Answers.{formNamed}
-use Rattle.chunks.specs.Cursors.{reads}
-use Rattle.chunks.specs.Readers.{head, opened}
-use Rattle.chunks.proofs.Steps.{join, seq}
+use Rattle.text_bytes.specs.Bytes.{bytes}
+use Rattle.parse_numbers.specs.Answers.{formNamed}
+use Rattle.parse_cursor.specs.Cursors.{reads}
+use Rattle.parse_cursor.specs.Readers.{head, opened}
+use Rattle.parse_cursor.proofs.Steps.{join, seq}
 use Rattle.bac6_parse.specs.Front.{frontInto, frontValue}
 use borrow.Author.Needs.{needs}
 use Rattle.bac6_parse.proofs.opening.read_front.Statement.{statement}

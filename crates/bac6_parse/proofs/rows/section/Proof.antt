@@ -1,9 +1,9 @@
 -- `section` goes by whether its chunk stands.
 use mathlib.Core.Bool.{Bool}
 use denote.Ref.{now}
-use Rattle.chunks.specs.Answers.{formNamed}
-use Rattle.chunks.specs.Cursors.{reads}
-use Rattle.chunks.proofs.Steps.{join}
+use Rattle.parse_numbers.specs.Answers.{formNamed}
+use Rattle.parse_cursor.specs.Cursors.{reads}
+use Rattle.parse_cursor.proofs.Steps.{join}
 use Rattle.bac6_parse.specs.Lists.{sectionInto, sectionOf}
 use borrow.Author.Needs.{needs}
 use Rattle.bac6_parse.proofs.rows.section.Statement.{statement}

@@ -2,7 +2,7 @@
 use mathlib.Core.Path.{_≡_, refl, sym}
 use borrow.Author.Needs.{needs}
 use denote.Ref.{now}
-use Rattle.lexer.specs.Answers.{refusal}
+use Rattle.refusal.specs.Answers.{refusal}
 use Rattle.bac6_text.specs.Rules.{wholeList, bonesFault}
 use Rattle.bac6_rules.specs.declared.bone.Walk.{Walk}
 use Rattle.bac6_rules.specs.Bones.{flagsIn, Walked}

@@ -4,8 +4,8 @@ use borrow.Author.Needs.{needs}
 use denote.Ref.{now}
 use lib.ListN.{getD}
 use lib.IntN.{pos}
-use Rattle.bac6_text.specs.Rules.{isRow}
-use Rattle.lexer.proofs.Tests.{tested, passed, failed}
+use Rattle.table_rows.specs.References.{isRow}
+use Rattle.text_numbers.proofs.Tests.{tested, passed, failed}
 use Rattle.bac6_rules.proofs.Faces.{uv-tests, fourth-none, fourth-is}
 use Rattle.bac6_rules.proofs.face.are_uvs.Statement.{statement}
 use Rattle.bac6_rules.proofs.face.are_uvs.Tie as tie

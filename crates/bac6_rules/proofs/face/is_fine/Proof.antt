@@ -4,8 +4,8 @@ use borrow.Author.Needs.{needs}
 use denote.Ref.{now}
 use lib.ListN.{getD}
 use lib.IntN.{pos}
-use Rattle.bac6_text.specs.Rules.{isRow}
-use Rattle.lexer.proofs.Tests.{tested, passed, failed, either, other}
+use Rattle.table_rows.specs.References.{isRow}
+use Rattle.text_numbers.proofs.Tests.{tested, passed, failed, either, other}
 use Rattle.bac6_rules.proofs.Faces.{face-tests}
 use Rattle.bac6_rules.proofs.face.is_fine.Statement.{statement}
 use Rattle.bac6_rules.proofs.face.is_fine.Tie as tie

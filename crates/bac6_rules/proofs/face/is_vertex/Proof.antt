@@ -1,7 +1,7 @@
 -- `is_vertex` is the test of the number that it holds.
 use borrow.Author.Needs.{needs}
-use Rattle.bac6_text.specs.Rules.{isRow}
-use Rattle.lexer.proofs.Tests.{tested}
+use Rattle.table_rows.specs.References.{isRow}
+use Rattle.text_numbers.proofs.Tests.{tested}
 use Rattle.bac6_rules.proofs.face.is_vertex.Statement.{statement}
 use Rattle.bac6_rules.proofs.face.is_vertex.Tie as tie
 

@@ -1,7 +1,7 @@
 -- `no_uv` is the test of the number that it holds.
 use borrow.Author.Needs.{needs}
-use Rattle.bac6_text.specs.Rules.{isNone}
-use Rattle.lexer.proofs.Tests.{tested}
+use Rattle.table_rows.specs.References.{isNone}
+use Rattle.text_numbers.proofs.Tests.{tested}
 use Rattle.bac6_rules.proofs.face.no_uv.Statement.{statement}
 use Rattle.bac6_rules.proofs.face.no_uv.Tie as tie
 

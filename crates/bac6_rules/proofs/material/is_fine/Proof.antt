@@ -5,8 +5,8 @@ use denote.Ref.{now}
 use lib.ListN.{getD}
 use lib.IntN.{pos}
 use Rattle.bac6_text.specs.Rules.{isLevel}
-use Rattle.references.specs.Index.{isIndex}
-use Rattle.lexer.proofs.Tests.{tested, passed, failed}
+use Rattle.table_rows.specs.Index.{isIndex}
+use Rattle.text_numbers.proofs.Tests.{tested, passed, failed}
 use Rattle.bac6_rules.proofs.Materials.{tests}
 use Rattle.bac6_rules.proofs.material.is_fine.Statement.{statement}
 use Rattle.bac6_rules.proofs.material.is_fine.Tie as tie

@@ -1,7 +1,7 @@
 -- `is_level` is the definition: a number below zero is no level, and any other is compared as it stands.
 use mathlib.Core.Path.{sym}
 use mir.Facts.{toZ-ofZ}
-use Rattle.lexer.proofs.Tests.{negative, natural}
+use Rattle.text_numbers.proofs.Tests.{negative, natural}
 use Rattle.bac6_rules.proofs.Materials.{negative-level, natural-level}
 use Rattle.bac6_rules.proofs.material.is_level.Statement.{statement}
 use Rattle.bac6_rules.proofs.material.is_level.Tie as tie

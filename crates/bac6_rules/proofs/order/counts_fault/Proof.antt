@@ -1,9 +1,9 @@
 -- `counts_fault` is the first of two faults, by the law of each branch.
 use mathlib.Core.Path.{sym, _∙_}
-use Rattle.lexer.specs.Answers.{refusal}
+use Rattle.refusal.specs.Answers.{refusal}
 use Rattle.bac6_text.specs.Rules.{mosts}
 use Rattle.bac6_rules.specs.Order.{countsIn, countsFault}
-use Rattle.chunks.proofs.Rules.{refused-by, clear-by, or-clear, or-fault}
+use Rattle.refusal.proofs.Rules.{refused-by, clear-by, or-clear, or-fault}
 use borrow.Author.Needs.{needs}
 use Rattle.bac6_rules.proofs.order.counts_fault.Statement.{statement}
 use Rattle.bac6_rules.proofs.order.counts_fault.Tie as tie

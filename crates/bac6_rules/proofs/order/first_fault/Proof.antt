@@ -1,7 +1,7 @@
 -- `first_fault` is the first of three groups of rules, and the bones are as `place_bones` leaves them, by the law of each branch.
 use mathlib.Core.Path.{refl, sym, _∙_}
-use Rattle.lexer.specs.Answers.{refusal}
-use Rattle.chunks.proofs.Rules.{refused-by, clear-by, or-clear, or-fault}
+use Rattle.refusal.specs.Answers.{refusal}
+use Rattle.refusal.proofs.Rules.{refused-by, clear-by, or-clear, or-fault}
 use Rattle.bac6_rules.proofs.Orders.{tables-parts, left-placed, left-same}
 use borrow.Author.Needs.{needs}
 use Rattle.bac6_rules.proofs.order.first_fault.Statement.{statement}

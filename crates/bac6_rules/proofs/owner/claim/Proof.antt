@@ -11,9 +11,9 @@ use lib.IntN.{pos, natAbs}
 use mir.Syntax.{w64}
 use mir.Val.{toZ, ofZ}
 use mir.Facts.{toZ-ofZ, fits-natAbs}
-use Rattle.bac6_text.specs.Rules.{isRow, isNone}
+use Rattle.table_rows.specs.References.{isRow, isNone}
 use Rattle.bac6_rules.specs.Claims.{isFree}
-use Rattle.lexer.proofs.Tests.{tested, passed, failed}
+use Rattle.text_numbers.proofs.Tests.{tested, passed, failed}
 use Rattle.bac6_rules.proofs.Owners.{free-tests, claim-free, claim-taken, row-natural, row-below, row-bits}
 use Rattle.bac6_rules.proofs.owner.claim.Statement.{statement}
 use Rattle.bac6_rules.proofs.owner.claim.Tie as tie

@@ -8,9 +8,9 @@ use borrow.Author.Tests.{not-true, not-false}
 use denote.Ref.{now}
 use lib.IntN.{ℤ, pos}
 use lib.ListN.{length, drop, replicate, length-replicate, length-append, length-take}
-use Rattle.chunks.specs.Fields.{isSome}
-use Rattle.chunks.specs.Outcomes.{accepted, fitted, laid}
-use Rattle.chunks.proofs.Rules.{refused-by, clear-by}
+use Rattle.parse_cursor.specs.Fields.{isSome}
+use Rattle.refusal.specs.Outcomes.{accepted, fitted, laid}
+use Rattle.refusal.proofs.Rules.{refused-by, clear-by}
 use Rattle.tra4_text.specs.Layout.{layoutOf}
 use Rattle.tra4_text.specs.Answer.{movementOutcome, movementAnswer, movementTable}
 use Rattle.tra4.specs.Answers.{answerOf}

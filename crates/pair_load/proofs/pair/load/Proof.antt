@@ -6,7 +6,7 @@ use native.Mathlib.Omega.{arith}
 use denote.Ref.{now}
 use lib.IntN.{ℤ, pos}
 use lib.ListN.{length, drop, replicate, length-replicate, length-append, length-take}
-use Rattle.chunks.specs.Outcomes.{accepted, fitted, laid}
+use Rattle.refusal.specs.Outcomes.{accepted, fitted, laid}
 use Rattle.bac6_text.specs.Layout.{layoutOf}
 use Rattle.bac6_text.specs.Answer.{figureOutcome, figureAnswer, tableAfter}
 use Rattle.bac6.specs.Answers.{answerOf}

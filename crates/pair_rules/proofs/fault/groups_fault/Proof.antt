@@ -6,8 +6,8 @@ use borrow.Author.Needs.{needs}
 use borrow.Author.Tests.{not-true, not-false}
 use mir.Syntax.{w64}
 use mir.Facts.{toZ-ofZ}
-use Rattle.lexer.specs.Answers.{refusal}
-use Rattle.bac6_text.specs.Rules.{isRow}
+use Rattle.refusal.specs.Answers.{refusal}
+use Rattle.table_rows.specs.References.{isRow}
 use Rattle.player.specs.Columns.{rowsAt}
 use Rattle.pair_text.specs.Rules.{groupsFault}
 use Rattle.pair_rules.proofs.Turns.{linesLeft, lines-all, lines-more, lines-bad, lines-end}

@@ -4,8 +4,8 @@ use Prim.Native.Nat.{_+_, _-_, _*_, _≤_}
 use native.Mathlib.Omega.{arith}
 use denote.Ref.{now}
 use lib.ListN.{length}
-use Rattle.lexer.specs.Answers.{refusal}
-use Rattle.chunks.proofs.Rules.{refused-by, clear-by}
+use Rattle.refusal.specs.Answers.{refusal}
+use Rattle.refusal.proofs.Rules.{refused-by, clear-by}
 use Rattle.player.proofs.Sampled.{movement-room}
 use Rattle.player.proofs.Indices.{part-length}
 use Rattle.pair_rules.proofs.Faults.{bones-differ, names-found, groups-found}

@@ -1,5 +1,5 @@
 -- `has_name` is whether the span is found.
-use Rattle.chunks.specs.Fields.{isSome}
+use Rattle.parse_cursor.specs.Fields.{isSome}
 use Rattle.player_label.specs.Answers.{found}
 use borrow.Author.Needs.{needs}
 use Rattle.pair_rules.proofs.names.has_name.Statement.{statement}

@@ -6,7 +6,7 @@ use native.Mathlib.Omega.{arith}
 use borrow.Author.Needs.{needs}
 use borrow.Author.Tests.{not-true, not-false}
 use denote.Ref.{now}
-use Rattle.chunks.specs.Fields.{isSome}
+use Rattle.parse_cursor.specs.Fields.{isSome}
 use Rattle.player.specs.Columns.{holdsFigure}
 use Rattle.player_label.specs.Names.{figureName}
 use Rattle.pair_bridge.specs.Names.{namesIn}

@@ -1,7 +1,7 @@
 -- `name_of` is the part that was found, by the enum's cases.
 use mathlib.Core.Path.{_∙_}
 use native.Mathlib.Omega.{arith}
-use Rattle.lexer.proofs.Parts.{part-none}
+use Rattle.text_bytes.proofs.Parts.{part-none}
 use Rattle.player_label.specs.Answers.{found}
 use Rattle.player_label.specs.Names.{partAt}
 use Rattle.player_label.specs.Labels.{orEmpty}

@@ -1,7 +1,7 @@
 -- `holds_figure` is the definition, by rule 8's answer; counts within their most make a small sum.
 use mathlib.Core.Path.{sym}
 use native.Mathlib.Omega.{arith}
-use Rattle.chunks.proofs.Rules.{refused-by, clear-by}
+use Rattle.refusal.proofs.Rules.{refused-by, clear-by}
 use Rattle.player.specs.Columns.{pointsBegin, bonesBegin, ownersBegin, uvsBegin, facesBegin}
 use Rattle.player.proofs.Mosts.{figure-within, figure-over, figure-held}
 use borrow.Author.Needs.{needs}

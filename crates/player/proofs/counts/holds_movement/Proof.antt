@@ -1,7 +1,7 @@
 -- `holds_movement` is the definition, by rule 8's answer; counts within their most make a small sum.
 use mathlib.Core.Path.{sym}
 use native.Mathlib.Omega.{arith}
-use Rattle.chunks.proofs.Rules.{refused-by, clear-by}
+use Rattle.refusal.proofs.Rules.{refused-by, clear-by}
 use Rattle.player.proofs.Mosts.{movement-within, movement-over, movement-held}
 use borrow.Author.Needs.{needs}
 use Rattle.player.proofs.counts.holds_movement.Statement.{statement}

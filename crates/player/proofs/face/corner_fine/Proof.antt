@@ -1,6 +1,6 @@
 -- `corner_fine` is the one test or the other.
-use Rattle.bac6_text.specs.Rules.{isRow, isNone}
-use Rattle.lexer.proofs.Tests.{tested}
+use Rattle.table_rows.specs.References.{isRow, isNone}
+use Rattle.text_numbers.proofs.Tests.{tested}
 use borrow.Author.Needs.{needs}
 use Rattle.player.proofs.face.corner_fine.Statement.{statement}
 use Rattle.player.proofs.face.corner_fine.Tie as tie

@@ -7,9 +7,9 @@ use lib.Dec.{ltb}
 use lib.IntN.{ℤ, pos}
 use lib.ListN.{length, getD, drop}
 use native.Mathlib.Omega.{arith}
-use Rattle.bac6_text.specs.Rules.{isRow, isNone}
+use Rattle.table_rows.specs.References.{isRow, isNone}
 use Rattle.player.specs.Lookups.{cornersFine}
-use Rattle.lexer.proofs.Tests.{tested, failed, passed}
+use Rattle.text_numbers.proofs.Tests.{tested, failed, passed}
 use Rattle.player.proofs.FaceRows.{corner-next, corners-end}
 use borrow.Author.Needs.{needs}
 use Rattle.player.proofs.face.corners_fine.Statement.{statement}

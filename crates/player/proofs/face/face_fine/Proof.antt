@@ -8,10 +8,10 @@ use mir.Syntax.{w64}
 use mir.Val.{SFits}
 use mir.Facts.{toZ-ofZ}
 use borrow.Author.Tests.{not-true, not-false}
-use Rattle.bac6_text.specs.Rules.{isRow}
-use Rattle.references.specs.Index.{isIndex}
+use Rattle.table_rows.specs.References.{isRow}
+use Rattle.table_rows.specs.Index.{isIndex}
 use Rattle.player.specs.Lookups.{sizeFine, cornersFine, allNone}
-use Rattle.lexer.proofs.Tests.{tested}
+use Rattle.text_numbers.proofs.Tests.{tested}
 use Rattle.player.proofs.Numbers.{natural-cast}
 use Rattle.player.proofs.FaceRows.{size-is, no-material, no-size, no-vertices, no-uvs, by-group}
 use borrow.Author.Needs.{needs}

@@ -5,9 +5,9 @@ use mathlib.Core.Bool.{_&&_}
 use mathlib.Core.Option.{some}
 use borrow.Author.Needs.{needs}
 use mir.Facts.{toZ-ofZ}
-use Rattle.bac6_text.specs.Rules.{isRow}
+use Rattle.table_rows.specs.References.{isRow}
 use Rattle.player.specs.Flags.{lineFine}
-use Rattle.lexer.proofs.Tests.{tested, failed, passed}
+use Rattle.text_numbers.proofs.Tests.{tested, failed, passed}
 use Rattle.player.proofs.PatternLines.{line-negative, line-late, line-falls, line-is}
 use Rattle.player.proofs.flags.line_fine.Statement.{statement}
 use Rattle.player.proofs.flags.line_fine.Tie as tie

@@ -2,7 +2,7 @@
 use mathlib.Core.Path.{refl}
 use native.Mathlib.Omega.{arith}
 use mir.Facts.{toZ-ofZ}
-use Rattle.lexer.proofs.Signed.{bits-pos}
+use Rattle.text_numbers.proofs.Signed.{bits-pos}
 use Rattle.player.proofs.Sizes.{first-fits, second-fits, sum-fits}
 use borrow.Author.Needs.{needs}
 use Rattle.player.proofs.line.weighted.Statement.{statement}

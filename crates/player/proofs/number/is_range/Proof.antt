@@ -1,7 +1,7 @@
 -- `is_range` is the definition, by its bounds.
 use mathlib.Core.Path.{sym, _∙_}
 use mir.Facts.{toZ-ofZ}
-use Rattle.lexer.proofs.Signed.{from-zero}
+use Rattle.text_numbers.proofs.Signed.{from-zero}
 use Rattle.player.proofs.Numbers.{natural-cast, some-number, range-first, range-count, range-beyond, range-within}
 use Rattle.player.proofs.number.is_range.Statement.{statement}
 use Rattle.player.proofs.number.is_range.Tie as tie

@@ -12,9 +12,9 @@ use mir.Facts.{toZ-ofZ}
 use native.Mathlib.Omega.{arith}
 use borrow.Author.Needs.{needs}
 use borrow.Author.Tests.{not-true, not-false}
-use Rattle.bac6_text.specs.Rules.{isNone}
-use Rattle.references.specs.Index.{isIndex}
-use Rattle.lexer.proofs.Tests.{tested}
+use Rattle.table_rows.specs.References.{isNone}
+use Rattle.table_rows.specs.Index.{isIndex}
+use Rattle.text_numbers.proofs.Tests.{tested}
 use Rattle.player.specs.Lookups.{ownerAt}
 use Rattle.player.specs.Rows.{ownedIn}
 use Rattle.player.specs.Answers.{visible}

@@ -11,7 +11,7 @@ use mir.Val.{SFits}
 use mir.Facts.{toZ-ofZ}
 use native.Mathlib.Omega.{arith}
 use borrow.Author.Tests.{not-true, not-false}
-use Rattle.lexer.proofs.Tests.{tested}
+use Rattle.text_numbers.proofs.Tests.{tested}
 use Rattle.player.specs.Lookups.{sizeFine, cornersFine}
 use Rattle.player.specs.Rows.{ownedIn}
 use Rattle.player.specs.Answers.{visible}

@@ -1,7 +1,7 @@
 -- `follows` is the definition, by its bounds.
 use mathlib.Core.Path.{sym, _∙_}
 use mir.Facts.{toZ-ofZ}
-use Rattle.lexer.proofs.Signed.{from-zero}
+use Rattle.text_numbers.proofs.Signed.{from-zero}
 use Rattle.player.proofs.Numbers.{natural-cast}
 use Rattle.player.proofs.Follows.{follow-negative, follow-late, follow-is}
 use Rattle.player.proofs.pass.follows.Statement.{statement}

@@ -1,8 +1,8 @@
 -- `point_fine` is the test of each number in turn.
 use mathlib.Core.Path.{_≡_, sym, _∙_}
-use Rattle.references.specs.Index.{isIndex}
+use Rattle.table_rows.specs.Index.{isIndex}
 use Rattle.player.specs.Lookups.{isFloat}
-use Rattle.lexer.proofs.Tests.{tested, failed, passed}
+use Rattle.text_numbers.proofs.Tests.{tested, failed, passed}
 use Rattle.player.proofs.FaceRows.{point-tests}
 use borrow.Author.Needs.{needs}
 use Rattle.player.proofs.point.point_fine.Statement.{statement}

@@ -2,7 +2,7 @@
 use mathlib.Core.Path.{_≡_, sym, _∙_}
 use mathlib.Core.Bool.{true, _&&_}
 use Rattle.player.specs.Lookups.{isFloat, allFloat}
-use Rattle.lexer.proofs.Tests.{tested, failed, passed}
+use Rattle.text_numbers.proofs.Tests.{tested, failed, passed}
 use Rattle.player.proofs.FaceRows.{and-last}
 use borrow.Author.Needs.{needs}
 use Rattle.player.proofs.point.uv_fine.Statement.{statement}

@@ -11,10 +11,10 @@ use mir.Syntax.{w64}
 use mir.Val.{SFits}
 use mir.Facts.{toZ-ofZ}
 use borrow.Author.Tests.{not-true, not-false}
-use Rattle.bac6_text.specs.Rules.{isNone}
-use Rattle.references.specs.Index.{isIndex}
-use Rattle.lexer.proofs.Tests.{tested}
-use Rattle.references.proofs.Numbers.{index-row}
+use Rattle.table_rows.specs.References.{isNone}
+use Rattle.table_rows.specs.Index.{isIndex}
+use Rattle.text_numbers.proofs.Tests.{tested}
+use Rattle.table_rows.proofs.Numbers.{index-row}
 use Rattle.player.specs.Rows.{bothShown}
 use Rattle.player.specs.Answers.{visible}
 use Rattle.player.proofs.Numbers.{natural-cast}

@@ -12,7 +12,7 @@ use mir.Facts.{toZ-ofZ}
 use native.Mathlib.Omega.{arith}
 use borrow.Author.Tests.{not-true, not-false}
 use Rattle.tra4_text.specs.Movement.{Pattern}
-use Rattle.lexer.proofs.Tests.{tested}
+use Rattle.text_numbers.proofs.Tests.{tested}
 use Rattle.player.specs.Columns.{numberAt, rowsAt, keysBegin, patternsBegin, holdsMovement, facesBegin, holdsFigure}
 use Rattle.player.specs.Lookups.{isAsked, faceAt, patternRows}
 use Rattle.player.specs.Rows.{rowShown}

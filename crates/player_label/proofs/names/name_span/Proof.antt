@@ -1,6 +1,6 @@
 -- `name_span` is the definition, by its tests on the pair.
 use mir.Facts.{toZ-ofZ}
-use Rattle.lexer.proofs.Signed.{from-zero}
+use Rattle.text_numbers.proofs.Signed.{from-zero}
 use Rattle.player.proofs.Numbers.{natural-cast}
 use Rattle.player_label.specs.Answers.{found}
 use Rattle.player_label.proofs.Spans.{end-fits, place-below, length-below, length-over, end-over, end-within}

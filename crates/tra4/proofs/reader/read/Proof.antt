@@ -2,10 +2,10 @@
 use mathlib.Core.Path.{refl, ap, sym, _∙_}
 use lib.ListN.{length}
 use denote.Ref.{now}
-use Rattle.lexer.specs.Answers.{formatNamed}
-use Rattle.chunks.specs.Outcomes.{fitted, laid}
-use Rattle.chunks.proofs.Outcomes.{text-short, text-refused, text-clear}
-use Rattle.chunks.proofs.Rules.{refused-by, clear-by}
+use Rattle.text_check.specs.Answers.{formatNamed}
+use Rattle.refusal.specs.Outcomes.{fitted, laid}
+use Rattle.parse_text.proofs.Outcomes.{text-short, text-refused, text-clear}
+use Rattle.refusal.proofs.Rules.{refused-by, clear-by}
 use Rattle.tra4_text.specs.Layout.{layoutOf}
 use Rattle.tra4_text.specs.Answer.{movementOutcome, movementAnswer, movementTable}
 use Rattle.tra4.specs.Answers.{answerOf}

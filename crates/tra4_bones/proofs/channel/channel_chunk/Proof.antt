@@ -1,5 +1,5 @@
 -- `channel_chunk` reads the channel of its keyword: by the keyword's row in the list, and whether that channel has been read.
-use Rattle.lexer.specs.Bytes.{bytes}
+use Rattle.text_bytes.specs.Bytes.{bytes}
 use Rattle.tra4_bones.proofs.Reading.{chunk-unknown, chunk-twice, chunk-new}
 use borrow.Author.Needs.{needs}
 use Rattle.tra4_bones.proofs.channel.channel_chunk.Statement.{statement}

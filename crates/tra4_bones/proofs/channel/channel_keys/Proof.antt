@@ -2,9 +2,9 @@
 use Prim.Native.Nat.{_<_, _^_}
 use native.Mathlib.Omega.{arith}
 use denote.Ref.{now}
-use Rattle.lexer.specs.Bytes.{bytes}
-use Rattle.lexer.proofs.Signed.{bits-pos}
-use Rattle.chunks.specs.Answers.{formNamed}
+use Rattle.text_bytes.specs.Bytes.{bytes}
+use Rattle.text_numbers.proofs.Signed.{bits-pos}
+use Rattle.parse_numbers.specs.Answers.{formNamed}
 use Rattle.tra4_bones.proofs.Holding.{second-below}
 use Rattle.tra4_bones.proofs.Reading.{keys-refused, keys-over, keys-many, keys-more}
 use borrow.Author.Needs.{needs}

@@ -4,8 +4,8 @@ use Prim.Native.Nat.{_-_}
 use borrow.Author.Needs.{needs}
 use borrow.Author.Tests.{not-true, not-false}
 use lib.ListN.{length}
-use Rattle.lexer.specs.Tokens.{lexeme}
-use Rattle.lexer.specs.Answers.{lexemeOf}
+use Rattle.text_tokens.specs.Tokens.{lexeme}
+use Rattle.text_tokens.specs.Answers.{lexemeOf}
 use Rattle.tra4_bones.proofs.Turns.{Midway, midway-start, midway-sizes, turn-ends, turn-none, turn-stray, turn-on, turn-off}
 use Rattle.tra4_bones.proofs.channel.channels.Statement.{statement}
 use Rattle.tra4_bones.proofs.channel.channels.Tie as tie

@@ -9,8 +9,8 @@ use lib.IntN.{ℤ, pos, natAbs}
 use lib.ListN.{getD, set}
 use mir.Syntax.{w64}
 use mir.Val.{toZ, ofZ}
-use Rattle.lexer.proofs.Signed.{bits-pos, pos-fits}
-use Rattle.chunks.specs.Cursors.{overlayAt}
+use Rattle.text_numbers.proofs.Signed.{bits-pos, pos-fits}
+use Rattle.table_rows.specs.Overlay.{overlayAt}
 use Rattle.tra4_bones.specs.Laying.{magnitude}
 use Rattle.tra4_bones.proofs.Ranges.{cast-is, cast-fits, part-is}
 use Rattle.tra4_bones.proofs.laying.lay_range.Statement.{statement}

@@ -1,5 +1,5 @@
 -- `bones` is ( and keyword, the first bone, and then those after it.
-use Rattle.lexer.specs.Bytes.{bytes}
+use Rattle.text_bytes.specs.Bytes.{bytes}
 use Rattle.tra4_bones.proofs.Lists.{bones-from}
 use borrow.Author.Needs.{needs}
 use Rattle.tra4_bones.proofs.list.bones.Statement.{statement}

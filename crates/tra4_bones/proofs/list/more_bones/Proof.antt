@@ -6,11 +6,11 @@ use native.Mathlib.Omega.{arith}
 use borrow.Author.Needs.{needs}
 use denote.Ref.{now}
 use lib.ListN.{length}
-use Rattle.lexer.specs.Bytes.{bytes}
-use Rattle.lexer.specs.Tokens.{lexAt}
-use Rattle.chunks.specs.Cursors.{from}
-use Rattle.chunks.proofs.Steps.{passed}
-use Rattle.chunks.proofs.Counts.{lexAt-count, lexAt-some}
+use Rattle.text_bytes.specs.Bytes.{bytes}
+use Rattle.text_tokens.specs.Tokens.{lexAt}
+use Rattle.parse_cursor.specs.Cursors.{from}
+use Rattle.parse_cursor.proofs.Steps.{passed}
+use Rattle.parse_cursor.proofs.Counts.{lexAt-count, lexAt-some}
 use Rattle.tra4_text.specs.Grammar.{bone}
 use Rattle.tra4_bones.specs.Into.{kept, boneStep, moreInto}
 use Rattle.tra4_bones.proofs.Repeats.{repeats-end, repeats-more, repeats-refused, repeats-fall, start-falls}

@@ -1,8 +1,8 @@
 -- `pattern_tail` sets down two numbers and the row of one of two words.
 use mir.Syntax.{w64}
 use mir.Facts.{toZ-ofZ}
-use Rattle.lexer.specs.Bytes.{bytes}
-use Rattle.chunks.specs.Answers.{formNamed}
+use Rattle.text_bytes.specs.Bytes.{bytes}
+use Rattle.parse_numbers.specs.Answers.{formNamed}
 use Rattle.tra4_parse.proofs.Patterns.{pattern-read}
 use borrow.Author.Needs.{needs}
 use Rattle.tra4_parse.proofs.pattern.pattern_tail.Statement.{statement}

@@ -1,5 +1,5 @@
 -- `patterns` reads the lines where there are any.
-use Rattle.lexer.specs.Bytes.{bytes}
+use Rattle.text_bytes.specs.Bytes.{bytes}
 use Rattle.tra4_parse.proofs.Patterns.{patterns-some, patterns-none}
 use borrow.Author.Needs.{needs}
 use Rattle.tra4_parse.proofs.pattern.patterns.Statement.{statement}

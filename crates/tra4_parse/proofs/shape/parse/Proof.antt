@@ -2,13 +2,13 @@
 use mathlib.Core.Path.{refl, _∙_}
 use mir.Syntax.{w64}
 use mir.Facts.{toZ-ofZ}
-use Rattle.lexer.specs.Bytes.{bytes}
-use Rattle.chunks.specs.Readers.{head, opened}
-use Rattle.chunks.specs.Cursors.{reads}
-use Rattle.chunks.specs.Answers.{formNamed}
-use Rattle.chunks.proofs.Counts.{whole-text}
-use Rattle.chunks.proofs.Steps.{seq, join}
-use Rattle.chunks.proofs.Binds.{closed-at}
+use Rattle.text_bytes.specs.Bytes.{bytes}
+use Rattle.parse_cursor.specs.Readers.{head, opened}
+use Rattle.parse_cursor.specs.Cursors.{reads}
+use Rattle.parse_numbers.specs.Answers.{formNamed}
+use Rattle.parse_cursor.proofs.Counts.{whole-text}
+use Rattle.parse_cursor.proofs.Steps.{seq, join}
+use Rattle.parse_cursor.proofs.Binds.{closed-at}
 use Rattle.tra4_parse.specs.Parse.{movementValue, movementInto}
 use borrow.Author.Needs.{needs}
 use Rattle.tra4_parse.proofs.shape.parse.Statement.{statement}

@@ -12,7 +12,7 @@ use lib.ListN.{length, take, drop}
 use mir.Syntax.{w64}
 use mir.Val.{toZ}
 use mir.Facts.{toZ-ofZ}
-use Rattle.lexer.specs.Answers.{refusal}
+use Rattle.refusal.specs.Answers.{refusal}
 use Rattle.tra4_text.specs.Rules.{framesFault}
 use Rattle.tra4_rules.specs.Rows.{rowsOf}
 use Rattle.tra4_rules.specs.Frames.{widthOf, numberOf, rowFine, beforeOf}

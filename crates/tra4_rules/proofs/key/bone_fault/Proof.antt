@@ -10,14 +10,14 @@ use lib.ListN.{length, drop}
 use mir.Syntax.{w64}
 use mir.Val.{toZ}
 use mir.Facts.{toZ-ofZ}
-use Rattle.lexer.specs.Answers.{refusal}
-use Rattle.chunks.specs.Rules.{orElse}
+use Rattle.refusal.specs.Answers.{refusal}
+use Rattle.refusal.specs.Rules.{orElse}
 use Rattle.tra4_text.specs.Rules.{framesFault, keyFine}
 use Rattle.tra4_rules.specs.Rows.{rowsOf}
 use Rattle.tra4_rules.specs.Keys.{pairCounts, boneCounts, keysFrom, Walked}
 use Rattle.tra4_rules.proofs.Frames.{keys-frames}
 use Rattle.tra4_rules.proofs.Keys.{pairs-more, pairs-end, bone-counts, keys-step}
-use Rattle.chunks.proofs.Rules.{refused-by, clear-by, or-clear, or-fault}
+use Rattle.refusal.proofs.Rules.{refused-by, clear-by, or-clear, or-fault}
 use Rattle.tra4_rules.proofs.key.bone_fault.Statement.{statement}
 use Rattle.tra4_rules.proofs.key.bone_fault.Tie as tie
 

@@ -9,7 +9,7 @@ use lib.ListN.{length, take, drop}
 use mir.Syntax.{w64}
 use mir.Val.{toZ}
 use mir.Facts.{toZ-ofZ}
-use Rattle.lexer.specs.Answers.{refusal}
+use Rattle.refusal.specs.Answers.{refusal}
 use Rattle.tra4_text.specs.Rules.{keysFault}
 use Rattle.tra4_rules.specs.Keys.{boneCounts, keyCounts, channelsIn, keysFrom, Walked}
 use Rattle.tra4_rules.proofs.Tables.{row-part, row-length}

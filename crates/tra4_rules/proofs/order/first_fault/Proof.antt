@@ -4,13 +4,13 @@ use mathlib.Core.List.{[], _∷_}
 use borrow.Author.Needs.{needs}
 use denote.Ref.{now}
 use mir.Facts.{toZ-ofZ}
-use Rattle.lexer.specs.Faults.{clear}
-use Rattle.lexer.specs.Answers.{refusal}
-use Rattle.chunks.specs.Rules.{tooMany}
+use Rattle.refusal.specs.Faults.{clear}
+use Rattle.refusal.specs.Answers.{refusal}
+use Rattle.refusal.specs.Rules.{tooMany}
 use Rattle.tra4_text.specs.Rules.{mosts, totalFault, keysFault}
 use Rattle.tra4_rules.specs.Keys.{channelsIn}
 use Rattle.tra4_rules.specs.Order.{tablesFault}
-use Rattle.chunks.proofs.Rules.{refused-by, clear-by, or-clear, or-fault}
+use Rattle.refusal.proofs.Rules.{refused-by, clear-by, or-clear, or-fault}
 use Rattle.tra4_rules.proofs.order.first_fault.Statement.{statement}
 use Rattle.tra4_rules.proofs.order.first_fault.Tie as tie
 

@@ -1,6 +1,6 @@
 -- `decimal`: a magnitude below 2 ^ 63 fits with either sign.
 use lib.IntN.{pos}
-use Rattle.lexer.proofs.Signed.{neg-fits, zero-minus, bits-pos}
+use Rattle.text_numbers.proofs.Signed.{neg-fits, zero-minus, bits-pos}
 use borrow.Author.Needs.{needs}
 use Rattle.vectors.proofs.record.decimal.Statement.{statement}
 use Rattle.vectors.proofs.record.decimal.Tie as tie

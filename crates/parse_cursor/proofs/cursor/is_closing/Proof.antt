@@ -1,0 +1,56 @@
+-- `is_closing` is the test at each kind.
+use Rattle.text_tokens.specs.Answers.{tokenOf}
+use Rattle.parse_cursor.specs.Readers.{isClosing}
+use borrow.Author.Needs.{needs}
+use Rattle.parse_cursor.proofs.cursor.is_closing.Statement.{statement}
+use Rattle.parse_cursor.proofs.cursor.is_closing.Tie as tie
+
+enum-told : tie.Need-enum-told
+enum-told c = search needs
+
+enum-told-2 : tie.Need-enum-told-2
+enum-told-2 c = search needs
+
+enum-told-3 : tie.Need-enum-told-3
+enum-told-3 c = search needs
+
+enum-told-4 : tie.Need-enum-told-4
+enum-told-4 c = search needs
+
+enum-told-5 : tie.Need-enum-told-5
+enum-told-5 c = search needs
+
+returns : tie.Need-returns
+unfolding isClosing tokenOf
+returns c = λ bs. rw (c .enum-told .given .1)
+
+returns-2 : tie.Need-returns-2
+unfolding isClosing tokenOf
+returns-2 c = λ bs. rw (c .enum-told2 .given .1)
+
+returns-3 : tie.Need-returns-3
+unfolding isClosing tokenOf
+returns-3 c = λ bs. rw (c .enum-told3 .given .1)
+
+returns-4 : tie.Need-returns-4
+unfolding isClosing tokenOf
+returns-4 c = λ bs. rw (c .enum-told4 .given .1)
+
+returns-5 : tie.Need-returns-5
+unfolding isClosing tokenOf
+returns-5 c = λ bs. rw (c .enum-told5 .given .1)
+
+pub is-closing-spec : {M : Type 1} → statement M
+is-closing-spec =
+    tie.close
+    (tie.spec
+    enum-told
+    enum-told-2
+    enum-told-3
+    enum-told-4
+    enum-told-5
+    returns
+    returns-2
+    returns-3
+    returns-4
+    returns-5)

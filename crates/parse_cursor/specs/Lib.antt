@@ -1,0 +1,7 @@
+pub mod Branches
+pub mod Cursors
+pub mod Fields
+pub mod Names
+pub mod Places
+pub mod Readers
+pub mod Tokens

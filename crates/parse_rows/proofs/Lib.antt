@@ -1,0 +1,5 @@
+-- Laws that belong to no one function.
+pub mod Folds
+pub mod Into
+pub mod RowCounts
+pub mod Widths

@@ -1,0 +1,8 @@
+// Rows of numbers, written to a lent table.
+mod lists;
+
+pub use lists::Counted;
+pub use lists::numbers;
+pub use lists::row;
+pub use lists::rows;
+pub use lists::some_rows;

@@ -1,0 +1,148 @@
+// Numbers and rows, written to a lent table. What a table holds after a refusal is left open.
+ghost use mathlib.Core.Path.{_≡_};
+ghost use Rattle.parse_cursor.specs.Cursors.{reads, from};
+ghost use Rattle.parse_numbers.specs.Answers.{formNamed};
+ghost use Rattle.parse_rows.specs.Into.{numbersInto, rowInto, rowTail, rowsInto, someInto};
+use parse_cursor::Cursor;
+use parse_cursor::closing;
+use parse_cursor::keyword;
+use parse_cursor::opening;
+use parse_numbers::Form;
+use parse_numbers::next_item;
+use parse_numbers::number;
+use table_rows::advance;
+
+// `width` numbers, to the table from index `at` on; those past its end are dropped.
+// Where the cursor has refused, what the table holds is free.
+pub fn numbers(
+    text: &[u8],
+    c: Cursor,
+    form: Form,
+    width: usize,
+    out: &mut [i64],
+    at: usize,
+) -> Cursor
+    ensures { λ r. ⌜ reads (now (text .entry)) r (now (out .exit)) ≡ from (now (text .entry)) c (numbersInto (formNamed form) width at (now (out .entry))) ⌝ }
+{
+    let mut d = c;
+    let mut i = at;
+    let mut left = width;
+    while 0 < left {
+        let n = number(text, d, form);
+        d = n.cursor;
+        if d.refusal != 0 {
+            return d;
+        }
+        let value = n.value;
+        left -= 1;
+        if i < out.len() {
+            out[i] = value;
+            i += 1;
+        }
+    }
+    d
+}
+
+// What stands in a row after its (: a keyword, `lead` INT numbers, `width` of a form, and ).
+fn row_tail(
+    text: &[u8],
+    c: Cursor,
+    word: &[u8],
+    lead: usize,
+    form: Form,
+    width: usize,
+    out: &mut [i64],
+    at: usize,
+) -> Cursor
+    ensures { λ r. ⌜ reads (now (text .entry)) r (now (out .exit)) ≡ from (now (text .entry)) c (rowTail (now (word .entry)) lead (formNamed form) width at (now (out .entry))) ⌝ }
+{
+    let d = numbers(text, keyword(text, c, word), Form::Int, lead, out, at);
+    let i = advance(at, lead, out.len());
+    closing(text, numbers(text, d, form, width, out, i))
+}
+
+// ( a keyword, `lead` INT numbers, `width` of a form, and ), the numbers to the table from index `at` on.
+// Where the cursor has refused, what the table holds is free.
+pub fn row(
+    text: &[u8],
+    c: Cursor,
+    word: &[u8],
+    lead: usize,
+    form: Form,
+    width: usize,
+    out: &mut [i64],
+    at: usize,
+) -> Cursor
+    ensures { λ r. ⌜ reads (now (text .entry)) r (now (out .exit)) ≡ from (now (text .entry)) c (rowInto (now (word .entry)) lead (formNamed form) width at (now (out .entry))) ⌝ }
+{
+    row_tail(text, opening(text, c), word, lead, form, width, out, at)
+}
+
+// How many rows were read, and a cursor past the list; where the cursor has refused, the count is free.
+pub struct Counted {
+    pub cursor: Cursor,
+    pub count: usize,
+}
+
+// Rows up to ), one after the other to the table from index `at` on; numbers past its end are dropped.
+// Where the cursor has refused, what the table holds is free.
+pub fn rows(
+    text: &[u8],
+    c: Cursor,
+    word: &[u8],
+    lead: usize,
+    form: Form,
+    width: usize,
+    out: &mut [i64],
+    at: usize,
+) -> Counted
+    ensures { λ r. ⌜ reads (now (text .entry)) (r .cursor) (r .count, now (out .exit)) ≡ from (now (text .entry)) c (rowsInto (now (word .entry)) lead (formNamed form) width at (now (out .entry))) ⌝ }
+{
+    let mut d = c;
+    let mut i = at;
+    let mut count = 0;
+    loop {
+        let item = next_item(text, d);
+        let start = item.cursor;
+        if item.ended {
+            return Counted {
+                cursor: start,
+                count,
+            };
+        }
+        d = row_tail(text, start, word, lead, form, width, out, i);
+        if d.refusal != 0 {
+            return Counted { cursor: d, count };
+        }
+        count += 1;
+        let n = out.len();
+        i = advance(advance(i, lead, n), width, n);
+    }
+}
+
+// One row or more, likewise.
+pub fn some_rows(
+    text: &[u8],
+    c: Cursor,
+    word: &[u8],
+    lead: usize,
+    form: Form,
+    width: usize,
+    out: &mut [i64],
+    at: usize,
+) -> Counted
+    ensures { λ r. ⌜ reads (now (text .entry)) (r .cursor) (r .count, now (out .exit)) ≡ from (now (text .entry)) c (someInto (now (word .entry)) lead (formNamed form) width at (now (out .entry))) ⌝ }
+{
+    let first = row(text, c, word, lead, form, width, out, at);
+    let n = out.len();
+    let i = advance(advance(at, lead, n), width, n);
+    let more = rows(text, first, word, lead, form, width, out, i);
+    let d = more.cursor;
+    if d.refusal != 0 {
+        return more;
+    }
+    Counted {
+        cursor: d,
+        count: more.count + 1,
+    }
+}

@@ -1,0 +1,7 @@
+-- A refusal's number and its place, or none.
+use Prim.Native.Nat.{ℕ}
+
+-- a refusal's number and its offset (01's "place"), or none
+pub data Fault : Type 0 where
+  clear : Fault
+  fault : ℕ → ℕ → Fault

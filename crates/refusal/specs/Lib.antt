@@ -1,0 +1,5 @@
+pub mod Answers
+pub mod Faults
+pub mod FirstBad
+pub mod Outcomes
+pub mod Rules

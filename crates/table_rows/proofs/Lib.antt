@@ -1,0 +1,5 @@
+-- Laws that belong to no one function.
+pub mod Chains
+pub mod Numbers
+pub mod Stores
+pub mod Tables

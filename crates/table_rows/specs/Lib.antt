@@ -1,0 +1,4 @@
+pub mod Flat
+pub mod Index
+pub mod Overlay
+pub mod References

@@ -1,0 +1,4 @@
+-- Laws that belong to no one function.
+pub mod Every
+pub mod Parts
+pub mod Runs

@@ -1,0 +1,301 @@
+-- Laws of digits, their values and the words that they make.
+use mathlib.Core.Path.{_≡_, refl, ap, sym, _∙_}
+use mathlib.Core.List.{List, [], _∷_, _++_}
+use mathlib.Core.Bool.{Bool, true, false, cond, _&&_, false≢true}
+use Prim.Native.Nat.{ℕ, zero, suc, _+_, _-_, _*_, _^_, _≤_, _<_}
+use native.Mathlib.Nat.{add-sub-cancel-left, one-mul, mul-assoc, pow-zero, pow-succ', mul-le-mul-right, mul-lt-mul-of-pos-right, pow-le-pow-right, lt-of-lt-of-le}
+use native.Mathlib.Omega.{arith}
+use borrow.Author.Tests.{leb-true, leb-false, le-leb, lt-leb, eq-eqb, ne-eqb}
+use lib.Pow.{pow-add}
+use lib.Dec.{leb, eqb}
+use lib.ListN.{length, take, drop, getD, length-drop, drop-of-length-le}
+use lib.Seq.{drop-cons, drop-drop, take-all}
+use lib.IntN.{ℤ, pos, negsuc, negℤ}
+use Rattle.text_bytes.specs.Bytes.{between, isDigit, run, part}
+use Rattle.text_bytes.proofs.Runs.{run-yes, run-no, run-take, run-within}
+use Rattle.text_bytes.proofs.Parts.{part-none}
+use Rattle.text_numbers.specs.Numbers.{Number, value, beyond, wrong, Form, INT, FLOAT, decimalFrom, decimal, allDigits, notEmpty, signed, intMost, intOf, millionths, floatOf, numberFrom, afterDigits, unsigned, negative, magnitude, numberOf, inForm}
+
+pub negative-none : (word : List ℕ) → length word ≡ 0 → negative word ≡ false
+unfolding negative
+negative-none [] e = refl
+negative-none (b ∷ bs) e = absurd (omega arith)
+
+pub negative-some : (word : List ℕ) → negative word ≡ true → 0 < length word
+unfolding negative
+negative-some [] e = absurd (false≢true e)
+negative-some (b ∷ bs) e = omega arith
+
+pub negative-first : (word : List ℕ) → 0 < length word → negative word ≡ eqb (getD word 0 0) 45
+unfolding negative
+negative-first [] h = absurd (omega arith)
+negative-first (b ∷ bs) h = refl
+
+-- ---- digits
+
+pub and-true : (a b : Bool) → (a && b) ≡ true → (a ≡ true) × (b ≡ true)
+and-true true b e = (refl, e)
+and-true false b e = absurd (false≢true e)
+
+pub between-true : (low high b : ℕ) → between low high b ≡ true → (low ≤ b) × (b ≤ high)
+unfolding between
+between-true low high b e = let p = and-true (leb low b) (leb b high) e in (leb-true _ _ (p .0), leb-true _ _ (p .1))
+
+pub digit-range : (b : ℕ) → isDigit b ≡ true → (48 ≤ b) × (b ≤ 57)
+unfolding isDigit
+digit-range b e = between-true 48 57 b e
+
+pub digits-at : (bs : List ℕ) (i : ℕ) → allDigits bs ≡ true → i < length bs → isDigit (getD bs i 0) ≡ true
+unfolding allDigits
+digits-at [] i e h = absurd (omega arith)
+digits-at (b ∷ bs) zero e h = and-true (isDigit b) (allDigits bs) e .0
+digits-at (b ∷ bs) (suc i) e h = digits-at bs i (and-true (isDigit b) (allDigits bs) e .1) (omega arith)
+
+pub digits-take : (k : ℕ) (bs : List ℕ) → allDigits bs ≡ true → allDigits (take k bs) ≡ true
+unfolding allDigits
+digits-take zero bs e = refl
+digits-take (suc k) [] e = refl
+digits-take (suc k) (b ∷ bs) e = let p = and-true (isDigit b) (allDigits bs) e in rw (p .0, digits-take k bs (p .1))
+
+pub digits-run : (bs : List ℕ) → allDigits (run isDigit bs) ≡ true
+unfolding allDigits run
+digits-run [] = refl
+digits-run (b ∷ bs) = go (isDigit b) refl (digits-run bs)
+  where
+    go : (v : Bool) → isDigit b ≡ v → allDigits (run isDigit bs) ≡ true → allDigits (run isDigit (b ∷ bs)) ≡ true
+    go true e h = rw (run-yes isDigit b bs e, e, h)
+    go false e h = rw (run-no isDigit b bs e)
+
+-- where the run stops before the end, not all are digits
+pub digits-short : (bs : List ℕ) → length (run isDigit bs) < length bs → allDigits bs ≡ false
+unfolding allDigits run
+digits-short [] h = absurd (omega arith)
+digits-short (b ∷ bs) h = go (isDigit b) refl (digits-short bs)
+  where
+    go : (v : Bool) → isDigit b ≡ v → (length (run isDigit bs) < length bs → allDigits bs ≡ false) → allDigits (b ∷ bs) ≡ false
+    go true e f = rw (e, f (let h′ = rw (run-yes isDigit b bs e) at h in omega arith))
+    go false e f = rw e
+
+-- ---- the value of digits
+
+decimalFrom-snoc : (n : ℕ) (bs : List ℕ) (b : ℕ) → decimalFrom n (bs ++ (b ∷ [])) ≡ decimalFrom n bs * 10 + (b - 48)
+unfolding decimalFrom
+decimalFrom-snoc n [] b = refl
+decimalFrom-snoc n (d ∷ bs) b = decimalFrom-snoc (n * 10 + (d - 48)) bs b
+
+pub decimal-snoc : (bs : List ℕ) (b : ℕ) → decimal (bs ++ (b ∷ [])) ≡ decimal bs * 10 + (b - 48)
+unfolding decimal
+decimal-snoc bs b = decimalFrom-snoc 0 bs b
+
+decimalFrom-bound : (n : ℕ) (bs : List ℕ) → allDigits bs ≡ true → decimalFrom n bs < suc n * 10 ^ length bs
+unfolding decimalFrom allDigits
+decimalFrom-bound n [] e = rw (pow-zero 10) (omega arith)
+decimalFrom-bound n (b ∷ bs) e =
+    let p = and-true (isDigit b) (allDigits bs) e in
+    let d = digit-range b (p .0) in
+    let h = decimalFrom-bound (n * 10 + (b - 48)) bs (p .1) in
+    let k : suc (n * 10 + (b - 48)) ≤ suc n * 10 = omega arith in
+    lt-of-lt-of-le h (rw (pow-succ' 10 (length bs), ← mul-assoc (suc n) 10 (10 ^ length bs)) (mul-le-mul-right (10 ^ length bs) k))
+
+pub decimal-bound : (bs : List ℕ) → allDigits bs ≡ true → decimal bs < 10 ^ length bs
+unfolding decimal
+decimal-bound bs e = rw (one-mul (10 ^ length bs)) at (decimalFrom-bound 0 bs e)
+
+-- at most k digits are below 10 ^ k
+pub decimal-below : (bs : List ℕ) (k : ℕ) → allDigits bs ≡ true → length bs ≤ k → decimal bs < 10 ^ k
+decimal-below bs k e h = lt-of-lt-of-le (decimal-bound bs e) (pow-le-pow-right (omega arith) h)
+
+-- ---- words, by their sign and the digits from `start` to `end`
+
+pub magnitude-yes : (word : List ℕ) → negative word ≡ true → magnitude word ≡ drop 1 word
+unfolding magnitude
+magnitude-yes word e = rw (e, magnitude)
+
+pub magnitude-no : (word : List ℕ) → negative word ≡ false → magnitude word ≡ word
+unfolding magnitude
+magnitude-no word e = rw (e, magnitude)
+
+notEmpty-some : (bs : List ℕ) → 0 < length bs → notEmpty bs ≡ true
+unfolding notEmpty
+notEmpty-some [] h = absurd (omega arith)
+notEmpty-some (b ∷ bs) h = refl
+
+notEmpty-none : (bs : List ℕ) → length bs ≡ 0 → notEmpty bs ≡ false
+unfolding notEmpty
+notEmpty-none [] h = refl
+notEmpty-none (b ∷ bs) h = absurd (omega arith)
+
+module _ (word : List ℕ) (start end : ℕ) (d : drop start word ≡ magnitude word) (e : end ≡ start + length (run isDigit (drop start word))) where
+  -- the digits, and what stands after them
+  lead-digits : part word start end ≡ run isDigit (magnitude word)
+  unfolding part
+  lead-digits = rw (e, add-sub-cancel-left, ← d) (run-take isDigit (drop start word))
+
+  lead-after : afterDigits (magnitude word) ≡ drop end word
+  unfolding afterDigits
+  lead-after = rw (← d, drop-drop (length (run isDigit (drop start word))) start word, e)
+
+  pub lead-order : start ≤ end
+  lead-order = omega arith
+
+  pub lead-within : start ≤ length word → end ≤ length word
+  lead-within h = rw e (run-within isDigit word start h)
+
+  pub lead-all : allDigits (part word start end) ≡ true
+  lead-all = rw lead-digits (digits-run (magnitude word))
+
+  pub lead-none : (f : Form) → end ≡ start → numberOf f word ≡ wrong
+  unfolding numberOf unsigned
+  lead-none f n = rw (notEmpty-none (run isDigit (magnitude word)) (rw (← d) (omega arith)), unsigned)
+
+  lead-some : (f : Form) → start < end → numberOf f word ≡ numberFrom f (negative word) (part word start end) (drop end word)
+  unfolding numberOf unsigned
+  lead-some f n = rw (notEmpty-some (run isDigit (magnitude word)) (rw (← d) (omega arith)), unsigned, lead-digits, lead-after)
+
+  pub lead-int-more : start < end → end < length word → numberOf INT word ≡ wrong
+  unfolding numberFrom
+  lead-int-more n h = lead-some INT n ∙ rw (drop-cons word end 0 h)
+
+  pub lead-int : start < end → length word ≤ end → numberOf INT word ≡ intOf (negative word) (part word start end)
+  unfolding numberFrom
+  lead-int n h = lead-some INT n ∙ rw (drop-of-length-le word h)
+
+  pub lead-float : start < end → length word ≤ end → numberOf FLOAT word ≡ floatOf (negative word) (part word start end) (part word end end)
+  unfolding numberFrom
+  lead-float n h = lead-some FLOAT n ∙ rw (drop-of-length-le word h, part-none word end end (omega arith))
+
+  -- a point, and what stands after it
+  lead-point : start < end → end < length word → numberOf FLOAT word ≡ cond (eqb (getD word end 0) 46 && notEmpty (drop (suc end) word) && allDigits (drop (suc end) word)) (floatOf (negative word) (part word start end) (drop (suc end) word)) wrong
+  unfolding numberFrom
+  lead-point n h = lead-some FLOAT n ∙ rw (drop-cons word end 0 h)
+
+  pub lead-pointless : start < end → end < length word → (getD word end 0 ≡ 46 → ⊥) → numberOf FLOAT word ≡ wrong
+  lead-pointless n h p = lead-point n h ∙ rw (ne-eqb _ _ p)
+
+  -- digits after the point, up to `last`
+  module _ (n : start < end) (h : end < length word) (p : getD word end 0 ≡ 46) (last : ℕ) (l : last ≡ suc end + length (run isDigit (drop (suc end) word))) where
+    pub lead-rest : last < length word → numberOf FLOAT word ≡ wrong
+    lead-rest k = lead-point n h ∙ rw (eq-eqb _ _ p, digits-short (drop (suc end) word) (rw length-drop (omega arith))) (go (notEmpty (drop (suc end) word)))
+      where
+        go : (v : Bool) → cond (v && false) (floatOf (negative word) (part word start end) (drop (suc end) word)) wrong ≡ wrong
+        go true = refl
+        go false = refl
+
+    pub lead-more-all : allDigits (part word (suc end) last) ≡ true
+    unfolding part
+    lead-more-all = rw (l, add-sub-cancel-left, run-take isDigit (drop (suc end) word)) (digits-run (drop (suc end) word))
+
+    pub lead-bare : last ≡ suc end → numberOf FLOAT word ≡ wrong
+    lead-bare k = go (leb (length word) (suc end)) refl
+      where
+        go : (v : Bool) → leb (length word) (suc end) ≡ v → numberOf FLOAT word ≡ wrong
+        go true e = lead-point n h ∙ rw (eq-eqb _ _ p, notEmpty-none (drop (suc end) word) (rw length-drop (omega (arith, leb-true))))
+        go false e = lead-rest (omega (arith, leb-false))
+
+    pub lead-parts : suc end < last → length word ≤ last → numberOf FLOAT word ≡ floatOf (negative word) (part word start end) (part word (suc end) last)
+    lead-parts k m =
+        let all : length (drop (suc end) word) ≤ length (run isDigit (drop (suc end) word)) = rw length-drop (omega arith) in
+        let same : run isDigit (drop (suc end) word) ≡ drop (suc end) word = sym (run-take isDigit (drop (suc end) word)) ∙ take-all _ (drop (suc end) word) all in
+        let whole : part word (suc end) last ≡ drop (suc end) word = unfold part in take-all (last - suc end) (drop (suc end) word) (rw length-drop (omega arith)) in
+        lead-point n h
+        ∙ rw (eq-eqb _ _ p, notEmpty-some (drop (suc end) word) (rw length-drop (omega (arith, run-within isDigit word (suc end) h))), rw same at (digits-run (drop (suc end) word)), whole)
+
+-- ---- INT and FLOAT of digits
+
+pub float-whole-long : (s : Bool) (ds fs : List ℕ) → 7 < length ds → floatOf s ds fs ≡ beyond
+unfolding floatOf
+float-whole-long s ds fs h = rw (lt-leb (length ds) 7 h)
+
+pub float-fraction-long : (s : Bool) (ds fs : List ℕ) → length ds ≤ 7 → 6 < length fs → floatOf s ds fs ≡ beyond
+unfolding floatOf
+float-fraction-long s ds fs h k = rw (le-leb (length ds) 7 h, lt-leb (length fs) 6 k)
+
+pub float-value : (s : Bool) (ds fs : List ℕ) → length ds ≤ 7 → length fs ≤ 6 → floatOf s ds fs ≡ value (signed s (millionths ds fs))
+unfolding floatOf
+float-value s ds fs h k = rw (le-leb (length ds) 7 h, le-leb (length fs) 6 k)
+
+pub fraction-below : (fs : List ℕ) → allDigits fs ≡ true → length fs ≤ 6 → decimal fs * 10 ^ (6 - length fs) < 10 ^ 6
+fraction-below fs e h =
+    let scaled = mul-lt-mul-of-pos-right (decimal-bound fs e) (pow-le-pow-right {n = 10} (omega arith) {i = 0} {j = 6 - length fs} (omega arith)) in
+    let six : length fs + (6 - length fs) ≡ 6 = omega arith in
+    lt-of-lt-of-le scaled (rw (← pow-add 10 (length fs) (6 - length fs), six) (omega arith))
+
+pub millionths-below : (ds fs : List ℕ) → allDigits ds ≡ true → allDigits fs ≡ true → length ds ≤ 7 → length fs ≤ 6 → millionths ds fs < 10 ^ 13
+unfolding millionths
+millionths-below ds fs d f h k = let w = decimal-below ds 7 d h in let r = fraction-below fs f k in omega arith
+
+pub int-long : (s : Bool) (ds : List ℕ) → 10 < length ds → intOf s ds ≡ beyond
+unfolding intOf
+int-long s ds h = rw (lt-leb (length ds) 10 h)
+
+pub int-large : (s : Bool) (ds : List ℕ) → length ds ≤ 10 → intMost s < decimal ds → intOf s ds ≡ beyond
+unfolding intOf
+int-large s ds h k = rw (le-leb (length ds) 10 h, lt-leb (decimal ds) (intMost s) k)
+
+pub int-value : (s : Bool) (ds : List ℕ) → length ds ≤ 10 → decimal ds ≤ intMost s → intOf s ds ≡ value (signed s (decimal ds))
+unfolding intOf
+int-value s ds h k = rw (le-leb (length ds) 10 h, le-leb (decimal ds) (intMost s) k)
+
+pub intMost-below : (s : Bool) → intMost s < 2 ^ 63
+unfolding intMost
+intMost-below false = omega arith
+intMost-below true = omega arith
+
+-- ---- the values that a form can give
+
+signed-int : (s : Bool) (n : ℕ) → n ≤ intMost s → inForm INT (signed s n) ≡ true
+unfolding intMost inForm signed
+signed-int false n h = le-leb n 2147483647 h
+signed-int true zero h = refl
+signed-int true (suc n) h = le-leb n 2147483647 (omega arith)
+
+signed-float : (s : Bool) (n : ℕ) → n < 10 ^ 13 → inForm FLOAT (signed s n) ≡ true
+unfolding inForm signed
+signed-float false n h = le-leb n 9999999999999 (omega arith)
+signed-float true zero h = refl
+signed-float true (suc n) h = le-leb n 9999999999998 (omega arith)
+
+-- what a choice between a value and a refusal says where it is a value
+chosen : (t : Bool) (a z : ℤ) (other : Number) → (other ≡ value z → ⊥) → cond t (value a) other ≡ value z → (t ≡ true) × (a ≡ z)
+chosen true a z other n e = (refl, cc)
+chosen false a z other n e = absurd (n e)
+
+beyond-no : (z : ℤ) → beyond ≡ value z → ⊥
+beyond-no z e = let w : _≡_ {A = ℕ} 0 1 = cc in omega arith
+
+wrong-no : (z : ℤ) → wrong ≡ value z → ⊥
+wrong-no z e = let w : _≡_ {A = ℕ} 0 1 = cc in omega arith
+
+int-range : (s : Bool) (ds : List ℕ) (z : ℤ) → intOf s ds ≡ value z → inForm INT z ≡ true
+unfolding intOf
+int-range s ds z e =
+    let p = chosen _ _ z beyond (beyond-no z) e in
+    let t = and-true (leb (length ds) 10) (leb (decimal ds) (intMost s)) (p .0) in
+    rw (← p .1) (signed-int s (decimal ds) (leb-true _ _ (t .1)))
+
+float-range : (s : Bool) (ds fs : List ℕ) (z : ℤ) → allDigits ds ≡ true → allDigits fs ≡ true → floatOf s ds fs ≡ value z → inForm FLOAT z ≡ true
+unfolding floatOf
+float-range s ds fs z d f e =
+    let p = chosen _ _ z beyond (beyond-no z) e in
+    let t = and-true (leb (length ds) 7) (leb (length fs) 6) (p .0) in
+    rw (← p .1) (signed-float s (millionths ds fs) (millionths-below ds fs d f (leb-true _ _ (t .0)) (leb-true _ _ (t .1))))
+
+from-range : (f : Form) (s : Bool) (ds rest : List ℕ) (z : ℤ) → allDigits ds ≡ true → numberFrom f s ds rest ≡ value z → inForm f z ≡ true
+unfolding numberFrom
+from-range INT s ds [] z d e = int-range s ds z e
+from-range INT s ds (b ∷ rest) z d e = absurd (wrong-no z e)
+from-range FLOAT s ds [] z d e = float-range s ds [] z d (unfold allDigits in refl) e
+from-range FLOAT s ds (b ∷ rest) z d e = go (eqb b 46 && notEmpty rest && allDigits rest) refl e
+  where
+    go : (t : Bool) → (eqb b 46 && notEmpty rest && allDigits rest) ≡ t → cond t (floatOf s ds rest) wrong ≡ value z → inForm FLOAT z ≡ true
+    go true c e = float-range s ds rest z d (and-true (eqb b 46 && notEmpty rest) (allDigits rest) c .1) e
+    go false c e = absurd (wrong-no z e)
+
+-- a word's value lies in its form's range
+pub number-range : (f : Form) (word : List ℕ) (z : ℤ) → numberOf f word ≡ value z → inForm f z ≡ true
+unfolding numberOf unsigned
+number-range f word z e = go (notEmpty (run isDigit (magnitude word))) refl
+  where
+    go : (t : Bool) → notEmpty (run isDigit (magnitude word)) ≡ t → inForm f z ≡ true
+    go true c = from-range f (negative word) _ _ z (digits-run (magnitude word)) (rw (c, unsigned) at e)
+    go false c = absurd (wrong-no z (rw (c, unsigned) at e))

@@ -1,0 +1,7 @@
+// INT and FLOAT of a plain word, as exact whole numbers (document 01, "Words").
+mod number;
+
+pub use number::Parsed;
+pub use number::float;
+pub use number::int;
+pub use number::magnitude;
