@@ -12,7 +12,7 @@ use Rattle.table_rows.specs.Flat.{flat}
 use Rattle.parse_cursor.specs.Readers.{Name}
 use Rattle.bac6_text.specs.Figure.{Bone, Group, Figure}
 use Rattle.refusal.specs.Rules.{tooMany}
-use Rattle.bac6_text.specs.Rules.{facesOf, countsOf, mosts, flagsOf, wholeList, parentsIn}
+use Rattle.bac6_text.specs.Rules.{facesOf, countsOf, figureCounts, flagsOf, wholeList, parentsIn}
 use Rattle.bac6_text.specs.Layout.{layoutOf, nameNumbers, boneRow, boneRows, ownersFrom, faceRows, groupNames}
 use Rattle.refusal.proofs.Rules.{count-clear}
 use Rattle.table_rows.proofs.Chains.{overlay-whole}
@@ -21,6 +21,8 @@ use Rattle.bac6_rules.proofs.Claims.{owners-length}
 use Rattle.parse_rows.proofs.Widths.{Wide, flat-length}
 use Rattle.bac6_text.proofs.Rows.{face-rows-wide, face-rows-length, bones-wide, bones-count}
 use Rattle.bac6_text.proofs.Whole.{WholeFigure}
+use Rattle.table_counts.specs.Counts.{figureMosts}
+use Rattle.table_counts.specs.Counts.{figureLists}
 
 -- ---- the most rows of each list
 
@@ -35,8 +37,8 @@ pub record Within (f : Figure) : Type 0 where
   pub faces : length (facesOf f) ≤ 1024
   pub groups : length (f .groups) ≤ 32
 
-pub bounds : (f : Figure) → tooMany 0 (countsOf f) mosts ≡ clear → Within f
-unfolding countsOf mosts
+pub bounds : (f : Figure) → tooMany 0 (countsOf f) figureMosts ≡ clear → Within f
+unfolding countsOf figureCounts figureLists figureMosts
 bounds f h =
     let t = count-clear 0 (length (f .textures)) 16 _ _ h in
     let c = count-clear 1 (length (f .colours)) 256 _ _ (t .1) in

@@ -7,17 +7,17 @@ use lib.ListN.{length}
 use Rattle.refusal.specs.Faults.{Fault, clear, fault}
 use Rattle.refusal.specs.Answers.{refusal}
 use Rattle.refusal.specs.declared.checked.Checked.{Checked}
-use Rattle.bac6_rules.specs.declared.order.Counts.{Counts}
+use Rattle.table_counts.specs.declared.counts.FigureCounts.{FigureCounts}
 use Rattle.bac6_rules.specs.Order.{tablesFault, BonesLeft}
 use Rattle.bac6_bones.specs.Into.{faultOf}
 use Rattle.bac6.specs.declared.shape.Parsed.{Parsed}
 use Rattle.bac6.specs.Answers.{refusedWith, parsedCounts, downAnswer, downTable, rulesFault, checkedAnswer, checkedTable}
 
-pub rules-by : (p : Parsed) {n : Counts} (k r : Checked) (m b f : List ℤ) → n ≡ parsedCounts p → refusal k ≡ faultOf (p .faulty) (p .fault) → refusal r ≡ tablesFault n (refusal k) m b f → refusal r ≡ rulesFault p m b f
+pub rules-by : (p : Parsed) {n : FigureCounts} (k r : Checked) (m b f : List ℤ) → n ≡ parsedCounts p → refusal k ≡ faultOf (p .faulty) (p .fault) → refusal r ≡ tablesFault n (refusal k) m b f → refusal r ≡ rulesFault p m b f
 unfolding rulesFault
 rules-by p k r m b f e d h = rw (e, d) at h
 
-pub left-by : (p : Parsed) {n : Counts} (b placed : List ℤ) → n ≡ parsedCounts p → BonesLeft n b placed → BonesLeft (parsedCounts p) b placed
+pub left-by : (p : Parsed) {n : FigureCounts} (b placed : List ℤ) → n ≡ parsedCounts p → BonesLeft n b placed → BonesLeft (parsedCounts p) b placed
 left-by p b placed e h = rw e at h
 
 module _ {a : Fault} (p : Parsed) where

@@ -11,10 +11,10 @@ use Rattle.table_rows.specs.Flat.{flat}
 use Rattle.table_rows.specs.Overlay.{overlayAt}
 use Rattle.bac6_text.specs.Figure.{Bone, Figure}
 use Rattle.refusal.specs.Rules.{tooMany}
-use Rattle.bac6_text.specs.Rules.{facesOf, flagsOf, wholeList, parentsIn, verticesFault, bonesFault, figureFault, countsOf, mosts}
+use Rattle.bac6_text.specs.Rules.{facesOf, flagsOf, wholeList, parentsIn, verticesFault, bonesFault, figureFault, countsOf}
 use Rattle.bac6_text.specs.Layout.{nameNumbers, boneRow, boneRows, ownersFrom, faceRows, groupNames, layoutOf}
 use Rattle.bac6_rules.specs.Claims.{claimedBones}
-use Rattle.bac6_rules.specs.Order.{figureCounts, BonesLeft}
+use Rattle.bac6_rules.specs.Order.{BonesLeft}
 use Rattle.bac6_rules.proofs.Claims.{owners-length, claims-owners}
 use Rattle.bac6_text.proofs.Rows.{face-rows-wide, face-rows-length, bones-wide, bones-count, flags-count}
 use Rattle.bac6_text.proofs.Parents.{whole-length}
@@ -29,6 +29,8 @@ use Rattle.bac6.proofs.Bounds.{Within, bounds, groups-wide, groups-coun
 use Rattle.bac6.proofs.Rules.{unclaimed-parts, bones-held}
 use Rattle.parse_rows.proofs.Widths.{rows-part, rows-room, part-is, room-is}
 use Rattle.bac6.proofs.Taken.{parsedAs, name-is, textures-are, colours-are, materials-are, points-are, normals-are, bones-are, claims-are, uvs-are, faces-are, groups-are, counts-are}
+use Rattle.table_counts.specs.Counts.{figureMosts}
+use Rattle.bac6_text.specs.Rules.{figureCounts}
 
 module _ (f : Figure) (clean : figureFault f ≡ clear) where
   pub within : Within f

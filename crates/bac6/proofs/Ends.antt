@@ -9,7 +9,7 @@ use Rattle.refusal.specs.Faults.{Fault, clear, fault}
 use Rattle.text_tokens.specs.Tokens.{lex}
 use Rattle.parse_cursor.specs.Cursors.{reads}
 use Rattle.bac6_text.specs.Figure.{Figure}
-use Rattle.bac6_text.specs.Rules.{facesOf, figureFault}
+use Rattle.bac6_text.specs.Rules.{figureCounts, facesOf, figureFault}
 use Rattle.bac6_text.specs.Layout.{layoutOf}
 use Rattle.bac6_text.specs.Grammar.{figure}
 use Rattle.refusal.specs.Outcomes.{Outcome, rejected, accepted, fitted, laid}
@@ -76,7 +76,7 @@ module _ (text : List ℕ) (t c m q v b o u fs g : List ℤ) (blank : Blank text
       parts = parts-are read clean whole t c m q v b u fs g p t′ c′ m′ q′ v′ b′ o′ u′ fs′ g′ (found .kept) b″ (blank .materials) (blank .bones) (blank .faces) left (blank .textures) (blank .colours) (blank .points) (blank .normals) (blank .uvs) (blank .groups)
 
       counts : countsAnswer p ≡ answerOf (accepted read)
-      unfolding countsAnswer answerOf
+      unfolding countsAnswer answerOf parsedCounts figureCounts
       counts =
           rw (total, textures-are read t c m q v b u fs g p t′ c′ m′ q′ v′ b′ o′ u′ fs′ g′ (found .kept) .0, colours-are read t c m q v b u fs g p t′ c′ m′ q′ v′ b′ o′ u′ fs′ g′ (found .kept) .0, materials-are read t c m q v b u fs g p t′ c′ m′ q′ v′ b′ o′ u′ fs′ g′ (found .kept) .0, points-are read t c m q v b u fs g p t′ c′ m′ q′ v′ b′ o′ u′ fs′ g′ (found .kept) .0, normals-are read t c m q v b u fs g p t′ c′ m′ q′ v′ b′ o′ u′ fs′ g′ (found .kept) .0, bones-are read t c m q v b u fs g p t′ c′ m′ q′ v′ b′ o′ u′ fs′ g′ (found .kept) .0, uvs-are read t c m q v b u fs g p t′ c′ m′ q′ v′ b′ o′ u′ fs′ g′ (found .kept) .0, faces-are read t c m q v b u fs g p t′ c′ m′ q′ v′ b′ o′ u′ fs′ g′ (found .kept) .0, groups-are read t c m q v b u fs g p t′ c′ m′ q′ v′ b′ o′ u′ fs′ g′ (found .kept) .0)
 

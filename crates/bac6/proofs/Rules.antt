@@ -10,10 +10,10 @@ use Rattle.table_rows.specs.Flat.{flat}
 use Rattle.table_rows.specs.Overlay.{overlayAt}
 use Rattle.bac6_text.specs.Figure.{Bone, Figure}
 use Rattle.refusal.specs.Rules.{tooMany}
-use Rattle.bac6_text.specs.Rules.{facesOf, countsOf, mosts, verticesFault, figureFault, flagsOf, parentsIn, wholeList}
+use Rattle.bac6_text.specs.Rules.{facesOf, countsOf, verticesFault, figureFault, flagsOf, parentsIn, wholeList}
 use Rattle.bac6_text.specs.Layout.{boneRow, boneRows, faceRows, ownersFrom}
 use Rattle.bac6_rules.specs.Claims.{claimedBones}
-use Rattle.bac6_rules.specs.Order.{figureCounts, tablesFault, BonesLeft}
+use Rattle.bac6_rules.specs.Order.{tablesFault, BonesLeft}
 use Rattle.bac6_rules.proofs.Claims.{unclaimed, claims-fault, claims-owners}
 use Rattle.parse_rows.proofs.Widths.{Wide}
 use Rattle.bac6_text.proofs.Rows.{face-rows-wide, face-rows-length, bones-wide, bones-count}
@@ -21,6 +21,8 @@ use Rattle.bac6_rules.proofs.Orders.{tables-within, tables-laid, bones-left}
 use Rattle.bac6_text.proofs.Whole.{WholeFigure, faces-whole}
 use Rattle.bac6.proofs.Bounds.{Within, bounds, bones-rows}
 use Rattle.parse_rows.proofs.Widths.{held}
+use Rattle.table_counts.specs.Counts.{figureMosts}
+use Rattle.bac6_text.specs.Rules.{figureCounts}
 
 -- as many unclaimed vertices as there are points, and the others
 pub unclaimed-parts : (n k : ℕ) → n ≤ k → replicate k (negsuc 0) ≡ unclaimed n (replicate (k - n) (negsuc 0))
@@ -57,7 +59,7 @@ module _ (f : Figure) (w : WholeFigure f) (m b fs : List ℤ) (lm : length m ≡
   pub rules-same : tablesFault (figureCounts f) (claims .0) (overlayAt 0 (flat (f .materials)) m) boneTable (overlayAt 0 (flat (faceRows f)) fs) ≡ figureFault f
   rules-same = tables-within f (claims .0) _ _ _ within
     where
-      within : tooMany 0 (countsOf f) mosts ≡ clear → tablesFault (figureCounts f) (claims .0) (overlayAt 0 (flat (f .materials)) m) boneTable (overlayAt 0 (flat (faceRows f)) fs) ≡ figureFault f
+      within : tooMany 0 (countsOf f) figureMosts ≡ clear → tablesFault (figureCounts f) (claims .0) (overlayAt 0 (flat (f .materials)) m) boneTable (overlayAt 0 (flat (faceRows f)) fs) ≡ figureFault f
       within h =
           let v = bounds f h in
           let q = v .faces in

@@ -16,7 +16,7 @@ use Rattle.bac6_text.specs.Layout.{boneRow, faceRows, groupNames}
 use Rattle.bac6_parse.specs.Lists.{laidRows}
 use Rattle.bac6_parse.specs.Front.{FrontValue, frontValue}
 use Rattle.bac6_rules.specs.Claims.{claimedBones}
-use Rattle.bac6_rules.specs.Order.{figureCounts, tablesFault}
+use Rattle.bac6_rules.specs.Order.{tablesFault}
 use Rattle.bac6_text.proofs.Rows.{face-rows-length}
 use Rattle.bac6_bones.specs.Into.{faultOf}
 use Rattle.bac6_faces.specs.Into.{allRows, tablesOf}
@@ -27,6 +27,7 @@ use Rattle.bac6.specs.Parse.{BackValue, backValue, figureInto, frontOf, 
 use Rattle.bac6.proofs.Parses.{values, Found}
 use Rattle.bac6_text.proofs.Whole.{WholeFigure, figure-whole}
 use Rattle.bac6.proofs.Rules.{rules-same}
+use Rattle.bac6_text.specs.Rules.{figureCounts}
 
 -- what parsing answers, with the tables that it leaves
 unfoldable pub parsedAs : Parsed → List ℤ → List ℤ → List ℤ → List ℤ → List ℤ → List ℤ → List ℤ → List ℤ → List ℤ → List ℤ → FrontValue × BackValue

@@ -8,44 +8,29 @@ use lib.IntN.{ℤ, pos, negsuc}
 use lib.ListN.{length, take, replicate}
 use Rattle.table_rows.specs.Overlay.{overlayAt}
 use Rattle.bac6_text.specs.Figure.{Figure}
-use Rattle.bac6_text.specs.Rules.{facesOf}
+use Rattle.bac6_text.specs.Rules.{figureCounts}
 use Rattle.bac6_text.specs.Layout.{layoutOf}
 use Rattle.refusal.specs.Outcomes.{Outcome, rejected, accepted}
 use Rattle.refusal.specs.Faults.{Fault, clear, fault}
-use Rattle.bac6_rules.specs.declared.order.Counts.{Counts}
+use Rattle.table_counts.specs.declared.counts.FigureCounts.{FigureCounts}
 use Rattle.bac6_rules.specs.Order.{tablesFault}
 use Rattle.bac6_bones.specs.Into.{faultOf}
 use Rattle.bac6.specs.declared.shape.Parsed.{Parsed}
 use Rattle.bac6.specs.declared.setting.FigureAnswer.{FigureAnswer}
+use Rattle.table_counts.specs.Counts.{noFigure}
 
 -- a refusal's number and place, file 0 and zeros
 unfoldable pub refusedWith : ℕ → ℕ → FigureAnswer
-refusedWith n p =
-    record { refusal = n; place = p; file = 0; total = 0; textures = 0; colours = 0; materials = 0; points = 0; normals = 0; bones = 0; uvs = 0; faces = 0; groups = 0 }
+refusedWith n p = record { refusal = n; place = p; file = 0; total = 0; counts = noFigure }
 
 -- that, or the total and the nine counts
 unfoldable pub answerOf : Outcome Figure → FigureAnswer
 answerOf (rejected n p) = refusedWith n p
-answerOf (accepted f) =
-    record {
-      refusal = 0;
-      place = 0;
-      file = 0;
-      total = length (layoutOf f);
-      textures = length (f .textures);
-      colours = length (f .colours);
-      materials = length (f .materials);
-      points = length (f .points);
-      normals = length (f .normals);
-      bones = length (f .bones);
-      uvs = length (f .uvs);
-      faces = length (facesOf f);
-      groups = length (f .groups);
-    }
+answerOf (accepted f) = record { refusal = 0; place = 0; file = 0; total = length (layoutOf f); counts = figureCounts f }
 
 -- ---- from the counts and tables
 
-unfoldable pub parsedCounts : Parsed → Counts
+unfoldable pub parsedCounts : Parsed → FigureCounts
 parsedCounts p =
     record { textures = p .textures; colours = p .colours; materials = p .materials; points = p .points; normals = p .normals; bones = p .bones; uvs = p .uvs; faces = p .faces; groups = p .groups }
 
@@ -54,8 +39,7 @@ totalOf p =
     2 + p .textures * 2 + p .colours * 3 + p .materials * 9 + p .points * 3 + p .normals * 3 + p .bones * 14 + p .points + p .uvs * 2 + p .faces * 11 + p .groups * 2
 
 unfoldable pub countsAnswer : Parsed → FigureAnswer
-countsAnswer p =
-    record { refusal = 0; place = 0; file = 0; total = totalOf p; textures = p .textures; colours = p .colours; materials = p .materials; points = p .points; normals = p .normals; bones = p .bones; uvs = p .uvs; faces = p .faces; groups = p .groups }
+countsAnswer p = record { refusal = 0; place = 0; file = 0; total = totalOf p; counts = parsedCounts p }
 
 -- 17 where the table is too short
 unfoldable pub downAnswer : Parsed → ℕ → FigureAnswer

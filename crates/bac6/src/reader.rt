@@ -20,8 +20,8 @@ use crate::setting::FigureAnswer;
 use crate::setting::refused;
 use crate::setting::set_down;
 use crate::shape::Parsed;
+use crate::shape::counts_of;
 use crate::shape::parse;
-use bac6_rules::Counts;
 use refusal::Checked;
 use text_check::Format;
 
@@ -31,7 +31,7 @@ pub fn read(text: &[u8], table: &mut [i64]) -> FigureAnswer
     ensures content { λ r. ⌜ now (table .exit) ≡ tableAfter (now (text .entry)) (now (table .entry)) ⌝ }
 {
     match text_check::check_text(text, Format::Bac) {
-        Checked::Refused { number, offset } => refused(number as usize, offset),
+        Checked::Refused { number, place } => refused(number as usize, place),
         Checked::Clear => read_shape(text, table),
     }
 }
@@ -68,22 +68,6 @@ fn read_shape(text: &[u8], table: &mut [i64]) -> FigureAnswer
     )
 }
 
-fn counts_of(p: Parsed) -> Counts
-    ensures { λ r. ⌜ r ≡ parsedCounts p ⌝ }
-{
-    Counts {
-        textures: p.textures,
-        colours: p.colours,
-        materials: p.materials,
-        points: p.points,
-        normals: p.normals,
-        bones: p.bones,
-        uvs: p.uvs,
-        faces: p.faces,
-        groups: p.groups,
-    }
-}
-
 // What reading the vertex entries found of rule 11.
 fn claims_of(p: Parsed) -> Checked
     ensures { λ r. ⌜ refusal r ≡ faultOf (p .faulty) (p .fault) ⌝ }
@@ -91,7 +75,7 @@ fn claims_of(p: Parsed) -> Checked
     if p.faulty {
         return Checked::Refused {
             number: 11,
-            offset: p.fault,
+            place: p.fault,
         };
     }
     Checked::Clear
@@ -124,7 +108,7 @@ fn check_rows(
         bone_rows,
         face_rows,
     ) {
-        Checked::Refused { number, offset } => refused(number as usize, offset),
+        Checked::Refused { number, place } => refused(number as usize, place),
         Checked::Clear => set_down(
             table,
             p,

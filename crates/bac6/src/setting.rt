@@ -3,6 +3,9 @@ ghost use mathlib.Core.Path.{_≡_};
 ghost use lib.ListN.{length};
 ghost use Rattle.bac6.specs.Answers.{Fits, refusedWith, downAnswer, downTable, partsOf};
 use crate::shape::Parsed;
+use crate::shape::counts_of;
+use table_counts::FigureCounts;
+use table_counts::no_figure;
 
 // A refusal's number, place and file; or the total and how many rows each list has. All else is 0.
 pub struct FigureAnswer {
@@ -10,15 +13,7 @@ pub struct FigureAnswer {
     pub place: usize,
     pub file: usize,
     pub total: usize,
-    pub textures: usize,
-    pub colours: usize,
-    pub materials: usize,
-    pub points: usize,
-    pub normals: usize,
-    pub bones: usize,
-    pub uvs: usize,
-    pub faces: usize,
-    pub groups: usize,
+    pub counts: FigureCounts,
 }
 
 pub(crate) fn refused(number: usize, place: usize) -> FigureAnswer
@@ -29,15 +24,7 @@ pub(crate) fn refused(number: usize, place: usize) -> FigureAnswer
         place,
         file: 0,
         total: 0,
-        textures: 0,
-        colours: 0,
-        materials: 0,
-        points: 0,
-        normals: 0,
-        bones: 0,
-        uvs: 0,
-        faces: 0,
-        groups: 0,
+        counts: no_figure(),
     }
 }
 
@@ -95,14 +82,6 @@ pub(crate) fn set_down(
         place: 0,
         file: 0,
         total,
-        textures: p.textures,
-        colours: p.colours,
-        materials: p.materials,
-        points: p.points,
-        normals: p.normals,
-        bones: p.bones,
-        uvs: p.uvs,
-        faces: p.faces,
-        groups: p.groups,
+        counts: counts_of(p),
     }
 }

@@ -7,6 +7,8 @@ ghost use Rattle.bac6_bones.specs.Into.{faultOf};
 ghost use Rattle.bac6.specs.Parse.{backValue, figureInto};
 use crate::back::read_back;
 use parse_cursor::Cursor;
+ghost use Rattle.bac6.specs.Answers.{parsedCounts};
+use table_counts::FigureCounts;
 
 // A cursor past the text, its name's place and length, how many rows each list has, and the row of the first bone whose claims are at fault, if there is one (else `fault` is free); where the cursor has refused, all else is free.
 pub struct Parsed {
@@ -80,5 +82,21 @@ pub fn parse(
         uvs: b.uvs,
         faces: b.faces,
         groups: b.groups,
+    }
+}
+
+pub(crate) fn counts_of(p: Parsed) -> FigureCounts
+    ensures { λ r. ⌜ r ≡ parsedCounts p ⌝ }
+{
+    FigureCounts {
+        textures: p.textures,
+        colours: p.colours,
+        materials: p.materials,
+        points: p.points,
+        normals: p.normals,
+        bones: p.bones,
+        uvs: p.uvs,
+        faces: p.faces,
+        groups: p.groups,
     }
 }

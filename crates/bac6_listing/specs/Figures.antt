@@ -5,26 +5,27 @@ use lib.IntN.{ℤ}
 use Rattle.text_bytes.specs.Bytes.{bytes}
 use Rattle.report.specs.Lists.{RowList, rowList, listingLines, textOf}
 use Rattle.bac6.specs.declared.setting.FigureAnswer.{FigureAnswer}
+use Rattle.table_counts.specs.declared.counts.FigureCounts.{FigureCounts}
 
 -- in the table's order; an owner for each point
-unfoldable pub figureLists : FigureAnswer → List RowList
-figureLists a =
+unfoldable pub figureLists : FigureCounts → List RowList
+figureLists n =
     rowList (bytes "name") 2 1
-    ∷ rowList (bytes "texture") 2 (a .textures)
-    ∷ rowList (bytes "colour") 3 (a .colours)
-    ∷ rowList (bytes "material") 9 (a .materials)
-    ∷ rowList (bytes "point") 3 (a .points)
-    ∷ rowList (bytes "normal") 3 (a .normals)
-    ∷ rowList (bytes "bone") 14 (a .bones)
-    ∷ rowList (bytes "owner") 1 (a .points)
-    ∷ rowList (bytes "uv") 2 (a .uvs)
-    ∷ rowList (bytes "face") 11 (a .faces)
-    ∷ rowList (bytes "group") 2 (a .groups)
+    ∷ rowList (bytes "texture") 2 (n .textures)
+    ∷ rowList (bytes "colour") 3 (n .colours)
+    ∷ rowList (bytes "material") 9 (n .materials)
+    ∷ rowList (bytes "point") 3 (n .points)
+    ∷ rowList (bytes "normal") 3 (n .normals)
+    ∷ rowList (bytes "bone") 14 (n .bones)
+    ∷ rowList (bytes "owner") 1 (n .points)
+    ∷ rowList (bytes "uv") 2 (n .uvs)
+    ∷ rowList (bytes "face") 11 (n .faces)
+    ∷ rowList (bytes "group") 2 (n .groups)
     ∷ []
 
 -- the total and the lists; or a refusal's number and place
 unfoldable pub figureLines : FigureAnswer → List ℤ → List (List ℕ)
-figureLines a zs = listingLines (bytes "figure") (a .refusal) (a .place) (a .total) (figureLists a) zs
+figureLines a zs = listingLines (bytes "figure") (a .refusal) (a .place) (a .total) (figureLists (a .counts)) zs
 
 unfoldable pub figureText : FigureAnswer → List ℤ → List ℕ
 figureText a zs = textOf (figureLines a zs)

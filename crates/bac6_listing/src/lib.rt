@@ -9,22 +9,33 @@ use bac6::FigureAnswer;
 use report::Progress;
 use report::append_list;
 use report::first_line;
+use table_counts::FigureCounts;
 
 // Puts the lines of the lists after the first n bytes of buf, and answers how many bytes are filled then.
-fn append_lists(answer: FigureAnswer, table: &[i64], buf: &mut [u8], n: usize) -> usize
-    ensures { λ r. ⌜ output r (now (buf .exit)) ≡ appendedEach (output n (now (buf .entry))) (listLines (figureLists answer) (now (table .entry))) ⌝ }
+fn append_lists(n: FigureCounts, table: &[i64], buf: &mut [u8], start: usize) -> usize
+    ensures { λ r. ⌜ output r (now (buf .exit)) ≡ appendedEach (output start (now (buf .entry))) (listLines (figureLists n) (now (table .entry))) ⌝ }
 {
-    let names = append_list(buf, Progress { filled: n, at: 0 }, b"name", 2, 1, table);
-    let textures = append_list(buf, names, b"texture", 2, answer.textures, table);
-    let colours = append_list(buf, textures, b"colour", 3, answer.colours, table);
-    let materials = append_list(buf, colours, b"material", 9, answer.materials, table);
-    let points = append_list(buf, materials, b"point", 3, answer.points, table);
-    let normals = append_list(buf, points, b"normal", 3, answer.normals, table);
-    let bones = append_list(buf, normals, b"bone", 14, answer.bones, table);
-    let owners = append_list(buf, bones, b"owner", 1, answer.points, table);
-    let uvs = append_list(buf, owners, b"uv", 2, answer.uvs, table);
-    let faces = append_list(buf, uvs, b"face", 11, answer.faces, table);
-    let groups = append_list(buf, faces, b"group", 2, answer.groups, table);
+    let names = append_list(
+        buf,
+        Progress {
+            filled: start,
+            at: 0,
+        },
+        b"name",
+        2,
+        1,
+        table,
+    );
+    let textures = append_list(buf, names, b"texture", 2, n.textures, table);
+    let colours = append_list(buf, textures, b"colour", 3, n.colours, table);
+    let materials = append_list(buf, colours, b"material", 9, n.materials, table);
+    let points = append_list(buf, materials, b"point", 3, n.points, table);
+    let normals = append_list(buf, points, b"normal", 3, n.normals, table);
+    let bones = append_list(buf, normals, b"bone", 14, n.bones, table);
+    let owners = append_list(buf, bones, b"owner", 1, n.points, table);
+    let uvs = append_list(buf, owners, b"uv", 2, n.uvs, table);
+    let faces = append_list(buf, uvs, b"face", 11, n.faces, table);
+    let groups = append_list(buf, faces, b"group", 2, n.groups, table);
     groups.filled
 }
 
@@ -39,5 +50,6 @@ pub fn list_figure(answer: FigureAnswer, table: &[i64], buf: &mut [u8]) -> usize
     if answer.refusal != 0 {
         return n;
     }
-    append_lists(answer, table, buf, n)
+    let counts = answer.counts;
+    append_lists(counts, table, buf, n)
 }

@@ -9,24 +9,26 @@ use Rattle.table_rows.specs.Flat.{flat}
 use Rattle.bac6_text.specs.Figure.{Figure}
 use Rattle.bac6_text.specs.Layout.{boneRows, faceRows}
 use Rattle.refusal.specs.Rules.{orElse, tooMany}
-use Rattle.bac6_text.specs.Rules.{facesOf, countsOf, mosts, normalsFault, flagsOf, bonesFault, wholeList, parentsIn, verticesFault, materialFine, faceFine, figureFault}
+use Rattle.bac6_text.specs.Rules.{facesOf, countsOf, figureCounts, normalsFault, flagsOf, bonesFault, wholeList, parentsIn, verticesFault, materialFine, faceFine, figureFault}
 use Rattle.refusal.specs.FirstBad.{firstBad}
 use Rattle.refusal.proofs.Rules.{or-fault, or-assoc, or-first, or-second}
-use Rattle.bac6_rules.specs.declared.order.Counts.{Counts}
+use Rattle.table_counts.specs.declared.counts.FigureCounts.{FigureCounts}
 use Rattle.bac6_rules.specs.Bones.{flagsIn, Settled}
-use Rattle.bac6_rules.specs.Order.{countsIn, figureCounts, countsFault, laterFault, tablesFault, LeftBy, BonesLeft}
+use Rattle.bac6_rules.specs.Order.{countsFault, laterFault, tablesFault, LeftBy, BonesLeft}
 use Rattle.parse_rows.proofs.Widths.{Wide}
 use Rattle.bac6_text.proofs.Whole.{WholeBones, WholeFaces}
 use Rattle.bac6_rules.proofs.Laid.{rows-laid, flags-laid, faces-laid, bones-laid}
+use Rattle.table_counts.specs.Counts.{figureMosts}
+use Rattle.table_counts.specs.Counts.{figureLists}
 
 -- the rules before the bones', and those after
-pub tables-parts : (n : Counts) (claims : Fault) (ms bs fs : List ℤ) → tablesFault n claims ms bs fs ≡ orElse (countsFault n) (orElse (bonesFault (flagsIn (n .bones) bs)) (laterFault n claims ms fs))
+pub tables-parts : (n : FigureCounts) (claims : Fault) (ms bs fs : List ℤ) → tablesFault n claims ms bs fs ≡ orElse (countsFault n) (orElse (bonesFault (flagsIn (n .bones) bs)) (laterFault n claims ms fs))
 unfolding tablesFault countsFault laterFault
-tables-parts n claims ms bs fs = sym (or-assoc (tooMany 0 (countsIn n) mosts) (normalsFault (n .points) (n .normals)) _)
+tables-parts n claims ms bs fs = sym (or-assoc (tooMany 0 (figureLists n) figureMosts) (normalsFault (n .points) (n .normals)) _)
 
 -- ---- the bones at exit
 
-module _ (n : Counts) (entry exit : List ℤ) where
+module _ (n : FigureCounts) (entry exit : List ℤ) where
   pub left-placed : countsFault n ≡ clear → Settled (n .bones) entry exit (wholeList (flagsIn (n .bones) entry)) → BonesLeft n entry exit
   unfolding LeftBy BonesLeft
   left-placed e h = rw e h
@@ -42,8 +44,8 @@ module _ (n : Counts) (entry exit : List ℤ) where
 -- ---- a figure's tables
 
 module _ (f : Figure) where
-  figure-counts : countsIn (figureCounts f) ≡ countsOf f
-  unfolding countsIn figureCounts countsOf
+  figure-counts : figureLists (figureCounts f) ≡ countsOf f
+  unfolding figureLists figureCounts countsOf
   figure-counts = refl
 
   abbrev rest-fault : Fault
@@ -54,19 +56,19 @@ module _ (f : Figure) where
       (firstBad 13 (faceFine (length (f .materials)) (length (f .points)) (length (f .uvs))) 0 (facesOf f))))
 
   figure-parts : figureFault f ≡ orElse (countsFault (figureCounts f)) rest-fault
-  unfolding figureFault countsFault figureCounts countsIn countsOf
-  figure-parts = sym (or-assoc (tooMany 0 (countsOf f) mosts) (normalsFault (length (f .points)) (length (f .normals))) rest-fault)
+  unfolding figureFault countsFault figureCounts figureLists countsOf
+  figure-parts = sym (or-assoc (tooMany 0 (countsOf f) figureMosts) (normalsFault (length (f .points)) (length (f .normals))) rest-fault)
 
   -- where a list has too many rows, whatever the tables hold
-  pub tables-over : {k p : ℕ} → tooMany 0 (countsOf f) mosts ≡ fault k p → (claims : Fault) (ms bs fs : List ℤ) → tablesFault (figureCounts f) claims ms bs fs ≡ figureFault f
+  pub tables-over : {k p : ℕ} → tooMany 0 (countsOf f) figureMosts ≡ fault k p → (claims : Fault) (ms bs fs : List ℤ) → tablesFault (figureCounts f) claims ms bs fs ≡ figureFault f
   unfolding tablesFault figureFault
   tables-over e claims ms bs fs = or-fault _ (rw figure-counts e) ∙ sym (or-fault _ e)
 
   -- so the tables need hold the figure only where none has
-  pub tables-within : (claims : Fault) (ms bs fs : List ℤ) → (tooMany 0 (countsOf f) mosts ≡ clear → tablesFault (figureCounts f) claims ms bs fs ≡ figureFault f) → tablesFault (figureCounts f) claims ms bs fs ≡ figureFault f
-  tables-within claims ms bs fs h = go (tooMany 0 (countsOf f) mosts) refl
+  pub tables-within : (claims : Fault) (ms bs fs : List ℤ) → (tooMany 0 (countsOf f) figureMosts ≡ clear → tablesFault (figureCounts f) claims ms bs fs ≡ figureFault f) → tablesFault (figureCounts f) claims ms bs fs ≡ figureFault f
+  tables-within claims ms bs fs h = go (tooMany 0 (countsOf f) figureMosts) refl
     where
-      go : (v : Fault) → tooMany 0 (countsOf f) mosts ≡ v → tablesFault (figureCounts f) claims ms bs fs ≡ figureFault f
+      go : (v : Fault) → tooMany 0 (countsOf f) figureMosts ≡ v → tablesFault (figureCounts f) claims ms bs fs ≡ figureFault f
       go clear e = h e
       go (fault k p) e = tables-over e claims ms bs fs
 

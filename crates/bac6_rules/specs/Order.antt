@@ -7,36 +7,18 @@ use lib.IntN.{ℤ}
 use Rattle.refusal.specs.Faults.{Fault, clear, fault}
 use Rattle.bac6_text.specs.Figure.{Figure}
 use Rattle.refusal.specs.Rules.{orElse, tooMany}
-use Rattle.bac6_text.specs.Rules.{facesOf, mosts, normalsFault, bonesFault, materialFine, wholeList}
+use Rattle.bac6_text.specs.Rules.{facesOf, normalsFault, bonesFault, materialFine, wholeList}
 use Rattle.refusal.specs.FirstBad.{firstBad}
-use Rattle.bac6_rules.specs.declared.order.Counts.{Counts}
+use Rattle.table_counts.specs.declared.counts.FigureCounts.{FigureCounts}
 use Rattle.bac6_rules.specs.Rows.{rowsOf, faceRowFine}
 use Rattle.bac6_rules.specs.Bones.{flagsIn, Settled}
-
--- the row counts, in the table's order without owners
-unfoldable pub countsIn : Counts → List ℕ
-countsIn n =
-    n .textures ∷ n .colours ∷ n .materials ∷ n .points ∷ n .normals ∷ n .bones ∷ n .uvs ∷ n .faces ∷ n .groups ∷ []
-
--- how many rows each list of a figure has
-unfoldable pub figureCounts : Figure → Counts
-figureCounts f =
-    record {
-      textures = length (f .textures);
-      colours = length (f .colours);
-      materials = length (f .materials);
-      points = length (f .points);
-      normals = length (f .normals);
-      bones = length (f .bones);
-      uvs = length (f .uvs);
-      faces = length (facesOf f);
-      groups = length (f .groups);
-    }
+use Rattle.table_counts.specs.Counts.{figureMosts}
+use Rattle.table_counts.specs.Counts.{figureLists}
 
 -- of 8 to 13 the lowest number, with its lowest row; `claims` is what was found of rule 11
-unfoldable pub tablesFault : Counts → Fault → List ℤ → List ℤ → List ℤ → Fault
+unfoldable pub tablesFault : FigureCounts → Fault → List ℤ → List ℤ → List ℤ → Fault
 tablesFault n claims ms bs fs =
-    orElse (tooMany 0 (countsIn n) mosts)
+    orElse (tooMany 0 (figureLists n) figureMosts)
     (orElse (normalsFault (n .points) (n .normals))
     (orElse (bonesFault (flagsIn (n .bones) bs))
     (orElse claims
@@ -44,11 +26,11 @@ tablesFault n claims ms bs fs =
     (firstBad 13 (faceRowFine (n .materials) (n .points) (n .uvs)) 0 (rowsOf 11 (n .faces) fs))))))
 
 -- rules 8 and 9
-unfoldable pub countsFault : Counts → Fault
-countsFault n = orElse (tooMany 0 (countsIn n) mosts) (normalsFault (n .points) (n .normals))
+unfoldable pub countsFault : FigureCounts → Fault
+countsFault n = orElse (tooMany 0 (figureLists n) figureMosts) (normalsFault (n .points) (n .normals))
 
 -- rules 11 to 13
-unfoldable pub laterFault : Counts → Fault → List ℤ → List ℤ → Fault
+unfoldable pub laterFault : FigureCounts → Fault → List ℤ → List ℤ → Fault
 laterFault n claims ms fs =
     orElse claims
     (orElse (firstBad 12 (materialFine (n .textures) (n .colours)) 0 (rowsOf 9 (n .materials) ms))
@@ -59,5 +41,5 @@ unfoldable pub LeftBy : Fault → ℕ → List ℤ → List ℤ → Type 0
 LeftBy clear n entry exit = Settled n entry exit (wholeList (flagsIn n entry))
 LeftBy (fault k p) n entry exit = exit ≡ entry
 
-unfoldable pub BonesLeft : Counts → List ℤ → List ℤ → Type 0
+unfoldable pub BonesLeft : FigureCounts → List ℤ → List ℤ → Type 0
 BonesLeft n entry exit = LeftBy (countsFault n) (n .bones) entry exit

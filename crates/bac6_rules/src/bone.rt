@@ -23,13 +23,13 @@ pub fn place_bones(table: &mut [i64], count: usize) -> Checked
     match bones(table, rows, 0, -1) {
         Walk::Short => Checked::Refused {
             number: 10,
-            offset: rows,
+            place: rows,
         },
         Walk::At(next) => {
             if next < rows {
                 return Checked::Refused {
                     number: 10,
-                    offset: next,
+                    place: next,
                 };
             }
             Checked::Clear

@@ -11,7 +11,7 @@ pub fn normals_fault(points: usize, normals: usize) -> Checked
     if points != normals {
         return Checked::Refused {
             number: 9,
-            offset: normals,
+            place: normals,
         };
     }
     Checked::Clear

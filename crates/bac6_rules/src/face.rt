@@ -52,7 +52,7 @@ pub fn face_fault(
         if !is_fine(&table[base..next], materials, points, uvs) {
             return Checked::Refused {
                 number: 13,
-                offset: row,
+                place: row,
             };
         }
         base = next;

@@ -15,6 +15,5 @@ pub use face::is_uv;
 pub use face::is_vertex;
 pub use face::no_uv;
 pub use material::material_fault;
-pub use order::Counts;
 pub use order::first_fault;
 pub use owner::claim;

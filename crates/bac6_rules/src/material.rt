@@ -22,7 +22,7 @@ pub fn material_fault(table: &[i64], count: usize, textures: usize, colours: usi
         if !is_fine(&table[base..next], textures, colours) {
             return Checked::Refused {
                 number: 12,
-                offset: row,
+                place: row,
             };
         }
         base = next;

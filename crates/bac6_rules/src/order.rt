@@ -7,24 +7,12 @@ use crate::count::normals_fault;
 use crate::face::face_fault;
 use crate::material::material_fault;
 use refusal::Checked;
-
-// How many rows each list has.
-pub struct Counts {
-    pub textures: usize,
-    pub colours: usize,
-    pub materials: usize,
-    pub points: usize,
-    pub normals: usize,
-    pub bones: usize,
-    pub uvs: usize,
-    pub faces: usize,
-    pub groups: usize,
-}
+use table_counts::FigureCounts;
 
 // The first fault of the tables, where `claims` is what reading the vertex entries found of rule 11.
 // The bones are given their parents, unless rule 8 or 9 refuses.
 pub fn first_fault(
-    n: Counts,
+    n: FigureCounts,
     claims: Checked,
     materials: &[i64],
     bones: &mut [i64],
@@ -34,16 +22,16 @@ pub fn first_fault(
     ensures content { λ r. ⌜ BonesLeft n (now (bones .entry)) (now (bones .exit)) ⌝ }
 {
     match counts_fault(n) {
-        Checked::Refused { number, offset } => Checked::Refused { number, offset },
+        Checked::Refused { number, place } => Checked::Refused { number, place },
         Checked::Clear => match place_bones(bones, n.bones) {
-            Checked::Refused { number, offset } => Checked::Refused { number, offset },
+            Checked::Refused { number, place } => Checked::Refused { number, place },
             Checked::Clear => later_fault(n, claims, materials, faces),
         },
     }
 }
 
 // Rules 8 and 9.
-fn counts_fault(n: Counts) -> Checked
+fn counts_fault(n: FigureCounts) -> Checked
     ensures { λ r. ⌜ refusal r ≡ countsFault n ⌝ }
 {
     let counts = [
@@ -59,20 +47,20 @@ fn counts_fault(n: Counts) -> Checked
     ];
     let mosts = [16, 256, 64, 2048, 2048, 128, 4096, 1024, 32];
     match refusal::too_many(&counts, &mosts) {
-        Checked::Refused { number, offset } => Checked::Refused { number, offset },
+        Checked::Refused { number, place } => Checked::Refused { number, place },
         Checked::Clear => normals_fault(n.points, n.normals),
     }
 }
 
 // Rules 11 to 13.
-fn later_fault(n: Counts, claims: Checked, materials: &[i64], faces: &[i64]) -> Checked
+fn later_fault(n: FigureCounts, claims: Checked, materials: &[i64], faces: &[i64]) -> Checked
     ensures { λ r. ⌜ refusal r ≡ laterFault n (refusal claims) (now (materials .entry)) (now (faces .entry)) ⌝ }
 {
     match claims {
-        Checked::Refused { number, offset } => Checked::Refused { number, offset },
+        Checked::Refused { number, place } => Checked::Refused { number, place },
         Checked::Clear => {
             match material_fault(materials, n.materials, n.textures, n.colours) {
-                Checked::Refused { number, offset } => Checked::Refused { number, offset },
+                Checked::Refused { number, place } => Checked::Refused { number, place },
                 Checked::Clear => face_fault(faces, n.faces, n.materials, n.points, n.uvs),
             }
         }

@@ -10,6 +10,8 @@ use Rattle.refusal.specs.Rules.{orElse, tooMany}
 use Rattle.bac6_text.specs.Figure.{Bone, Face, Group, Figure}
 use Rattle.table_rows.specs.References.{isNone, isRow, member}
 use Rattle.refusal.specs.FirstBad.{all, firstBad}
+use Rattle.table_counts.specs.declared.counts.FigureCounts.{FigureCounts}
+use Rattle.table_counts.specs.Counts.{figureLists, figureMosts}
 
 -- the faces of `Polygons`, then group by group
 unfoldable pub groupFaces : List Group → List Face
@@ -19,15 +21,23 @@ groupFaces (g ∷ gs) = g .faces ++ groupFaces gs
 unfoldable pub facesOf : Figure → List Face
 facesOf f = f .polygons ++ groupFaces (f .groups)
 
--- the row counts, in the table's order without owners
-unfoldable pub countsOf : Figure → List ℕ
-countsOf f =
-    length (f .textures) ∷ length (f .colours) ∷ length (f .materials) ∷ length (f .points) ∷ length (f .normals)
-    ∷ length (f .bones) ∷ length (f .uvs) ∷ length (facesOf f) ∷ length (f .groups) ∷ []
+-- how many rows each list has
+unfoldable pub figureCounts : Figure → FigureCounts
+figureCounts f =
+    record {
+      textures = length (f .textures);
+      colours = length (f .colours);
+      materials = length (f .materials);
+      points = length (f .points);
+      normals = length (f .normals);
+      bones = length (f .bones);
+      uvs = length (f .uvs);
+      faces = length (facesOf f);
+      groups = length (f .groups);
+    }
 
--- the most rows of each
-unfoldable pub mosts : List ℕ
-mosts = 16 ∷ 256 ∷ 64 ∷ 2048 ∷ 2048 ∷ 128 ∷ 4096 ∷ 1024 ∷ 32 ∷ []
+unfoldable pub countsOf : Figure → List ℕ
+countsOf f = figureLists (figureCounts f)
 
 -- 9: normals not as many as points
 unfoldable pub normalsFault : ℕ → ℕ → Fault
@@ -136,7 +146,7 @@ faceFine materials points uvs f =
 
 unfoldable pub figureFault : Figure → Fault
 figureFault f =
-    orElse (tooMany 0 (countsOf f) mosts)
+    orElse (tooMany 0 (countsOf f) figureMosts)
     (orElse (normalsFault (length (f .points)) (length (f .normals)))
     (orElse (bonesFault (flagsOf (f .bones)))
     (orElse (verticesFault (length (f .points)) [] 0 (f .bones))

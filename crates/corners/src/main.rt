@@ -2,7 +2,7 @@
 use bac6::FigureAnswer;
 use libc::STDIN_FILENO;
 use libc::STDOUT_FILENO;
-use player::FigureCounts;
+use table_counts::FigureCounts;
 
 // 32 faces at a time, for which 25,088 bytes are enough. What is written to a file no contract can say.
 fn tell_faces(table: &[i64], n: FigureCounts) {
@@ -33,16 +33,6 @@ fn main() {
         tell_refusal(answer);
         return;
     }
-    let n = FigureCounts {
-        textures: answer.textures,
-        colours: answer.colours,
-        materials: answer.materials,
-        points: answer.points,
-        normals: answer.normals,
-        bones: answer.bones,
-        uvs: answer.uvs,
-        faces: answer.faces,
-        groups: answer.groups,
-    };
+    let n = answer.counts;
     tell_faces(&table, n);
 }

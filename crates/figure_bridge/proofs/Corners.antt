@@ -14,14 +14,14 @@ use Rattle.refusal.specs.Faults.{clear}
 use Rattle.parse_cursor.proofs.Given.{Every}
 use Rattle.bac6_text.specs.Figure.{Face, Figure}
 use Rattle.bac6_text.specs.Rules as bac6
-use Rattle.bac6_text.specs.Rules.{facesOf, countsOf, ownerOf, figureFault}
+use Rattle.bac6_text.specs.Rules.{facesOf, countsOf, figureCounts, ownerOf, figureFault}
 use Rattle.refusal.specs.FirstBad.{all}
 use Rattle.table_rows.specs.References.{isRow, isNone}
 use Rattle.bac6_text.specs.Layout.{layoutOf, faceRow, faceRows}
 use Rattle.parse_cursor.proofs.Ranges.{AllIn}
 use Rattle.bac6_text.proofs.Whole.{WholeFace, WholeFigure, faces-whole}
 use Rattle.bac6_text.proofs.Rows.{face-rows-wide, face-rows-length}
-use Rattle.player.specs.declared.counts.FigureCounts.{FigureCounts}
+use Rattle.table_counts.specs.declared.counts.FigureCounts.{FigureCounts}
 use Rattle.player.specs.Faces.{rowAt, uvAt, cornerOf}
 use Rattle.player.specs.Columns.{isClear, figureEnd, holdsFigure}
 use Rattle.table_rows.specs.Index.{isIndex}
@@ -33,6 +33,7 @@ use Rattle.figure_bridge.proofs.Tests.{or-yes, row-natural, row-below, 
 use Rattle.figure_bridge.proofs.Parts.{counts, figure-long, points-stand, uvs-stand, faces-stand, owner-stands}
 use Rattle.figure_bridge.proofs.Grouped.{groupNumber, rowOf, face-grouped, row-grouped, group-known}
 use Rattle.figure_bridge.proofs.FaceRows.{cornerAt, row-material, row-size, row-vertex, row-uv, below-four, vertices-sound, uvs-sound, face-fine}
+use Rattle.table_counts.specs.Counts.{figureLists}
 
 -- ---- a corner, where every test passes
 
@@ -53,7 +54,7 @@ module _ (f : Figure) (w : WholeFigure f) (c : figureFault f ≡ clear) (rest : 
   table = layoutOf f ++ rest
 
   pub figure-holds : holdsFigure (counts f) table ≡ true
-  unfolding holdsFigure isClear countsOf
+  unfolding holdsFigure isClear countsOf figureCounts figureLists
   figure-holds =
       let e = figure-long f w (parents-sound f c) in
       rw (counts-sound f c, le-leb (figureEnd (counts f)) (length table) (rw (length-append (layoutOf f) rest) (omega arith)))

@@ -14,7 +14,7 @@ use Rattle.refusal.specs.FirstBad.{all}
 use Rattle.table_rows.specs.References.{isRow, isNone, sameNumber}
 use Rattle.bac6_text.specs.Layout.{corners, faceRow}
 use Rattle.bac6_text.proofs.Whole.{WholeFace}
-use Rattle.player.specs.declared.counts.FigureCounts.{FigureCounts}
+use Rattle.table_counts.specs.declared.counts.FigureCounts.{FigureCounts}
 use Rattle.table_rows.specs.Index.{isIndex}
 use Rattle.player.specs.Lookups.{sizeFine, cornersFine, allNone, faceFine}
 

@@ -14,7 +14,7 @@ use Rattle.bac6_text.specs.Rules.{facesOf, flagsOf, parentsIn, wholeList, owner
 use Rattle.bac6_text.specs.Layout.{layoutOf, nameNumbers, boneRows, ownersFrom, faceRows, groupNames}
 use Rattle.bac6_text.proofs.Whole.{WholeFigure}
 use Rattle.bac6_text.proofs.Rows.{bones-wide, bones-count, face-rows-wide, face-rows-length}
-use Rattle.player.specs.declared.counts.FigureCounts.{FigureCounts}
+use Rattle.table_counts.specs.declared.counts.FigureCounts.{FigureCounts}
 use Rattle.player.specs.Columns.{numberAt, pointsBegin, bonesBegin, ownersBegin, uvsBegin, facesBegin, figureEnd}
 use Rattle.movement_bridge.proofs.Laid.{Laid}
 

@@ -18,8 +18,8 @@ use Rattle.bac6_text.specs.Layout.{layoutOf, corners, faceRow}
 use Rattle.bac6_text.proofs.Whole.{WholeFace, WholeFigure}
 use Rattle.tra4_text.specs.Movement.{Pattern, groupOf, Movement}
 use Rattle.tra4_text.specs.Rules.{patternsFault}
-use Rattle.player.specs.declared.counts.FigureCounts.{FigureCounts}
-use Rattle.player.specs.declared.counts.MovementCounts.{MovementCounts}
+use Rattle.table_counts.specs.declared.counts.FigureCounts.{FigureCounts}
+use Rattle.table_counts.specs.declared.counts.MovementCounts.{MovementCounts}
 use Rattle.player.specs.Faces.{allOwned, groupShown, shownOf}
 use Rattle.player.specs.Columns.{numberAt, isClear, holdsFigure, holdsMovement}
 use Rattle.table_rows.specs.Index.{isIndex}

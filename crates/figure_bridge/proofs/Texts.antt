@@ -27,14 +27,16 @@ use Rattle.movement_bridge.specs.Counts as movement
 use Rattle.movement_bridge.proofs.Taken.{Taken, taken}
 use Rattle.movement_bridge.proofs.Tables.{movement-holds, total-stands, frame-asked, patterns-stand, patterns-clear, flags-fine}
 use Rattle.pair_text.specs.Rules.{groupsFault}
-use Rattle.figure_bridge.specs.Rows.{countsIn, faceOf, groupedFaceOf, hasNoGroup}
+use Rattle.figure_bridge.specs.Rows.{faceOf, groupedFaceOf, hasNoGroup}
 use Rattle.figure_bridge.proofs.Parts.{counts}
 use Rattle.figure_bridge.proofs.Tests.{or-yes}
 use Rattle.figure_bridge.proofs.Corners.{corner-stands}
 use Rattle.figure_bridge.proofs.Showing.{shown-stands}
+use Rattle.bac6_text.specs.Rules.{figureCounts}
+use Rattle.tra4_text.specs.Rules.{movementCounts}
 
-pub counts-are : (f : Figure) → countsIn (answerOf (accepted f)) ≡ counts f
-unfolding countsIn answerOf
+pub counts-are : (f : Figure) → figureCounts f ≡ counts f
+unfolding figureCounts
 counts-are f = refl
 
 module _ (text : List ℕ) (table : List ℤ) (f : Figure) (e : figureAnswer text (length table) ≡ accepted f) where
@@ -51,14 +53,14 @@ module _ (text : List ℕ) (table : List ℤ) (f : Figure) (e : figureAnswer tex
 
   -- ---- Corner
 
-  pub corner-from-text : (face k : ℕ) → face < length (facesOf f) → k < faceOf f face .size → cornerIn (countsIn (answerOf (accepted f))) (tableAfter text table) face k ≡ some (cornerOf f (faceOf f face) k)
+  pub corner-from-text : (face k : ℕ) → face < length (facesOf f) → k < faceOf f face .size → cornerIn (figureCounts f) (tableAfter text table) face k ≡ some (cornerOf f (faceOf f face) k)
   corner-from-text face k below used = rw (counts-are f, figure-table) (corner-stands f whole-figure (figure-taken .shape .clean) (drop (length (layoutOf f)) table) face k below used)
 
   -- ---- Shown
 
   module _ (movementText : List ℕ) (moves : List ℤ) (m : Movement) (d : movementAnswer movementText (length moves) ≡ accepted m) where
     abbrev shown : ℕ → ℕ → Option Bool
-    shown face at = shownIn (countsIn (answerOf (accepted f))) (tableAfter text table) (movement.countsIn (tra4.answerOf (accepted m))) (movementTable movementText moves) face at
+    shown face at = shownIn (figureCounts f) (tableAfter text table) (movementCounts m) (movementTable movementText moves) face at
 
     module _ (face at : ℕ) (below : face < length (facesOf f)) (frame : at < natAbs (m .totalFrames)) where
       -- the answer, and 21 exactly where a group face meets a pattern whose group is no row, which is where rule 20 refuses the pair

@@ -1,4 +1,4 @@
--- The counts that a figure's answer gives, and a figure's faces by row.
+-- A figure's faces by row.
 use mathlib.Core.List.{[]}
 use mathlib.Core.Bool.{Bool, true, false}
 use mathlib.Core.Option.{Option, none, some}
@@ -7,14 +7,7 @@ use lib.IntN.{negsuc}
 use lib.ListN.{getD}
 use Rattle.bac6_text.specs.Figure.{Face, Figure}
 use Rattle.bac6_text.specs.Rules.{facesOf}
-use Rattle.bac6.specs.declared.setting.FigureAnswer.{FigureAnswer}
-use Rattle.player.specs.declared.counts.FigureCounts.{FigureCounts}
 use Rattle.player.specs.Faces.{groupedFaces}
-
--- the nine row counts
-unfoldable pub countsIn : FigureAnswer → FigureCounts
-countsIn a =
-    record { textures = a .textures; colours = a .colours; materials = a .materials; points = a .points; normals = a .normals; bones = a .bones; uvs = a .uvs; faces = a .faces; groups = a .groups }
 
 -- past the last row
 unfoldable pub noFace : Face

@@ -19,15 +19,16 @@ use Rattle.tra4_text.specs.Answer.{movementAnswer, movementTable}
 use Rattle.tra4_text.proofs.Whole.{WholeChannel, WholeBone, WholeMovement, wide-keys}
 use Rattle.tra4_text.proofs.Layouts.{keys-append, keys-wide}
 use Rattle.tra4.specs.Answers.{answerOf}
-use Rattle.player.specs.declared.counts.MovementCounts.{MovementCounts}
+use Rattle.table_counts.specs.declared.counts.MovementCounts.{MovementCounts}
 use Rattle.player.specs.Samples.{sampleOf}
 use Rattle.player.specs.Columns.{numberAt, rowsAt, isClear, keysBegin, holdsMovement}
 use Rattle.player.specs.Lookups.{onlyIf, isAsked, isRange, valuesFine, pairAt, channelKeys, canSample, sampleIn}
-use Rattle.movement_bridge.specs.Counts.{countsIn, channelOf}
+use Rattle.movement_bridge.specs.Counts.{channelOf}
 use Rattle.movement_bridge.proofs.Laid.{Laid, laid-part, rows-laid}
 use Rattle.movement_bridge.proofs.Channels.{Found, in-rows}
 use Rattle.movement_bridge.proofs.Faultless.{one-clear, range-within, values-fine}
 use Rattle.movement_bridge.proofs.Tables.{countsRead, bone-number, keys-laid, keys-clear, whole-read, clean-read, table-read, movement-holds, total-stands, frame-asked}
+use Rattle.tra4_text.specs.Rules.{movementCounts}
 
 -- ---- what holds of each channel
 
@@ -71,7 +72,7 @@ module _ (m : Movement) (w : WholeMovement m) (clean : movementFault m ≡ clear
       rows-laid 2 c (whole-one .wide) (laid-part 2 (allKeys (s .before)) c (allKeys (s .behind)) (keys-wide (s .before) (wide-keys (s .before) (every-first WholeChannel (s .before) (c ∷ s .behind) whole-split))) all)
 
   keys-range : isRange (countsRead m .keys) (pos (length (allKeys (s .before)))) (pos (length c)) ≡ true
-  unfolding countsIn answerOf keyRows
+  unfolding movementCounts keyRows
   keys-range =
       let a = keys-within (s .before) c (s .behind) in
       let b : length (allKeys (channelsOf (m .bones))) ≡ length (allKeys (s .before ++ (c ∷ s .behind))) = ap (λ (cs : List Channel). length (allKeys cs)) (s .splits) in
@@ -89,8 +90,8 @@ module _ (m : Movement) (w : WholeMovement m) (clean : movementFault m ≡ clear
 
 -- ---- the theorem
 
-pub sample-from-text : (text : List ℕ) (table : List ℤ) (m : Movement) → movementAnswer text (length table) ≡ accepted m → (bone channel at : ℕ) → bone < length (m .bones) → channel < 10 → at < natAbs (m .totalFrames) → sampleIn (countsIn (answerOf (accepted m))) (movementTable text table) bone channel at ≡ some (sampleOf (channelOf m bone channel) at)
-unfolding channelOf countsIn answerOf pairAt
+pub sample-from-text : (text : List ℕ) (table : List ℤ) (m : Movement) → movementAnswer text (length table) ≡ accepted m → (bone channel at : ℕ) → bone < length (m .bones) → channel < 10 → at < natAbs (m .totalFrames) → sampleIn (movementCounts m) (movementTable text table) bone channel at ≡ some (sampleOf (channelOf m bone channel) at)
+unfolding channelOf movementCounts pairAt
 sample-from-text text table m e bone channel at h k l =
     let w = whole-read text table m e in
     let t = movementTable text table in

@@ -19,23 +19,25 @@ use Rattle.parse_rows.proofs.Widths.{Wide, flat-length}
 use Rattle.table_rows.specs.References.{isRow}
 use Rattle.tra4_text.specs.Movement.{Movement}
 use Rattle.tra4_text.specs.Grammar.{movement}
-use Rattle.tra4_text.specs.Rules.{channelsOf, keyRows, countsOf, mosts, totalFault, keysFault, patternsFault, movementFault}
+use Rattle.tra4_text.specs.Rules.{channelsOf, keyRows, countsOf, movementCounts, totalFault, keysFault, patternsFault, movementFault}
 use Rattle.tra4_text.specs.Layout.{nameNumbers, boneRows, layoutOf}
 use Rattle.tra4_text.specs.Answer.{movementOutcome, movementAnswer, movementTable}
 use Rattle.tra4_text.proofs.Whole.{WholeMovement, movement-whole}
 use Rattle.tra4_text.proofs.Layouts.{all-wide, rows-wide, rows-count, layout-length}
 use Rattle.tra4.specs.Answers.{answerOf}
-use Rattle.player.specs.declared.counts.MovementCounts.{MovementCounts}
+use Rattle.table_counts.specs.declared.counts.MovementCounts.{MovementCounts}
 use Rattle.player.specs.Columns.{numberAt, rowsAt, isClear, keysBegin, patternsBegin, movementEnd, holdsMovement}
 use Rattle.player.specs.Lookups.{isAsked}
-use Rattle.movement_bridge.specs.Counts.{countsIn}
 use Rattle.movement_bridge.proofs.Laid.{Laid, rows-laid, number-laid}
 use Rattle.movement_bridge.proofs.Taken.{Taken, taken}
 use Rattle.movement_bridge.proofs.Faultless.{asked-below, flags-in-row}
+use Rattle.table_counts.specs.Counts.{movementMosts}
+use Rattle.table_counts.specs.Counts.{movementLists}
+use Rattle.tra4_text.specs.Rules.{movementCounts}
 
 -- the counts that reading answers
 abbrev pub countsRead : Movement → MovementCounts
-countsRead m = countsIn (answerOf (accepted m))
+countsRead m = movementCounts m
 
 -- ---- the layout's lists, in a table that begins with it
 
@@ -80,7 +82,7 @@ module _ (m : Movement) (w : WholeMovement m) (t rest : List ℤ) (e : t ≡ lay
       ∙ number-laid 22 (boneRows 0 (m .bones)) (rows-wide 0 (m .bones) (w .bones)) bones-laid bone j (omega (arith, rows-count 0 (m .bones))) k
 
   pub keys-laid : Laid (keyRows m) (keysBegin (countsRead m)) t
-  unfolding layoutOf nameNumbers keysBegin countsIn answerOf
+  unfolding layoutOf nameNumbers keysBegin movementCounts
   keys-laid =
       let a = length-append lead (flat (boneRows 0 (m .bones))) in
       let b = bones-size in
@@ -92,7 +94,7 @@ module _ (m : Movement) (w : WholeMovement m) (t rest : List ℤ) (e : t ≡ lay
       }
 
   pub patterns-laid : Laid (m .patterns) (patternsBegin (countsRead m)) t
-  unfolding layoutOf nameNumbers patternsBegin keysBegin countsIn answerOf
+  unfolding layoutOf nameNumbers patternsBegin keysBegin movementCounts
   patterns-laid =
       let a = length-append lead (flat (boneRows 0 (m .bones))) in
       let b = bones-size in
@@ -108,13 +110,13 @@ module _ (m : Movement) (w : WholeMovement m) (t rest : List ℤ) (e : t ≡ lay
 -- ---- the rules, each
 
 module _ (m : Movement) (clean : movementFault m ≡ clear) where
-  pub counts-clear : tooMany 0 (countsOf m) mosts ≡ clear
+  pub counts-clear : tooMany 0 (countsOf m) movementMosts ≡ clear
   unfolding movementFault
   counts-clear = or-first _ _ clean
 
   total-on : orElse (totalFault (m .totalFrames)) (orElse (keysFault (m .totalFrames) 0 (channelsOf (m .bones))) (patternsFault (m .totalFrames) (m .patterns))) ≡ clear
   unfolding movementFault
-  total-on = or-second (tooMany 0 (countsOf m) mosts) _ clean
+  total-on = or-second (tooMany 0 (countsOf m) movementMosts) _ clean
 
   pub total-clear : totalFault (m .totalFrames) ≡ clear
   total-clear = or-first _ _ total-on
@@ -128,8 +130,8 @@ module _ (m : Movement) (clean : movementFault m ≡ clear) where
   pub lines-clear : patternsFault (m .totalFrames) (m .patterns) ≡ clear
   lines-clear = or-second _ _ keys-on
 
-holds-read : (m : Movement) (t : List ℤ) → tooMany 0 (countsOf m) mosts ≡ clear → 3 + length (m .bones) * 22 + length (keyRows m) * 2 + length (m .patterns) * 3 ≤ length t → holdsMovement (countsRead m) t ≡ true
-unfolding holdsMovement movementEnd patternsBegin keysBegin isClear countsIn answerOf countsOf
+holds-read : (m : Movement) (t : List ℤ) → tooMany 0 (countsOf m) movementMosts ≡ clear → 3 + length (m .bones) * 22 + length (keyRows m) * 2 + length (m .patterns) * 3 ≤ length t → holdsMovement (countsRead m) t ≡ true
+unfolding holdsMovement movementEnd patternsBegin keysBegin isClear countsOf movementCounts movementLists
 holds-read m t e h = rw (e, le-leb _ _ h)
 
 -- ---- a text that is taken
@@ -149,7 +151,7 @@ module _ (text : List ℕ) (table : List ℤ) (m : Movement) (e : movementAnswer
   unfolding movementTable laid
   table-read = ap (λ (o : Outcome Movement). laid layoutOf table o) e
 
-  -- the counts are within their mosts, and the table holds them
+  -- the counts are within their movementMosts, and the table holds them
   pub movement-holds : holdsMovement (countsRead m) (movementTable text table) ≡ true
   movement-holds =
       let l = ap length table-read ∙ length-append (layoutOf m) (drop (length (layoutOf m)) table) in
@@ -163,7 +165,7 @@ module _ (text : List ℕ) (table : List ℤ) (m : Movement) (e : movementAnswer
   frame-asked at h = asked-below (m .totalFrames) at (total-clear m clean-read) h
 
   pub patterns-stand : rowsAt 3 (movementTable text table) (patternsBegin (countsRead m)) (countsRead m .patterns) ≡ m .patterns
-  unfolding countsIn answerOf
+  unfolding movementCounts
   patterns-stand = rows-laid 3 (m .patterns) (whole-read .patterns) (patterns-laid m whole-read _ _ table-read)
 
   pub patterns-clear : patternsFault (m .totalFrames) (m .patterns) ≡ clear

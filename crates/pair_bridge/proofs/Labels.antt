@@ -21,7 +21,6 @@ use Rattle.player.specs.Columns.{holdsMovement}
 use Rattle.player.specs.Lookups.{onlyIf}
 use Rattle.player_label.specs.Names.{ifTrue}
 use Rattle.player_label.specs.Labels.{labelFrom, labelIn}
-use Rattle.movement_bridge.specs.Counts.{countsIn}
 use Rattle.movement_bridge.proofs.Tables.{countsRead}
 use Rattle.movement_bridge.proofs.Names as movement
 use Rattle.figure_bridge.proofs.Parts.{counts}
@@ -29,10 +28,11 @@ use Rattle.figure_bridge.proofs.Corners.{figure-holds}
 use Rattle.figure_bridge.proofs.Names as figure
 use Rattle.pair_bridge.specs.Playing.{labelAsked}
 use Rattle.pair_bridge.proofs.Names.{figure-named, movement-named}
+use Rattle.tra4_text.specs.Rules.{movementCounts}
 
 module _ (F : List ℕ) (f : Figure) (w : WholeFigure f) (c : figureFault f ≡ clear) (rest : List ℤ) (F-stands : (i : ℕ) → i < length (f .bones) → StringAt F (figure.boneName (f .bones) i .at) (figure.boneName (f .bones) i .bytes)) (M : List ℕ) (m : Movement) (v : WholeMovement m) (t beyond : List ℤ) (e : t ≡ movements.layoutOf m ++ beyond) (held : holdsMovement (countsRead m) t ≡ true) (M-stands : (i : ℕ) → i < length (m .bones) → StringAt M (movement.boneName (m .bones) i .at) (movement.boneName (m .bones) i .bytes)) where
   pub label-read : (bone : ℕ) → labelIn F (counts f) (figures.layoutOf f ++ rest) M (countsRead m) t bone ≡ labelAsked f m bone
-  unfolding labelIn labelAsked onlyIf ifTrue labelFrom countsIn answerOf
+  unfolding labelIn labelAsked onlyIf ifTrue labelFrom movementCounts
   label-read bone = go (ltb bone (length (f .bones))) (ltb bone (length (m .bones))) refl refl
     where
       go : (a b : Bool) → ltb bone (length (f .bones)) ≡ a → ltb bone (length (m .bones)) ≡ b → labelIn F (counts f) (figures.layoutOf f ++ rest) M (countsRead m) t bone ≡ labelAsked f m bone

@@ -39,6 +39,8 @@ use Rattle.figure_bridge.proofs.FaceRows.{row-size}
 use Rattle.figure_bridge.proofs.Corners.{figure-holds, face-stands}
 use Rattle.figure_bridge.proofs.Texts.{counts-are, figure-taken, whole-figure, figure-table, corner-from-text, shown-from-text}
 use Rattle.pair_bridge.specs.Playing.{framesOf, sampleAsked, cornerAsked, shownAsked}
+use Rattle.bac6_text.specs.Rules.{figureCounts}
+use Rattle.tra4_text.specs.Rules.{movementCounts}
 
 not-below : (total : ℤ) (at : ℕ) → ltb at (natAbs total) ≡ false → isAsked total at ≡ false
 unfolding isAsked
@@ -52,7 +54,7 @@ not-below total at h = rw h (go (isClear (totalFault total)))
 
 module _ (text : List ℕ) (table : List ℤ) (m : Movement) (e : movementAnswer text (length table) ≡ accepted m) where
   abbrev sampled : ℕ → ℕ → ℕ → Option Fraction
-  sampled bone channel at = sampleIn (movement.countsIn (tra4.answerOf (accepted m))) (movementTable text table) bone channel at
+  sampled bone channel at = sampleIn (movementCounts m) (movementTable text table) bone channel at
 
   -- a frame that is not below the total is not asked
   pub frame-past : (at : ℕ) → ltb at (framesOf m) ≡ false → isAsked (numberAt (movementTable text table) 0) at ≡ false
@@ -60,7 +62,7 @@ module _ (text : List ℕ) (table : List ℤ) (m : Movement) (e : movementAnswer
   frame-past at h = rw (total-stands text table m e) (not-below (m .totalFrames) at h)
 
   pub sample-asked : (bone channel at : ℕ) → sampled bone channel at ≡ sampleAsked m bone channel at
-  unfolding sampleAsked onlyIf movement.countsIn tra4.answerOf
+  unfolding sampleAsked onlyIf movementCounts
   sample-asked bone channel at = go (ltb bone (length (m .bones))) (ltb channel 10) (ltb at (framesOf m)) refl refl refl
     where
       go : (a b c : Bool) → ltb bone (length (m .bones)) ≡ a → ltb channel 10 ≡ b → ltb at (framesOf m) ≡ c → sampled bone channel at ≡ sampleAsked m bone channel at
@@ -75,11 +77,11 @@ module _ (text : List ℕ) (table : List ℤ) (f : Figure) (e : figureAnswer tex
   abbrev rest : List ℤ
   rest = drop (length (layoutOf f)) table
 
-  pub figure-holds-read : holdsFigure (figure.countsIn (bac6.answerOf (accepted f))) (tableAfter text table) ≡ true
+  pub figure-holds-read : holdsFigure (figureCounts f) (tableAfter text table) ≡ true
   figure-holds-read = rw (counts-are f, figure-table text table f e) (figure-holds f (whole-figure text table f e) (figure-taken text table f e .shape .clean) rest)
 
   abbrev cornered : ℕ → ℕ → Option CornerOf
-  cornered face k = cornerIn (figure.countsIn (bac6.answerOf (accepted f))) (tableAfter text table) face k
+  cornered face k = cornerIn (figureCounts f) (tableAfter text table) face k
 
   -- the size that the row says
   row-sized : (face : ℕ) → face < length (facesOf f) → natAbs (getD (faceAt (counts f) (tableAfter text table) face) 1 (pos 0)) ≡ faceOf f face .size
@@ -107,7 +109,7 @@ module _ (text : List ℕ) (table : List ℤ) (f : Figure) (e : figureAnswer tex
 
   module _ (movementText : List ℕ) (moves : List ℤ) (m : Movement) (d : movementAnswer movementText (length moves) ≡ accepted m) (known : groupsFault (length (f .groups)) (m .patterns) ≡ clear) where
     abbrev showed : ℕ → ℕ → Option Bool
-    showed face at = shownIn (figure.countsIn (bac6.answerOf (accepted f))) (tableAfter text table) (movement.countsIn (tra4.answerOf (accepted m))) (movementTable movementText moves) face at
+    showed face at = shownIn (figureCounts f) (tableAfter text table) (movementCounts m) (movementTable movementText moves) face at
 
     pub shown-asked : (face at : ℕ) → showed face at ≡ shownAsked f m face at
     unfolding shownAsked onlyIf

@@ -5,7 +5,7 @@ use mathlib.Core.Option.{Option}
 use Prim.Native.Nat.{ℕ, zero, suc}
 use lib.IntN.{ℤ}
 use Rattle.parse_cursor.specs.Fields.{isSome}
-use Rattle.player.specs.declared.counts.FigureCounts.{FigureCounts}
+use Rattle.table_counts.specs.declared.counts.FigureCounts.{FigureCounts}
 use Rattle.player.specs.Columns.{holdsFigure}
 use Rattle.player.specs.Lookups.{onlyIf}
 use Rattle.player_label.specs.Names.{figureName}

@@ -14,11 +14,10 @@ use Rattle.refusal.specs.Outcomes.{rejected, accepted}
 use Rattle.tra4_text.specs.Movement.{Movement}
 use Rattle.tra4_text.specs.Answer.{movementAnswer, movementTable}
 use Rattle.tra4.specs.Answers.{answerOf}
-use Rattle.player.specs.declared.counts.FigureCounts.{FigureCounts}
+use Rattle.table_counts.specs.declared.counts.FigureCounts.{FigureCounts}
 use Rattle.player.specs.Columns.{holdsFigure}
 use Rattle.player.specs.Lookups.{onlyIf}
 use Rattle.player_label.specs.Names.{figureName}
-use Rattle.movement_bridge.specs.Counts.{countsIn}
 use Rattle.movement_bridge.proofs.Tables.{countsRead, whole-read, table-read, patterns-stand}
 use Rattle.movement_bridge.proofs.Names.{boneName}
 use Rattle.pair_text.specs.Rules.{pairFault}
@@ -27,6 +26,7 @@ use Rattle.pair_bridge.specs.Names.{namesFrom, allNamed, namesIn}
 use Rattle.pair_bridge.proofs.Names.{names-length, movement-names-in}
 use Rattle.pair_load.specs.Answers.{withNames, movedAnswer, movedReply}
 use Rattle.pair_rules.specs.Tables.{rowsFault}
+use Rattle.tra4_text.specs.Rules.{movementCounts}
 
 -- ---- the figure's names
 
@@ -79,7 +79,7 @@ module _ (figure : List ℕ) (n : FigureCounts) (table : List ℤ) where
 
 module _ (text : List ℕ) (table : List ℤ) (m : Movement) (taken : movementAnswer text (length table) ≡ accepted m) (stands : (i : ℕ) → i < length (m .bones) → StringAt text (boneName (m .bones) i .at) (boneName (m .bones) i .bytes)) (figure : List ℕ) (n : FigureCounts) (rows : List ℤ) where
   pub tables-are : rowsFault figure n rows text (countsRead m) (movementTable text table) ≡ pairFault (names figure n rows) (n .groups) m
-  unfolding rowsFault pairFault countsIn answerOf
+  unfolding rowsFault pairFault movementCounts
   tables-are =
       rw (names-length (figureName figure n rows) 0 (n .bones), movement-names-in text m (whole-read text table m taken) (movementTable text table) _ (table-read text table m taken) stands, patterns-stand text table m taken)
 

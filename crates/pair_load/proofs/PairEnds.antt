@@ -17,18 +17,19 @@ use Rattle.tra4_text.specs.Layout as movements
 use Rattle.tra4_text.specs.Answer.{movementAnswer}
 use Rattle.tra4.specs.Answers as tra4
 use Rattle.tra4.specs.declared.setting.MovementAnswer.{MovementAnswer}
-use Rattle.figure_bridge.specs.Rows.{countsIn}
 use Rattle.figure_bridge.proofs.Names.{boneName}
 use Rattle.figure_bridge.proofs.Texts.{counts-are, figure-taken, whole-figure, figure-table}
 use Rattle.pair_text.specs.Rules.{figureNames}
 use Rattle.bac6.specs.declared.setting.FigureAnswer.{FigureAnswer}
-use Rattle.player.specs.declared.counts.FigureCounts.{FigureCounts}
+use Rattle.table_counts.specs.declared.counts.FigureCounts.{FigureCounts}
 use Rattle.movement_bridge.specs.Counts as moving
 use Rattle.pair_text.specs.Answer.{Loaded, refused, loaded, withMovement, withFigure, paired, pairAnswer, movementOf, figureLeft, movementLeft}
 use Rattle.pair_load.specs.declared.pair.PairAnswer.{PairAnswer}
 use Rattle.pair_bridge.specs.Names.{namesIn}
 use Rattle.pair_bridge.proofs.Names.{figure-names-in}
 use Rattle.pair_load.specs.Answers.{withNames, movedAnswer, movedReply, pairReply}
+use Rattle.bac6_text.specs.Rules.{figureCounts}
+use Rattle.tra4_text.specs.Rules.{movementCounts}
 
 module _ (figure : List ℕ) (room : ℕ) (movement : List ℕ) (space : ℕ) where
   pub figure-refused : (n p : ℕ) → figureAnswer figure room ≡ rejected n p → pairAnswer figure room movement space ≡ refused n p 0
@@ -38,13 +39,13 @@ module _ (figure : List ℕ) (room : ℕ) (movement : List ℕ) (space : ℕ) wh
   -- the figure as it was read into a table of the most numbers
   module _ (table : List ℤ) (f : Figure) (taken : figureAnswer figure (length table) ≡ accepted f) (stands : (i : ℕ) → i < length (f .bones) → StringAt figure (boneName (f .bones) i .at) (boneName (f .bones) i .bytes)) where
     abbrev moved : Loaded Movement
-    moved = movedAnswer figure (countsIn (bac6.answerOf (accepted f))) (tableAfter figure table) movement space
+    moved = movedAnswer figure (figureCounts f) (tableAfter figure table) movement space
 
-    names-are : namesIn figure (countsIn (bac6.answerOf (accepted f))) (tableAfter figure table) ≡ some (figureNames f)
+    names-are : namesIn figure (figureCounts f) (tableAfter figure table) ≡ some (figureNames f)
     names-are = rw (counts-are f, figure-table figure table f taken) (figure-names-in figure f (whole-figure figure table f taken) (figure-taken figure table f taken .shape .clean) (drop (length (figures.layoutOf f)) table) stands)
 
     moved-is : moved ≡ withMovement (figureNames f) (length (f .groups)) (movementAnswer movement space)
-    unfolding movedAnswer withNames countsIn bac6.answerOf
+    unfolding movedAnswer withNames figureCounts
     moved-is = rw names-are
 
     pub pair-is : figureAnswer figure room ≡ accepted f → pairAnswer figure room movement space ≡ withFigure f moved
@@ -93,5 +94,5 @@ unfolding withFigure
 figure-kept f l k p file e = rw e
 
 pub reply-is : (a : FigureAnswer) (n : FigureCounts) (b : MovementAnswer) (f : Figure) (m : Movement) → a ≡ bac6.answerOf (accepted f) → n ≡ countsIn a → b ≡ tra4.answerOf (accepted m) → _≡_ {A = PairAnswer} (record { refusal = 0; place = 0; file = 0; «figure_total» = a .total; figure = n; «movement_total» = b .total; movement = record { bones = b .bones; keys = b .keys; patterns = b .patterns } }) (pairReply (loaded (f, m)))
-unfolding pairReply bac6.answerOf tra4.answerOf moving.countsIn
+unfolding pairReply bac6.answerOf tra4.answerOf
 reply-is a n b f m e h g = rw (h, e, g)

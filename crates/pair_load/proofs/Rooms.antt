@@ -34,6 +34,10 @@ use Rattle.movement_bridge.proofs.Taken.{taken}
 use Rattle.movement_bridge.proofs.Tables.{counts-clear}
 use Rattle.figure_bridge.proofs.Sound.{counts-sound, parents-sound}
 use Rattle.figure_bridge.proofs.Parts.{counts, figure-long}
+use Rattle.table_counts.specs.Counts.{figureMosts}
+use Rattle.table_counts.specs.Counts.{figureLists}
+use Rattle.table_counts.specs.Counts.{movementMosts}
+use Rattle.table_counts.specs.Counts.{movementLists}
 
 -- ---- over a format
 
@@ -96,7 +100,7 @@ module _ {A X : Type 0} {layout : A → List ℤ} {answerOf : Outcome A → X} (
 -- ---- a figure
 
 figure-most : (f : Figure) → figures.figureFault f ≡ clear → figureEnd (counts f) ≤ 37026
-unfolding figureEnd facesBegin uvsBegin ownersBegin bonesBegin pointsBegin figures.countsOf figures.mosts
+unfolding figureEnd facesBegin uvsBegin ownersBegin bonesBegin pointsBegin figures.countsOf figures.figureCounts figureLists figureMosts
 figure-most f c =
     let a = count-clear 0 _ _ _ _ (counts-sound f c) in
     let b = count-clear 1 _ _ _ _ (a .1) in
@@ -135,7 +139,7 @@ figure-held = record { total = λ x. x .total; refusal = λ x. x .refusal; place
 -- ---- a movement
 
 movement-most : (m : Movement) → movements.movementFault m ≡ clear → 3 + length (m .bones) * 22 + length (movements.keyRows m) * 2 + length (m .patterns) * 3 ≤ 11779
-unfolding movements.countsOf movements.mosts
+unfolding movements.countsOf movements.movementCounts movementLists movementMosts
 movement-most m c =
     let a = count-clear 0 _ _ _ _ (counts-clear m c) in
     let b = count-clear 1 _ _ _ _ (a .1) in

@@ -13,13 +13,16 @@ use Rattle.tra4_text.specs.Answer.{movementAnswer}
 use Rattle.bac6.specs.Answers as bac6
 use Rattle.tra4.specs.Answers as tra4
 use Rattle.tra4.specs.declared.setting.MovementAnswer.{MovementAnswer}
-use Rattle.player.specs.declared.counts.FigureCounts.{FigureCounts}
-use Rattle.player.specs.declared.counts.MovementCounts.{MovementCounts}
+use Rattle.table_counts.specs.declared.counts.FigureCounts.{FigureCounts}
+use Rattle.table_counts.specs.declared.counts.MovementCounts.{MovementCounts}
 use Rattle.movement_bridge.specs.Counts as movement
 use Rattle.figure_bridge.specs.Rows as figure
 use Rattle.pair_text.specs.Answer.{Loaded, refused, loaded, withMovement}
 use Rattle.pair_bridge.specs.Names.{namesIn}
 use Rattle.pair_load.specs.declared.pair.PairAnswer.{PairAnswer}
+use Rattle.bac6_text.specs.Rules.{figureCounts}
+use Rattle.tra4_text.specs.Rules.{movementCounts}
+use Rattle.table_counts.specs.Counts.{noFigure, noMovement}
 
 -- ---- a movement, with a figure in a table
 
@@ -34,16 +37,10 @@ movedAnswer figure n table movement space = withNames (namesIn figure n table) (
 
 -- a refusal's number, place and file and zeros; or the total and the three counts
 unfoldable pub movedReply : Loaded Movement → MovementAnswer
-movedReply (refused n p file) = record { refusal = n; place = p; file = file; total = 0; bones = 0; keys = 0; patterns = 0 }
+movedReply (refused n p file) = record { refusal = n; place = p; file = file; total = 0; counts = noMovement }
 movedReply (loaded m) = tra4.answerOf (accepted m)
 
 -- ---- a pair
-
-unfoldable pub noFigure : FigureCounts
-noFigure = record { textures = 0; colours = 0; materials = 0; points = 0; normals = 0; bones = 0; uvs = 0; faces = 0; groups = 0 }
-
-unfoldable pub noMovement : MovementCounts
-noMovement = record { bones = 0; keys = 0; patterns = 0 }
 
 -- a refusal's number, place and file and zeros; or both totals and both readers' counts
 unfoldable pub pairReply : Loaded (Figure × Movement) → PairAnswer
@@ -54,7 +51,7 @@ pairReply (loaded (f, m)) =
       place = 0;
       file = 0;
       «figure_total» = length (figures.layoutOf f);
-      figure = figure.countsIn (bac6.answerOf (accepted f));
+      figure = figureCounts f;
       «movement_total» = length (movements.layoutOf m);
-      movement = movement.countsIn (tra4.answerOf (accepted m));
+      movement = movementCounts m;
     }

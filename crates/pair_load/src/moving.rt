@@ -5,9 +5,9 @@ ghost use Rattle.pair_text.specs.Answer.{refused as refusedAt, movementLeft};
 ghost use Rattle.pair_load.specs.Answers.{movedAnswer, movedReply};
 use pair_rules::has_names;
 use pair_rules::pair_fault;
-use player::FigureCounts;
-use player::MovementCounts;
 use refusal::Checked;
+use table_counts::FigureCounts;
+use table_counts::no_movement;
 use table_rows::put;
 use tra4::MovementAnswer;
 
@@ -19,9 +19,7 @@ fn refused(number: usize, place: usize, file: usize) -> MovementAnswer
         place,
         file,
         total: 0,
-        bones: 0,
-        keys: 0,
-        patterns: 0,
+        counts: no_movement(),
     }
 }
 
@@ -51,13 +49,9 @@ pub fn load_movement(
     if moves.len() < total {
         return refused(17, total, 1);
     }
-    let m = MovementCounts {
-        bones: answer.bones,
-        keys: answer.keys,
-        patterns: answer.patterns,
-    };
+    let m = answer.counts;
     match pair_fault(figure, table, n, movement, &rows, m) {
-        Checked::Refused { number, offset } => refused(number as usize, offset, 2),
+        Checked::Refused { number, place } => refused(number as usize, place, 2),
         Checked::Clear => {
             put(moves, 0, &rows[..total]);
             answer

@@ -1,14 +1,13 @@
 // Loads a figure and a movement.
 ghost use mathlib.Core.Path.{_≡_};
 ghost use lib.ListN.{length};
-ghost use Rattle.bac6.specs.declared.setting.FigureAnswer.{FigureAnswer as Read};
-ghost use Rattle.figure_bridge.specs.Rows.{countsIn};
 ghost use Rattle.pair_text.specs.Answer.{refused as refusedAt, pairAnswer, figureLeft, movementOf, movementLeft};
 ghost use Rattle.pair_load.specs.Answers.{pairReply};
 use crate::moving::load_movement;
-use bac6::FigureAnswer;
-use player::FigureCounts;
-use player::MovementCounts;
+use table_counts::FigureCounts;
+use table_counts::MovementCounts;
+use table_counts::no_figure;
+use table_counts::no_movement;
 use table_rows::put;
 
 // A refusal's number, place and file, and zeros; or how many numbers and rows each table holds.
@@ -25,46 +24,14 @@ pub struct PairAnswer {
 fn refused(number: usize, place: usize, file: usize) -> PairAnswer
     ensures { λ r. ⌜ r ≡ pairReply (refusedAt number place file) ⌝ }
 {
-    let figure = FigureCounts {
-        textures: 0,
-        colours: 0,
-        materials: 0,
-        points: 0,
-        normals: 0,
-        bones: 0,
-        uvs: 0,
-        faces: 0,
-        groups: 0,
-    };
-    let movement = MovementCounts {
-        bones: 0,
-        keys: 0,
-        patterns: 0,
-    };
     PairAnswer {
         refusal: number,
         place,
         file,
         figure_total: 0,
-        figure,
+        figure: no_figure(),
         movement_total: 0,
-        movement,
-    }
-}
-
-fn counts_of(a: FigureAnswer) -> FigureCounts
-    ensures { λ r. ⌜ r ≡ countsIn a ⌝ }
-{
-    FigureCounts {
-        textures: a.textures,
-        colours: a.colours,
-        materials: a.materials,
-        points: a.points,
-        normals: a.normals,
-        bones: a.bones,
-        uvs: a.uvs,
-        faces: a.faces,
-        groups: a.groups,
+        movement: no_movement(),
     }
 }
 
@@ -85,17 +52,13 @@ pub fn load(figure: &[u8], movement: &[u8], table: &mut [i64], moves: &mut [i64]
     if table.len() < total {
         return refused(17, total, 0);
     }
-    let n = counts_of(answer);
+    let n = answer.counts;
     let moved = load_movement(figure, &rows, n, movement, moves);
     if moved.total == 0 {
         return refused(moved.refusal, moved.place, moved.file);
     }
     put(table, 0, &rows[..total]);
-    let m = MovementCounts {
-        bones: moved.bones,
-        keys: moved.keys,
-        patterns: moved.patterns,
-    };
+    let m = moved.counts;
     PairAnswer {
         refusal: 0,
         place: 0,

@@ -14,8 +14,8 @@ use Rattle.text_bytes.proofs.Parts.{part-length}
 use Rattle.text_numbers.proofs.Numerals.{and-true}
 use Rattle.report.specs.Output.{output}
 use Rattle.report.specs.Lists.{appendedEach, textOf}
-use Rattle.player.specs.declared.counts.FigureCounts.{FigureCounts}
-use Rattle.player.specs.declared.counts.MovementCounts.{MovementCounts}
+use Rattle.table_counts.specs.declared.counts.FigureCounts.{FigureCounts}
+use Rattle.table_counts.specs.declared.counts.MovementCounts.{MovementCounts}
 use Rattle.player.specs.Lookups.{onlyIf}
 use Rattle.player_label.specs.Names.{isName, nameSpan, partAt, figureSpan, figureName, movementSpan, movementName, ifTrue}
 use Rattle.player_label.specs.Labels.{labelOf, labelFrom, labelIn, orEmpty}

@@ -18,7 +18,6 @@ use Rattle.tra4_text.specs.Movement.{Movement}
 use Rattle.player.proofs.Mosts.{figure-small}
 use Rattle.player_label.specs.Labels.{orEmpty}
 use Rattle.player_listing.specs.Parts.{linesFrom}
-use Rattle.figure_bridge.specs.Rows.{countsIn}
 use Rattle.pair_text.specs.Answer.{Loaded, refused, loaded, pairAnswer, figureLeft, movementOf, movementLeft}
 use Rattle.pair_bridge.specs.Playing.{labelAsked}
 use Rattle.pair_bridge.proofs.Lookups.{figure-holds-read}
@@ -33,6 +32,7 @@ use Rattle.pair_input.specs.declared.division.Division.the-variants as division
 use Rattle.pair_listing.specs.Lines.{replyLine, labelParts}
 use Rattle.pair_listing.proofs.Replies.{reply-most}
 use Rattle.pair_output.specs.Printing.{pairLines, labelsIn, textsLines, dividedLines, inputLines, inputText}
+use Rattle.bac6_text.specs.Rules.{figureCounts}
 
 lines-same : (f g : ℕ → List (List ℕ)) → ((i : ℕ) → f i ≡ g i) → (at k : ℕ) → linesFrom f at k ≡ linesFrom g at k
 lines-same f g e at k = ap (λ (h : ℕ → List (List ℕ)). linesFrom h at k) (fun-ext e)
@@ -54,7 +54,7 @@ module _ (F : List ℕ) (table : List ℤ) (M : List ℕ) (moves : List ℤ) whe
   no-labels n p file = refl
 
   bone-count : (f : Figure) (m : Movement) → pairReply (loaded (f, m)) .figure .bones ≡ length (f .bones)
-  unfolding pairReply countsIn bac6.answerOf
+  unfolding pairReply figureCounts
   bone-count f m = refl
 
   labels-are : (f : Figure) (m : Movement) → pair ≡ loaded (f, m) → labelsLeft pair ≡ linesFrom (λ bone. labelParts bone (orEmpty (labelAsked f m bone))) 0 (length (f .bones))

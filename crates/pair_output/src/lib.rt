@@ -10,9 +10,9 @@ use pair_input::Division;
 use pair_input::divide;
 use pair_listing::append_label;
 use pair_listing::list_reply;
-use player::FigureCounts;
-use player::MovementCounts;
 use player_label::label;
+use table_counts::FigureCounts;
+use table_counts::MovementCounts;
 
 // Puts each bone's label after the first filled bytes of buf.
 fn append_labels<'a>(

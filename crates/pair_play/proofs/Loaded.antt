@@ -12,8 +12,8 @@ use Rattle.bac6.specs.Answers as bac6
 use Rattle.tra4_text.specs.Movement.{Movement}
 use Rattle.tra4_text.specs.Answer.{movementAnswer, movementTable}
 use Rattle.tra4.specs.Answers as tra4
-use Rattle.player.specs.declared.counts.FigureCounts.{FigureCounts}
-use Rattle.player.specs.declared.counts.MovementCounts.{MovementCounts}
+use Rattle.table_counts.specs.declared.counts.FigureCounts.{FigureCounts}
+use Rattle.table_counts.specs.declared.counts.MovementCounts.{MovementCounts}
 use Rattle.player.specs.Lookups.{sampleIn, cornerIn, shownIn}
 use Rattle.player_label.specs.Labels.{labelIn}
 use Rattle.movement_bridge.specs.Counts as movement
@@ -30,6 +30,8 @@ use Rattle.pair_load.specs.Answers.{pairReply}
 use Rattle.pair_load.proofs.Standing.{figure-stands, movement-stands}
 use Rattle.pair_play.specs.Playing.{reply, tableLeft, movesLeft}
 use Rattle.pair_play.proofs.Parts.{figure-alone, movement-alone, parts-taken, figure-left, moves-left}
+use Rattle.bac6_text.specs.Rules.{figureCounts}
+use Rattle.tra4_text.specs.Rules.{movementCounts}
 
 module _ (F : List ℕ) (table : List ℤ) (M : List ℕ) (moves : List ℤ) (f : Figure) (m : Movement) (e : pairAnswer F (length table) M (length moves) ≡ loaded (f, m)) where
   abbrev parts : pairs.PairTaken (figureAnswer F (length table)) (movementAnswer M (length moves)) f m
@@ -43,11 +45,11 @@ module _ (F : List ℕ) (table : List ℤ) (M : List ℕ) (moves : List ℤ) (f 
   moves-is : movesLeft F table M moves ≡ movementTable M moves
   moves-is = ap (λ (l : Loaded (Figure × Movement)). movementLeft moves (movementOf l)) e ∙ moves-left F table M moves f m e
 
-  figure-counts : reply F table M moves .figure ≡ figure.countsIn (bac6.answerOf (accepted f))
+  figure-counts : reply F table M moves .figure ≡ figureCounts f
   unfolding pairReply
   figure-counts = ap (λ (l : Loaded (Figure × Movement)). pairReply l .figure) e
 
-  movement-counts : reply F table M moves .movement ≡ movement.countsIn (tra4.answerOf (accepted m))
+  movement-counts : reply F table M moves .movement ≡ movementCounts m
   unfolding pairReply
   movement-counts = ap (λ (l : Loaded (Figure × Movement)). pairReply l .movement) e
 
@@ -66,10 +68,10 @@ module _ (F : List ℕ) (table : List ℤ) (M : List ℕ) (moves : List ℤ) (f 
   pub every-shown : (face at : ℕ) → shownIn (reply F table M moves .figure) (tableLeft F table M moves) (reply F table M moves .movement) (movesLeft F table M moves) face at ≡ shownAsked f m face at
   every-shown face at =
       ap₂ (λ (n : FigureCounts) (t : List ℤ). shownIn n t (reply F table M moves .movement) (movesLeft F table M moves) face at) figure-counts table-is
-      ∙ ap₂ (λ (k : MovementCounts) (u : List ℤ). shownIn (figure.countsIn (bac6.answerOf (accepted f))) (tableAfter F table) k u face at) movement-counts moves-is
+      ∙ ap₂ (λ (k : MovementCounts) (u : List ℤ). shownIn (figureCounts f) (tableAfter F table) k u face at) movement-counts moves-is
       ∙ shown-asked F table f (parts .figure) M moves m (parts .movement) (pairs.groups-kept (figureNames f) (length (f .groups)) m (parts .rules)) face at
 
-  label-alone : (bone : ℕ) → labelIn F (figure.countsIn (bac6.answerOf (accepted f))) (tableAfter F table) M (movement.countsIn (tra4.answerOf (accepted m))) (movementTable M moves) bone ≡ labelAsked f m bone
+  label-alone : (bone : ℕ) → labelIn F (figureCounts f) (tableAfter F table) M (movementCounts m) (movementTable M moves) bone ≡ labelAsked f m bone
   label-alone bone =
       rw (counts-are f, figure-table F table f (parts .figure))
       (label-read F f (whole-figure F table f (parts .figure)) (figure-taken F table f (parts .figure) .shape .clean) (drop (length (figures.layoutOf f)) table) (figure-stands F f (figure-alone F _ f (parts .figure))) M m (whole-read M moves m (parts .movement)) (movementTable M moves) _ (table-read M moves m (parts .movement)) (movement-holds M moves m (parts .movement)) (movement-stands M m (movement-alone M _ m (parts .movement))) bone)
@@ -77,7 +79,7 @@ module _ (F : List ℕ) (table : List ℤ) (M : List ℕ) (moves : List ℤ) (f 
   pub every-label : (bone : ℕ) → labelIn F (reply F table M moves .figure) (tableLeft F table M moves) M (reply F table M moves .movement) (movesLeft F table M moves) bone ≡ labelAsked f m bone
   every-label bone =
       ap₂ (λ (n : FigureCounts) (t : List ℤ). labelIn F n t M (reply F table M moves .movement) (movesLeft F table M moves) bone) figure-counts table-is
-      ∙ ap₂ (λ (k : MovementCounts) (u : List ℤ). labelIn F (figure.countsIn (bac6.answerOf (accepted f))) (tableAfter F table) M k u bone) movement-counts moves-is
+      ∙ ap₂ (λ (k : MovementCounts) (u : List ℤ). labelIn F (figureCounts f) (tableAfter F table) M k u bone) movement-counts moves-is
       ∙ label-alone bone
 
   -- ---- the same of counts and tables that are those of loading

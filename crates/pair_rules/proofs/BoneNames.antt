@@ -10,8 +10,8 @@ use lib.IntN.{ℤ}
 use lib.ListN.{length}
 use Rattle.text_bytes.specs.Bytes.{same}
 use Rattle.parse_cursor.specs.Fields.{isSome}
-use Rattle.player.specs.declared.counts.FigureCounts.{FigureCounts}
-use Rattle.player.specs.declared.counts.MovementCounts.{MovementCounts}
+use Rattle.table_counts.specs.declared.counts.FigureCounts.{FigureCounts}
+use Rattle.table_counts.specs.declared.counts.MovementCounts.{MovementCounts}
 use Rattle.player.specs.Columns.{holdsFigure, holdsMovement}
 use Rattle.player.specs.Lookups.{onlyIf}
 use Rattle.player_label.specs.Names.{partAt, figureSpan, figureName, movementName, ifTrue, figureNamed, movementNamed}

@@ -9,8 +9,8 @@ use lib.IntN.{ℤ}
 use lib.ListN.{take, drop}
 use Rattle.refusal.specs.Faults.{Fault, clear, fault}
 use Rattle.refusal.proofs.Rules.{or-clear, or-fault}
-use Rattle.player.specs.declared.counts.FigureCounts.{FigureCounts}
-use Rattle.player.specs.declared.counts.MovementCounts.{MovementCounts}
+use Rattle.table_counts.specs.declared.counts.FigureCounts.{FigureCounts}
+use Rattle.table_counts.specs.declared.counts.MovementCounts.{MovementCounts}
 use Rattle.player.specs.Columns.{rowsAt, keysBegin, patternsBegin, holdsFigure, holdsMovement}
 use Rattle.player.proofs.Sampled.{part-rows}
 use Rattle.player_label.specs.Names.{figureName, movementName}

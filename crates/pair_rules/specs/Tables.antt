@@ -5,8 +5,8 @@ use Prim.Native.Nat.{ℕ}
 use lib.IntN.{ℤ}
 use Rattle.refusal.specs.Faults.{Fault, fault}
 use Rattle.refusal.specs.Rules.{orElse}
-use Rattle.player.specs.declared.counts.FigureCounts.{FigureCounts}
-use Rattle.player.specs.declared.counts.MovementCounts.{MovementCounts}
+use Rattle.table_counts.specs.declared.counts.FigureCounts.{FigureCounts}
+use Rattle.table_counts.specs.declared.counts.MovementCounts.{MovementCounts}
 use Rattle.player.specs.Columns.{rowsAt, patternsBegin, holdsFigure, holdsMovement}
 use Rattle.player_label.specs.Names.{figureName, movementName}
 use Rattle.pair_text.specs.Rules.{bonesFault, namesFault, groupsFault}

@@ -8,9 +8,9 @@ ghost use Rattle.player.specs.Columns.{rowsAt, holdsFigure, holdsMovement};
 ghost use Rattle.pair_text.specs.Rules.{groupsFault};
 ghost use Rattle.pair_rules.specs.Tables.{rowsFault, tablesFault};
 use crate::names::names_fault;
-use player::FigureCounts;
-use player::MovementCounts;
 use refusal::Checked;
+use table_counts::FigureCounts;
+use table_counts::MovementCounts;
 
 // 20, at the first pattern line whose group is none of so many; lines are rows of three numbers.
 fn groups_fault(lines: &[i64], count: usize, groups: usize) -> Checked
@@ -23,7 +23,7 @@ fn groups_fault(lines: &[i64], count: usize, groups: usize) -> Checked
         if !table_rows::is_row(groups, group) {
             return Checked::Refused {
                 number: 20,
-                offset: row,
+                place: row,
             };
         }
         row += 1;
@@ -49,11 +49,11 @@ fn rows_fault(
     if n.bones != bones {
         return Checked::Refused {
             number: 18,
-            offset: bones,
+            place: bones,
         };
     }
     match names_fault(figure, table, n, movement, moves, m) {
-        Checked::Refused { number, offset } => Checked::Refused { number, offset },
+        Checked::Refused { number, place } => Checked::Refused { number, place },
         Checked::Clear => {
             let from = 3 + bones * 22 + keys * 2;
             groups_fault(&moves[from..from + count * 3], count, n.groups)
@@ -75,13 +75,13 @@ pub fn pair_fault(
     if !player::holds_figure(table, n) {
         return Checked::Refused {
             number: 21,
-            offset: 0,
+            place: 0,
         };
     }
     if !player::holds_movement(moves, m) {
         return Checked::Refused {
             number: 21,
-            offset: 0,
+            place: 0,
         };
     }
     rows_fault(figure, table, n, movement, moves, m)

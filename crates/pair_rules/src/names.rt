@@ -11,12 +11,12 @@ ghost use Rattle.player_label.specs.Names.{partAt, figureNamed, figureName, mov
 ghost use Rattle.player_label.specs.Labels.{orEmpty};
 ghost use Rattle.pair_text.specs.Rules.{namesAgree, namesFault};
 ghost use Rattle.pair_bridge.specs.Names.{namesFrom, namesIn};
-use player::FigureCounts;
-use player::MovementCounts;
 use player_label::Found;
 use player_label::figure_name;
 use player_label::movement_name;
 use refusal::Checked;
+use table_counts::FigureCounts;
+use table_counts::MovementCounts;
 use text_bytes::part;
 use text_bytes::same;
 
@@ -104,7 +104,7 @@ pub(crate) fn names_fault(
         if !bone_agrees(figure, table, n, movement, moves, m, row) {
             return Checked::Refused {
                 number: 19,
-                offset: row,
+                place: row,
             };
         }
         row += 1;

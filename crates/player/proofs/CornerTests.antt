@@ -10,7 +10,7 @@ use lib.IntN.{ℤ, pos, natAbs}
 use lib.ListN.{length, getD}
 use Rattle.table_rows.specs.References.{isNone}
 use Rattle.table_rows.specs.Index.{isIndex}
-use Rattle.player.specs.declared.counts.FigureCounts.{FigureCounts}
+use Rattle.table_counts.specs.declared.counts.FigureCounts.{FigureCounts}
 use Rattle.player.specs.Faces.{CornerOf}
 use Rattle.player.specs.Columns.{numbersAt, holdsFigure}
 use Rattle.player.specs.Lookups.{onlyIf, allFloat, faceFine, faceAt, ownerAt, pointAt, uvRow, uvFine, uvIn, canCorner, cornerIn}

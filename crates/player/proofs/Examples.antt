@@ -16,8 +16,10 @@ use Rattle.player.specs.Samples.{keyFrame, keyValue, line, sampleFrom, s
 use Rattle.player.specs.Faces.{CornerOf, inGroup, inGroups, groupedFaces, allOwned, applies, flagOf, lastFlag, groupShown, shownOf, rowAt, uvAt, cornerOf}
 use Rattle.player.specs.Columns.{numberAt, numbersAt, rowsAt, isClear, keysBegin, patternsBegin, movementEnd, holdsMovement, pointsBegin, bonesBegin, ownersBegin, uvsBegin, facesBegin, figureEnd, holdsFigure}
 use Rattle.player.specs.Lookups.{onlyIf, isFloat, allFloat, isAsked, isRange, valuesFine, pairAt, channelKeys, canSample, sampleIn, sizeFine, cornersFine, allNone, faceAt, ownerAt, faceFine, pointAt, uvRow, uvFine, uvIn, canCorner, cornerIn, ownersFine, ownedCorners, patternRows, linesFine, patternsFine, canShow, groupFlag, shownIn}
-use Rattle.player.specs.declared.counts.MovementCounts.{MovementCounts}
-use Rattle.player.specs.declared.counts.FigureCounts.{FigureCounts}
+use Rattle.table_counts.specs.declared.counts.MovementCounts.{MovementCounts}
+use Rattle.table_counts.specs.declared.counts.FigureCounts.{FigureCounts}
+use Rattle.table_counts.specs.Counts.{figureMosts}
+use Rattle.table_counts.specs.Counts.{movementMosts}
 
 abbrev fraction : ℤ → ℕ → Fraction
 fraction n d = record { numerator = n; denominator = d }
@@ -64,13 +66,13 @@ moveCounts = record { bones = 1; keys = 11; patterns = 0 }
 
 -- frames 0 to 5 of roll: on a key, between two, on the last, past it, and none
 pub roll-example : map (λ (at : ℕ). sampleIn moveCounts moves 0 9 at) (0 ∷ 1 ∷ 2 ∷ 4 ∷ 5 ∷ []) ≡ some (fraction (pos 1500000) 1) ∷ some (fraction (pos 1499999) 2) ∷ some (fraction (negsuc 0) 1) ∷ some (fraction (negsuc 0) 1) ∷ none ∷ []
-unfolding tooMany bac6.mosts isRow isNone sameNumber tra4.mosts tra4.totalFault tra4.isFrame tra4.isZero tra4.rises tra4.neverFalls tra4.framesFault tra4.keyFine tra4.patternFine tra4.patternsFault frameOf groupOf factorIn factor signedAs lowest whole keyFrame keyValue line sampleFrom sampleOf inGroup inGroups groupedFaces allOwned applies flagOf lastFlag groupShown shownOf rowAt uvAt cornerOf numberAt numbersAt rowsAt isClear keysBegin patternsBegin movementEnd holdsMovement pointsBegin ownersBegin bonesBegin uvsBegin facesBegin figureEnd holdsFigure onlyIf isFloat allFloat isIndex isAsked isRange valuesFine pairAt channelKeys canSample sampleIn sizeFine cornersFine allNone faceAt ownerAt faceFine pointAt uvRow uvFine uvIn canCorner cornerIn ownersFine ownedCorners patternRows linesFine patternsFine canShow groupFlag shownIn
+unfolding tooMany figureMosts isRow isNone sameNumber movementMosts tra4.totalFault tra4.isFrame tra4.isZero tra4.rises tra4.neverFalls tra4.framesFault tra4.keyFine tra4.patternFine tra4.patternsFault frameOf groupOf factorIn factor signedAs lowest whole keyFrame keyValue line sampleFrom sampleOf inGroup inGroups groupedFaces allOwned applies flagOf lastFlag groupShown shownOf rowAt uvAt cornerOf numberAt numbersAt rowsAt isClear keysBegin patternsBegin movementEnd holdsMovement pointsBegin ownersBegin bonesBegin uvsBegin facesBegin figureEnd holdsFigure onlyIf isFloat allFloat isIndex isAsked isRange valuesFine pairAt channelKeys canSample sampleIn sizeFine cornersFine allNone faceAt ownerAt faceFine pointAt uvRow uvFine uvIn canCorner cornerIn ownersFine ownedCorners patternRows linesFine patternsFine canShow groupFlag shownIn
 roll-example = refl
 
 pub shown-example : map (λ (at : ℕ). shownIn figureCounts figure moveCounts moves 0 at) (0 ∷ 4 ∷ 5 ∷ []) ≡ some false ∷ some false ∷ none ∷ []
-unfolding tooMany bac6.mosts isRow isNone sameNumber tra4.mosts tra4.totalFault tra4.isFrame tra4.isZero tra4.rises tra4.neverFalls tra4.framesFault tra4.keyFine tra4.patternFine tra4.patternsFault frameOf groupOf factorIn factor signedAs lowest whole keyFrame keyValue line sampleFrom sampleOf inGroup inGroups groupedFaces allOwned applies flagOf lastFlag groupShown shownOf rowAt uvAt cornerOf numberAt numbersAt rowsAt isClear keysBegin patternsBegin movementEnd holdsMovement pointsBegin ownersBegin bonesBegin uvsBegin facesBegin figureEnd holdsFigure onlyIf isFloat allFloat isIndex isAsked isRange valuesFine pairAt channelKeys canSample sampleIn sizeFine cornersFine allNone faceAt ownerAt faceFine pointAt uvRow uvFine uvIn canCorner cornerIn ownersFine ownedCorners patternRows linesFine patternsFine canShow groupFlag shownIn
+unfolding tooMany figureMosts isRow isNone sameNumber movementMosts tra4.totalFault tra4.isFrame tra4.isZero tra4.rises tra4.neverFalls tra4.framesFault tra4.keyFine tra4.patternFine tra4.patternsFault frameOf groupOf factorIn factor signedAs lowest whole keyFrame keyValue line sampleFrom sampleOf inGroup inGroups groupedFaces allOwned applies flagOf lastFlag groupShown shownOf rowAt uvAt cornerOf numberAt numbersAt rowsAt isClear keysBegin patternsBegin movementEnd holdsMovement pointsBegin ownersBegin bonesBegin uvsBegin facesBegin figureEnd holdsFigure onlyIf isFloat allFloat isIndex isAsked isRange valuesFine pairAt channelKeys canSample sampleIn sizeFine cornersFine allNone faceAt ownerAt faceFine pointAt uvRow uvFine uvIn canCorner cornerIn ownersFine ownedCorners patternRows linesFine patternsFine canShow groupFlag shownIn
 shown-example = refl
 
 pub corner-example : map (λ (k : ℕ). cornerIn figureCounts figure 0 k) (1 ∷ 2 ∷ 3 ∷ []) ≡ some (record { position = pos 1500000 ∷ pos 0 ∷ pos 0 ∷ []; owner = pos 0; uv = none; material = pos 0 }) ∷ some (record { position = pos 0 ∷ negsuc 0 ∷ pos 0 ∷ []; owner = negsuc 0; uv = none; material = pos 0 }) ∷ none ∷ []
-unfolding tooMany bac6.mosts isRow isNone sameNumber tra4.mosts tra4.totalFault tra4.isFrame tra4.isZero tra4.rises tra4.neverFalls tra4.framesFault tra4.keyFine tra4.patternFine tra4.patternsFault frameOf groupOf factorIn factor signedAs lowest whole keyFrame keyValue line sampleFrom sampleOf inGroup inGroups groupedFaces allOwned applies flagOf lastFlag groupShown shownOf rowAt uvAt cornerOf numberAt numbersAt rowsAt isClear keysBegin patternsBegin movementEnd holdsMovement pointsBegin ownersBegin bonesBegin uvsBegin facesBegin figureEnd holdsFigure onlyIf isFloat allFloat isIndex isAsked isRange valuesFine pairAt channelKeys canSample sampleIn sizeFine cornersFine allNone faceAt ownerAt faceFine pointAt uvRow uvFine uvIn canCorner cornerIn ownersFine ownedCorners patternRows linesFine patternsFine canShow groupFlag shownIn
+unfolding tooMany figureMosts isRow isNone sameNumber movementMosts tra4.totalFault tra4.isFrame tra4.isZero tra4.rises tra4.neverFalls tra4.framesFault tra4.keyFine tra4.patternFine tra4.patternsFault frameOf groupOf factorIn factor signedAs lowest whole keyFrame keyValue line sampleFrom sampleOf inGroup inGroups groupedFaces allOwned applies flagOf lastFlag groupShown shownOf rowAt uvAt cornerOf numberAt numbersAt rowsAt isClear keysBegin patternsBegin movementEnd holdsMovement pointsBegin ownersBegin bonesBegin uvsBegin facesBegin figureEnd holdsFigure onlyIf isFloat allFloat isIndex isAsked isRange valuesFine pairAt channelKeys canSample sampleIn sizeFine cornersFine allNone faceAt ownerAt faceFine pointAt uvRow uvFine uvIn canCorner cornerIn ownersFine ownedCorners patternRows linesFine patternsFine canShow groupFlag shownIn
 corner-example = refl

@@ -16,7 +16,7 @@ use mir.Facts.{toZ-ofZ}
 use Rattle.text_numbers.proofs.Numerals.{and-true}
 use Rattle.table_rows.specs.References.{isRow, isNone, sameNumber}
 use Rattle.table_rows.specs.Index.{isIndex}
-use Rattle.player.specs.declared.counts.FigureCounts.{FigureCounts}
+use Rattle.table_counts.specs.declared.counts.FigureCounts.{FigureCounts}
 use Rattle.player.specs.Lookups.{isFloat, allFloat, sizeFine, cornersFine, allNone, faceFine}
 
 -- ---- a size

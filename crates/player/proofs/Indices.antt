@@ -9,7 +9,7 @@ use lib.Seq.{drop-cons}
 use mir.Syntax.{w64}
 use mir.Val.{Fits}
 use mathlib.Core.Bool.{true}
-use Rattle.player.specs.declared.counts.FigureCounts.{FigureCounts}
+use Rattle.table_counts.specs.declared.counts.FigureCounts.{FigureCounts}
 use Rattle.player.specs.Columns.{numbersAt, pointsBegin, bonesBegin, ownersBegin, uvsBegin, facesBegin, holdsFigure}
 use Rattle.player.proofs.Mosts.{figure-small, figure-room}
 

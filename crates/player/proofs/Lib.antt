@@ -1,4 +1,4 @@
--- Laws that belong to no one function, and claims by computation.
+-- Laws that belong to no one function.
 pub mod Mosts
 pub mod Numbers
 pub mod Factors

@@ -12,10 +12,11 @@ use Rattle.refusal.specs.Faults.{Fault, clear, fault}
 use Rattle.refusal.specs.Rules.{tooMany}
 use Rattle.refusal.proofs.Rules.{count-clear}
 use Rattle.bac6_text.specs.Rules as bac6
-use Rattle.tra4_text.specs.Rules.{mosts}
-use Rattle.player.specs.declared.counts.MovementCounts.{MovementCounts}
-use Rattle.player.specs.declared.counts.FigureCounts.{FigureCounts}
+use Rattle.table_counts.specs.declared.counts.MovementCounts.{MovementCounts}
+use Rattle.table_counts.specs.declared.counts.FigureCounts.{FigureCounts}
 use Rattle.player.specs.Columns.{isClear, keysBegin, patternsBegin, movementEnd, holdsMovement, pointsBegin, bonesBegin, ownersBegin, uvsBegin, facesBegin, figureEnd, figureLists, WithinMosts, holdsFigure}
+use Rattle.table_counts.specs.Counts.{figureMosts}
+use Rattle.table_counts.specs.Counts.{movementMosts}
 
 module _ (n : MovementCounts) where
   abbrev pub movementLists : List ℕ
@@ -29,11 +30,11 @@ module _ (n : MovementCounts) where
       (b .0, k .0, p .0)
 
   pub movement-over : {k i : ℕ} (table : List ℤ) → tooMany 0 movementLists (128 ∷ 4096 ∷ 256 ∷ []) ≡ fault k i → holdsMovement n table ≡ false
-  unfolding holdsMovement mosts isClear
+  unfolding holdsMovement movementMosts isClear
   movement-over table h = rw h
 
   pub movement-held : (table : List ℤ) → tooMany 0 movementLists (128 ∷ 4096 ∷ 256 ∷ []) ≡ clear → holdsMovement n table ≡ leb (3 + n .bones * 22 + n .keys * 2 + n .patterns * 3) (length table)
-  unfolding holdsMovement mosts isClear movementEnd patternsBegin keysBegin
+  unfolding holdsMovement movementMosts isClear movementEnd patternsBegin keysBegin
   movement-held table h = rw h
 
 pub clear-true : (f : Fault) → isClear f ≡ true → f ≡ clear
@@ -42,10 +43,10 @@ clear-true clear e = refl
 clear-true (fault n p) e = absurd (false≢true e)
 
 module _ (n : FigureCounts) where
-  abbrev figureMosts : List ℕ
-  figureMosts = 16 ∷ 256 ∷ 64 ∷ 2048 ∷ 2048 ∷ 128 ∷ 4096 ∷ 1024 ∷ 32 ∷ []
+  abbrev mostRows : List ℕ
+  mostRows = 16 ∷ 256 ∷ 64 ∷ 2048 ∷ 2048 ∷ 128 ∷ 4096 ∷ 1024 ∷ 32 ∷ []
 
-  pub figure-within : tooMany 0 (figureLists n) figureMosts ≡ clear → WithinMosts n
+  pub figure-within : tooMany 0 (figureLists n) mostRows ≡ clear → WithinMosts n
   figure-within h =
       let a = count-clear 0 (n .textures) 16 _ _ h in
       let b = count-clear 1 (n .colours) 256 _ _ (a .1) in
@@ -58,18 +59,18 @@ module _ (n : FigureCounts) where
       let j = count-clear 8 (n .groups) 32 _ _ (i .1) in
       (a .0, b .0, c .0, d .0, e .0, f .0, g .0, i .0, j .0)
 
-  pub figure-over : {k i : ℕ} (table : List ℤ) → tooMany 0 (figureLists n) figureMosts ≡ fault k i → holdsFigure n table ≡ false
-  unfolding holdsFigure bac6.mosts isClear
+  pub figure-over : {k i : ℕ} (table : List ℤ) → tooMany 0 (figureLists n) mostRows ≡ fault k i → holdsFigure n table ≡ false
+  unfolding holdsFigure figureMosts isClear
   figure-over table h = rw h
 
-  pub figure-held : (table : List ℤ) → tooMany 0 (figureLists n) figureMosts ≡ clear → holdsFigure n table ≡ leb (facesBegin n + n .faces * 11 + n .groups * 2) (length table)
-  unfolding holdsFigure bac6.mosts isClear figureEnd
+  pub figure-held : (table : List ℤ) → tooMany 0 (figureLists n) mostRows ≡ clear → holdsFigure n table ≡ leb (facesBegin n + n .faces * 11 + n .groups * 2) (length table)
+  unfolding holdsFigure figureMosts isClear figureEnd
   figure-held table h = rw h
 
-  pub figure-clear : (table : List ℤ) → holdsFigure n table ≡ true → (tooMany 0 (figureLists n) figureMosts ≡ clear) × (facesBegin n + n .faces * 11 + n .groups * 2 ≤ length table)
-  unfolding holdsFigure bac6.mosts figureEnd
+  pub figure-clear : (table : List ℤ) → holdsFigure n table ≡ true → (tooMany 0 (figureLists n) mostRows ≡ clear) × (facesBegin n + n .faces * 11 + n .groups * 2 ≤ length table)
+  unfolding holdsFigure figureMosts figureEnd
   figure-clear table h =
-      let b = and-true (isClear (tooMany 0 (figureLists n) figureMosts)) _ h in
+      let b = and-true (isClear (tooMany 0 (figureLists n) mostRows)) _ h in
       (clear-true _ (b .0), leb-true _ _ (b .1))
 
   -- the counts are small, and the table has room for them

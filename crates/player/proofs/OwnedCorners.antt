@@ -10,7 +10,7 @@ use lib.ListN.{length, getD, take, drop}
 use lib.Seq.{drop-cons}
 use Rattle.table_rows.specs.References.{isNone}
 use Rattle.table_rows.specs.Index.{isIndex}
-use Rattle.player.specs.declared.counts.FigureCounts.{FigureCounts}
+use Rattle.table_counts.specs.declared.counts.FigureCounts.{FigureCounts}
 use Rattle.player.specs.Lookups.{onlyIf, sizeFine, cornersFine, ownerAt, ownersFine, ownedCorners}
 use Rattle.player.specs.Rows.{ownedIn, rowOwned}
 

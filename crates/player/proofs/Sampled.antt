@@ -15,9 +15,9 @@ use Rattle.tra4_text.specs.Movement.{Key}
 use Rattle.text_numbers.proofs.Numerals.{and-true}
 use Rattle.refusal.specs.Faults.{Fault, clear, fault}
 use Rattle.refusal.specs.Rules.{tooMany}
-use Rattle.tra4_text.specs.Rules.{mosts, framesFault, keyFine}
+use Rattle.tra4_text.specs.Rules.{framesFault, keyFine}
 use Rattle.player.specs.declared.pass.Pass.{Pass}
-use Rattle.player.specs.declared.counts.MovementCounts.{MovementCounts}
+use Rattle.table_counts.specs.declared.counts.MovementCounts.{MovementCounts}
 use Rattle.player.specs.Fractions.{Fraction, whole}
 use Rattle.player.specs.Samples.{keyValue, sampleOf}
 use Rattle.player.specs.Columns.{numberAt, numbersAt, rowsAt, isClear, keysBegin, patternsBegin, movementEnd, holdsMovement}
@@ -27,6 +27,7 @@ use Rattle.player.specs.Passing.{KeyRows, keyOf, knownAs, stateOf, ifFin
 use Rattle.player.proofs.Mosts.{clear-true, movement-within}
 use Rattle.player.proofs.Numbers.{asked-total}
 use Rattle.player.proofs.Passes.{pass-is}
+use Rattle.table_counts.specs.Counts.{movementMosts}
 
 -- ---- rows of a part of a table
 
@@ -64,7 +65,7 @@ part-rows w i j m (suc n) table h =
 -- ---- what a table that holds a movement has
 
 pub movement-room : (n : MovementCounts) (table : List ℤ) → holdsMovement n table ≡ true → (n .bones ≤ 128) × (n .keys ≤ 4096) × (n .patterns ≤ 256) × (3 + n .bones * 22 + n .keys * 2 + n .patterns * 3 ≤ length table)
-unfolding holdsMovement mosts movementEnd patternsBegin keysBegin
+unfolding holdsMovement movementMosts movementEnd patternsBegin keysBegin
 movement-room n table h =
     let b = (and-true (isClear (tooMany 0 (n .bones ∷ n .keys ∷ n .patterns ∷ []) (128 ∷ 4096 ∷ 256 ∷ []))) _ h) in
     let w = movement-within n (clear-true _ (b .0)) in

@@ -11,8 +11,8 @@ use Rattle.table_rows.specs.References.{isNone}
 use Rattle.tra4_text.specs.Movement.{Pattern}
 use Rattle.tra4_text.specs.Rules.{patternsFault}
 use Rattle.table_rows.specs.Index.{isIndex}
-use Rattle.player.specs.declared.counts.MovementCounts.{MovementCounts}
-use Rattle.player.specs.declared.counts.FigureCounts.{FigureCounts}
+use Rattle.table_counts.specs.declared.counts.MovementCounts.{MovementCounts}
+use Rattle.table_counts.specs.declared.counts.FigureCounts.{FigureCounts}
 use Rattle.player.specs.declared.flags.Visibility.{Visibility}
 use Rattle.player.specs.declared.flags.Visibility.the-variants as flags
 use Rattle.player.specs.Faces.{lastFlag}

@@ -9,8 +9,10 @@ use Rattle.refusal.specs.Faults.{Fault, clear, fault}
 use Rattle.refusal.specs.Rules.{tooMany}
 use Rattle.bac6_text.specs.Rules as bac6
 use Rattle.tra4_text.specs.Rules as tra4
-use Rattle.player.specs.declared.counts.MovementCounts.{MovementCounts}
-use Rattle.player.specs.declared.counts.FigureCounts.{FigureCounts}
+use Rattle.table_counts.specs.declared.counts.MovementCounts.{MovementCounts}
+use Rattle.table_counts.specs.declared.counts.FigureCounts.{FigureCounts}
+use Rattle.table_counts.specs.Counts.{figureMosts}
+use Rattle.table_counts.specs.Counts.{movementMosts}
 
 -- the number at an index
 unfoldable pub numberAt : List ℤ → ℕ → ℤ
@@ -43,7 +45,7 @@ module _ (n : MovementCounts) where
 
   -- no count is above its most, and the table is not shorter than they say
   unfoldable pub holdsMovement : List ℤ → Bool
-  holdsMovement table = isClear (tooMany 0 (n .bones ∷ n .keys ∷ n .patterns ∷ []) tra4.mosts) && leb movementEnd (length table)
+  holdsMovement table = isClear (tooMany 0 (n .bones ∷ n .keys ∷ n .patterns ∷ []) movementMosts) && leb movementEnd (length table)
 
 -- ---- a figure's table
 
@@ -70,7 +72,7 @@ module _ (n : FigureCounts) where
   figureLists = n .textures ∷ n .colours ∷ n .materials ∷ n .points ∷ n .normals ∷ n .bones ∷ n .uvs ∷ n .faces ∷ n .groups ∷ []
 
   unfoldable pub holdsFigure : List ℤ → Bool
-  holdsFigure table = isClear (tooMany 0 figureLists bac6.mosts) && leb figureEnd (length table)
+  holdsFigure table = isClear (tooMany 0 figureLists figureMosts) && leb figureEnd (length table)
 
   -- the same as bounds
   abbrev pub WithinMosts : Type 0

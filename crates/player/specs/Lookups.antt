@@ -11,8 +11,8 @@ use Rattle.table_rows.specs.References.{isRow, isNone, sameNumber}
 use Rattle.table_rows.specs.Index.{isIndex}
 use Rattle.tra4_text.specs.Movement.{Key, Pattern, groupOf}
 use Rattle.tra4_text.specs.Rules.{totalFault, framesFault, keyFine, patternsFault}
-use Rattle.player.specs.declared.counts.MovementCounts.{MovementCounts}
-use Rattle.player.specs.declared.counts.FigureCounts.{FigureCounts}
+use Rattle.table_counts.specs.declared.counts.MovementCounts.{MovementCounts}
+use Rattle.table_counts.specs.declared.counts.FigureCounts.{FigureCounts}
 use Rattle.player.specs.Fractions.{Fraction}
 use Rattle.player.specs.Samples.{sampleOf}
 use Rattle.player.specs.Faces.{lastFlag, CornerOf}

@@ -10,7 +10,7 @@ use Rattle.table_rows.specs.References.{isNone}
 use Rattle.tra4_text.specs.Movement.{Pattern}
 use Rattle.tra4_text.specs.Rules.{patternsFault}
 use Rattle.table_rows.specs.Index.{isIndex}
-use Rattle.player.specs.declared.counts.FigureCounts.{FigureCounts}
+use Rattle.table_counts.specs.declared.counts.FigureCounts.{FigureCounts}
 use Rattle.player.specs.Faces.{CornerOf, lastFlag}
 use Rattle.player.specs.Columns.{isClear}
 use Rattle.player.specs.Lookups.{onlyIf, allFloat, sizeFine, cornersFine, faceFine, linesFine, ownerAt, pointAt, uvFine, uvIn, ownersFine, ownedCorners}

@@ -1,11 +1,11 @@
 // A bone's row: nothing where the table does not hold what its counts say, or has no such row.
 ghost use mathlib.Core.Path.{_≡_};
 ghost use Rattle.player.specs.Bones.{figureBone, movementBone};
-use crate::counts::FigureCounts;
-use crate::counts::MovementCounts;
-use crate::counts::bones_begin;
-use crate::counts::holds_figure;
-use crate::counts::holds_movement;
+use crate::sections::bones_begin;
+use crate::sections::holds_figure;
+use crate::sections::holds_movement;
+use table_counts::FigureCounts;
+use table_counts::MovementCounts;
 
 pub fn figure_bone(table: &[i64], n: FigureCounts, bone: usize) -> &[i64]
     ensures { λ r. ⌜ now r ≡ figureBone n (now (table .entry)) bone ⌝ }

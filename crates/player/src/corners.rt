@@ -6,14 +6,14 @@ ghost use Rattle.player.specs.Columns.{holdsFigure};
 ghost use Rattle.player.specs.Lookups.{cornerIn};
 ghost use Rattle.player.specs.Rows.{rowCorner};
 ghost use Rattle.player.specs.Answers.{numbered, cornered};
-use crate::counts::FigureCounts;
-use crate::counts::faces_begin;
-use crate::counts::holds_figure;
 use crate::face::face_fine;
 use crate::point::UvRow;
 use crate::point::VertexRow;
 use crate::point::point_at;
 use crate::point::uv_at;
+use crate::sections::faces_begin;
+use crate::sections::holds_figure;
+use table_counts::FigureCounts;
 use table_rows::is_none;
 
 // A position, its owner and a material's row, with a texture coordinate or without one; or refusal 21.

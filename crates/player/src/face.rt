@@ -4,7 +4,7 @@ ghost use mathlib.Core.Bool.{cond, _||_};
 ghost use lib.ListN.{length};
 ghost use Rattle.table_rows.specs.References.{isRow, isNone};
 ghost use Rattle.player.specs.Lookups.{sizeFine, cornersFine, allNone, faceFine};
-use crate::counts::FigureCounts;
+use table_counts::FigureCounts;
 use table_rows::is_index;
 use table_rows::is_none;
 use table_rows::is_row;

@@ -7,12 +7,12 @@ ghost use Rattle.player.specs.Columns.{holdsFigure};
 ghost use Rattle.player.specs.Lookups.{cornersFine};
 ghost use Rattle.player.specs.Rows.{ownedIn, rowOwned};
 ghost use Rattle.player.specs.Answers.{visible};
-use crate::counts::FigureCounts;
 use crate::face::corners_fine;
 use crate::face::size_fine;
 use crate::flags::Visibility;
 use crate::point::VertexRow;
 use crate::point::owner_at;
+use table_counts::FigureCounts;
 use table_rows::is_index;
 use table_rows::is_none;
 

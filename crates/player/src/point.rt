@@ -7,11 +7,11 @@ ghost use lib.IntN.{pos};
 ghost use Rattle.table_rows.specs.Index.{isIndex};
 ghost use Rattle.player.specs.Columns.{holdsFigure};
 ghost use Rattle.player.specs.Lookups.{allFloat, ownerAt, pointAt, uvRow};
-use crate::counts::FigureCounts;
-use crate::counts::owners_begin;
-use crate::counts::points_begin;
-use crate::counts::uvs_begin;
 use crate::number::is_float;
+use crate::sections::owners_begin;
+use crate::sections::points_begin;
+use crate::sections::uvs_begin;
+use table_counts::FigureCounts;
 use table_rows::is_index;
 
 // A vertex number and a texture coordinate number count separate lists.

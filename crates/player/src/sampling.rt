@@ -2,11 +2,11 @@
 ghost use mathlib.Core.Path.{_≡_};
 ghost use Rattle.player.specs.Lookups.{sampleIn};
 ghost use Rattle.player.specs.Answers.{numbered, sampled};
-use crate::counts::MovementCounts;
-use crate::counts::holds_movement;
 use crate::number::is_asked;
 use crate::number::is_range;
 use crate::pass::pass_over;
+use crate::sections::holds_movement;
+use table_counts::MovementCounts;
 
 // A fraction of millionths in lowest terms, or refusal 21.
 pub enum Sampled {

@@ -10,8 +10,8 @@ use lib.IntN.{ℤ}
 use lib.ListN.{length, drop, length-take, length-drop}
 use Rattle.text_bytes.specs.Bytes.{part}
 use Rattle.text_bytes.proofs.Parts.{part-none}
-use Rattle.player.specs.declared.counts.MovementCounts.{MovementCounts}
-use Rattle.player.specs.declared.counts.FigureCounts.{FigureCounts}
+use Rattle.table_counts.specs.declared.counts.MovementCounts.{MovementCounts}
+use Rattle.table_counts.specs.declared.counts.FigureCounts.{FigureCounts}
 use Rattle.player.specs.Columns.{holdsMovement, holdsFigure}
 use Rattle.player_label.specs.Names.{partAt, figureSpan, movementSpan, figureName, movementName, ifTrue, figureNamed, movementNamed}
 use Rattle.player_label.specs.Labels.{labelOf, labelFrom, labelIn}

@@ -14,8 +14,8 @@ use lib.Signed.{ltZ}
 use mir.Syntax.{w64}
 use mir.Val.{Fits, SFits}
 use Rattle.text_numbers.proofs.Numerals.{and-true}
-use Rattle.player.specs.declared.counts.MovementCounts.{MovementCounts}
-use Rattle.player.specs.declared.counts.FigureCounts.{FigureCounts}
+use Rattle.table_counts.specs.declared.counts.MovementCounts.{MovementCounts}
+use Rattle.table_counts.specs.declared.counts.FigureCounts.{FigureCounts}
 use Rattle.player.specs.Columns.{numberAt, numbersAt, bonesBegin, holdsMovement, holdsFigure}
 use Rattle.player.specs.Bones.{rowIf, figureBone, movementBone}
 use Rattle.player.specs.Lookups.{onlyIf}

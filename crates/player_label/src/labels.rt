@@ -6,8 +6,8 @@ ghost use Rattle.player_label.specs.Answers.{named};
 use crate::names::Found;
 use crate::names::figure_name;
 use crate::names::movement_name;
-use player::FigureCounts;
-use player::MovementCounts;
+use table_counts::FigureCounts;
+use table_counts::MovementCounts;
 use text_bytes::part;
 
 // Which text holds the name, and from where to where; or refusal 21.

@@ -3,8 +3,8 @@ ghost use mathlib.Core.Path.{_≡_};
 ghost use lib.ListN.{length};
 ghost use Rattle.player_label.specs.Names.{nameSpan, figureNamed, movementNamed};
 ghost use Rattle.player_label.specs.Answers.{found};
-use player::FigureCounts;
-use player::MovementCounts;
+use table_counts::FigureCounts;
+use table_counts::MovementCounts;
 
 // From where to where, or refusal 21.
 pub enum Found {

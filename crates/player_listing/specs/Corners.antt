@@ -9,7 +9,7 @@ use Rattle.report.specs.Lists.{shown, textOf}
 use Rattle.player.specs.Faces.{CornerOf}
 use Rattle.player.specs.Lookups.{cornerIn}
 use Rattle.player.specs.Answers.{numbered}
-use Rattle.player.specs.declared.counts.FigureCounts.{FigureCounts}
+use Rattle.table_counts.specs.declared.counts.FigureCounts.{FigureCounts}
 use Rattle.player_listing.specs.Parts.{linesFrom}
 
 unfoldable pub uvNumbers : Option (List ℤ) → List ℤ

@@ -9,8 +9,8 @@ use Rattle.report.specs.Text.{line}
 use Rattle.report.specs.Lists.{shown, textOf}
 use Rattle.player.specs.Lookups.{shownIn}
 use Rattle.player.specs.Answers.{numbered}
-use Rattle.player.specs.declared.counts.FigureCounts.{FigureCounts}
-use Rattle.player.specs.declared.counts.MovementCounts.{MovementCounts}
+use Rattle.table_counts.specs.declared.counts.FigureCounts.{FigureCounts}
+use Rattle.table_counts.specs.declared.counts.MovementCounts.{MovementCounts}
 use Rattle.player_listing.specs.Parts.{linesFrom}
 use Rattle.player_listing.specs.Samples.{refusedLine}
 

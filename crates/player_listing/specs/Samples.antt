@@ -9,7 +9,7 @@ use Rattle.report.specs.Lists.{shown, textOf}
 use Rattle.player.specs.Fractions.{Fraction}
 use Rattle.player.specs.Lookups.{sampleIn}
 use Rattle.player.specs.Answers.{numbered}
-use Rattle.player.specs.declared.counts.MovementCounts.{MovementCounts}
+use Rattle.table_counts.specs.declared.counts.MovementCounts.{MovementCounts}
 use Rattle.player_listing.specs.Parts.{linesFrom}
 
 -- a refusal's number and its place

@@ -7,10 +7,10 @@ ghost use Rattle.report.specs.Lists.{appendedEach, textOf};
 ghost use Rattle.player.specs.Answers.{cornered};
 ghost use Rattle.player_listing.specs.Corners.{cornerLines, faceLines, figureLines, figureText};
 use player::Cornered;
-use player::FigureCounts;
 use player::corner;
 use report::append_row;
 use report::shown;
+use table_counts::FigureCounts;
 
 // Puts a corner's line after the first n bytes of buf, or nothing where there is no such corner.
 pub fn append_corner(buf: &mut [u8], n: usize, face: usize, k: usize, answer: Cornered) -> usize

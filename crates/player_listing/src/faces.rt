@@ -6,11 +6,11 @@ ghost use Rattle.report.specs.Output.{output, appended};
 ghost use Rattle.report.specs.Lists.{appendedEach};
 ghost use Rattle.player.specs.Answers.{showed};
 ghost use Rattle.player_listing.specs.Faces.{shownLine, shownLines, shownText};
-use player::FigureCounts;
-use player::MovementCounts;
 use player::Visibility;
 use report::append_row;
 use report::shown;
+use table_counts::FigureCounts;
+use table_counts::MovementCounts;
 
 // Puts a line of face, frame and 1 or 0, or a refusal's, after the first n bytes of buf.
 pub fn append_shown(buf: &mut [u8], n: usize, face: usize, at: usize, answer: Visibility) -> usize

@@ -6,13 +6,13 @@ ghost use Rattle.report.specs.Output.{output, appended};
 ghost use Rattle.report.specs.Lists.{appendedEach};
 ghost use Rattle.player.specs.Answers.{sampled};
 ghost use Rattle.player_listing.specs.Samples.{sampleLine, sampleLines, sampleText, fractionParts, fractionText};
-use player::MovementCounts;
 use player::Sampled;
 use player::sample;
 use report::append;
 use report::append_number;
 use report::append_row;
 use report::shown;
+use table_counts::MovementCounts;
 
 // Puts a sample's line, or a refusal's, after the first n bytes of buf, and answers how many bytes are filled then.
 pub fn append_sample(

@@ -2,5 +2,5 @@
 
 pub enum Checked {
     Clear,
-    Refused { number: u8, offset: usize },
+    Refused { number: u8, place: usize },
 }

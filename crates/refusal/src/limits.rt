@@ -16,7 +16,7 @@ pub fn too_many(counts: &[usize], mosts: &[usize]) -> Checked
         if mosts[i] < counts[i] {
             return Checked::Refused {
                 number: 8,
-                offset: i,
+                place: i,
             };
         }
         i += 1;

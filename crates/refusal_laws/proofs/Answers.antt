@@ -12,7 +12,7 @@ use Rattle.tra4_text.specs.Answer.{movementAnswer}
 use Rattle.pair_text.specs.Answer.{Loaded, refused, loaded, pairAnswer}
 use Rattle.bac6.specs.Answers as bac6
 use Rattle.tra4.specs.Answers as tra4
-use Rattle.player.specs.declared.counts.FigureCounts.{FigureCounts}
+use Rattle.table_counts.specs.declared.counts.FigureCounts.{FigureCounts}
 use Rattle.pair_bridge.specs.Names.{namesIn}
 use Rattle.pair_load.specs.Answers.{withNames, movedAnswer, movedReply, pairReply}
 use Rattle.refusal_laws.specs.Numbers.{isAmong, Refusal, numbersOf, movedNumbersOf, IsTaken, IsLoaded}

@@ -1,7 +1,7 @@
 // Prints the movement that stands on standard input at every frame: a line for each bone, channel and frame.
 use libc::STDIN_FILENO;
 use libc::STDOUT_FILENO;
-use player::MovementCounts;
+use table_counts::MovementCounts;
 use tra4::MovementAnswer;
 
 // 256 frames at a time, for which 28,672 bytes are enough. What is written to a file no contract can say.
@@ -44,11 +44,7 @@ fn main() {
         tell_refusal(answer);
         return;
     }
-    let n = MovementCounts {
-        bones: answer.bones,
-        keys: answer.keys,
-        patterns: answer.patterns,
-    };
+    let n = answer.counts;
     let total = text_numbers::magnitude(table[0]) as usize;
     tell_bones(&table, n, total);
 }

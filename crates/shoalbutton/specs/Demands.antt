@@ -22,8 +22,8 @@ use Rattle.tra4_text.specs.Grammar.{movement}
 use Rattle.tra4_text.specs.Rules.{movementFault}
 use Rattle.tra4_text.specs.Layout as movements
 use Rattle.tra4_text.specs.Answer.{movementAnswer, movementTable}
-use Rattle.player.specs.declared.counts.FigureCounts.{FigureCounts}
-use Rattle.player.specs.declared.counts.MovementCounts.{MovementCounts}
+use Rattle.table_counts.specs.declared.counts.FigureCounts.{FigureCounts}
+use Rattle.table_counts.specs.declared.counts.MovementCounts.{MovementCounts}
 use Rattle.player.specs.Fractions.{whole}
 use Rattle.player.specs.Samples.{keyFrame, keyValue, sampleOf}
 use Rattle.player.specs.Faces.{cornerOf, shownOf}

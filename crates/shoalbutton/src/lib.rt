@@ -20,10 +20,10 @@ use pair_play::PlayedSample;
 use pair_play::PlayedShown;
 use pair_play::Refusal;
 use player::Cornered;
-use player::FigureCounts;
-use player::MovementCounts;
 use player::Sampled;
 use player::Visibility;
+use table_counts::FigureCounts;
+use table_counts::MovementCounts;
 use tra4::MovementAnswer;
 
 // ---- reading

@@ -3,8 +3,8 @@
 use libc::STDIN_FILENO;
 use libc::STDOUT_FILENO;
 use pair_input::Division;
-use player::FigureCounts;
-use player::MovementCounts;
+use table_counts::FigureCounts;
+use table_counts::MovementCounts;
 
 // 256 frames at a time, for which 17,664 bytes are enough. What is written to a file no contract can say.
 fn tell_face(

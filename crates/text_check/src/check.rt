@@ -27,13 +27,13 @@ pub fn check_text(text: &[u8], format: Format) -> Checked
     if 65536 < text.len() {
         return Checked::Refused {
             number: 1,
-            offset: 0,
+            place: 0,
         };
     }
     if !is_marked(text, format) {
         return Checked::Refused {
             number: 2,
-            offset: 0,
+            place: 0,
         };
     }
     first_fault(text)
@@ -70,13 +70,13 @@ fn first_fault(text: &[u8]) -> Checked
         match class_of(text[i]) {
             Class::Quote => match string_end(text, i) {
                 Scan::Ended(next) => i = next,
-                Scan::Faulty { number, offset } => return Checked::Refused { number, offset },
+                Scan::Faulty { number, place } => return Checked::Refused { number, place },
             },
             Class::Semicolon => i = run_end(text, i + 1, Run::Line),
             Class::Other => {
                 return Checked::Refused {
                     number: 3,
-                    offset: i,
+                    place: i,
                 };
             }
             Class::Blank | Class::Opener | Class::Closer | Class::Letter => i += 1,
@@ -88,7 +88,7 @@ fn first_fault(text: &[u8]) -> Checked
 // What a string is: the offset after its closing quote, or its fault.
 enum Scan {
     Ended(usize),
-    Faulty { number: u8, offset: usize },
+    Faulty { number: u8, place: usize },
 }
 
 // The string whose opening quote stands at `quote`.
@@ -106,19 +106,19 @@ fn string_end(text: &[u8], quote: usize) -> Scan
         if 256 <= i - quote {
             return Scan::Faulty {
                 number: 4,
-                offset: quote,
+                place: quote,
             };
         }
         if !is_between(b, 32, 126) {
             return Scan::Faulty {
                 number: 3,
-                offset: i,
+                place: i,
             };
         }
         i += 1;
     }
     Scan::Faulty {
         number: 4,
-        offset: quote,
+        place: quote,
     }
 }

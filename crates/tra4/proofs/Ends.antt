@@ -25,7 +25,7 @@ use Rattle.parse_rows.proofs.Widths.{Wide, held, part-is, room-is}
 use Rattle.parse_text.proofs.Outcomes.{shape-rejected, rule-rejected, all-taken}
 use Rattle.tra4_text.specs.Movement.{Bone, Movement}
 use Rattle.tra4_text.specs.Grammar.{movement}
-use Rattle.tra4_text.specs.Rules.{allKeys, channelsOf, keyRows, countsOf, mosts, movementFault}
+use Rattle.tra4_text.specs.Rules.{allKeys, channelsOf, keyRows, countsOf, movementCounts, movementFault}
 use Rattle.tra4_text.specs.Layout.{nameNumbers, boneRows, layoutOf}
 use Rattle.tra4_bones.specs.Into.{Kept, kept, boneStep}
 use Rattle.tra4_parse.specs.declared.shape.Parsed.{Parsed}
@@ -40,6 +40,8 @@ use Rattle.tra4_text.proofs.Layouts.{all-wide, rows-wide, rows-count, layout-le
 use Rattle.tra4.proofs.Parses.{Found, parsed-found, parsed-refused}
 use Rattle.tra4.proofs.Bones.{fold-bones, fold-over}
 use Rattle.tra4.proofs.Settings.{answer-is, table-is}
+use Rattle.table_counts.specs.Counts.{movementMosts}
+use Rattle.table_counts.specs.Counts.{movementLists}
 
 -- what parsing answers, with the tables that it leaves
 unfoldable pub parsedAs : Parsed → List ℤ → List ℤ → List ℤ → MovementValue
@@ -63,8 +65,8 @@ tenfold (b ∷ bs) h = (h .0 .ten, tenfold bs (h .1))
 
 -- ---- the most rows of each list
 
-bounds : (m : Movement) → tooMany 0 (countsOf m) mosts ≡ clear → (length (m .bones) ≤ 128) × (length (keyRows m) ≤ 4096) × (length (m .patterns) ≤ 256)
-unfolding countsOf mosts
+bounds : (m : Movement) → tooMany 0 (countsOf m) movementMosts ≡ clear → (length (m .bones) ≤ 128) × (length (keyRows m) ≤ 4096) × (length (m .patterns) ≤ 256)
+unfolding countsOf movementCounts movementLists movementMosts
 bounds m h =
     let b = count-clear 0 (length (m .bones)) 128 _ _ h in
     let k = count-clear 1 (length (keyRows m)) 4096 _ _ (b .1) in
@@ -151,7 +153,7 @@ module _ (text : List ℕ) (b k g : List ℤ) (blank : Blank text b k g) (p : Pa
       unfolding rulesFault
       rules-few = same-tables (read .totalFrames) (p .total) (length bones) (p .bones) (length (keyRows read)) (keyCount (p .over) (p .keys)) (length (read .patterns)) (p .patterns) b′ k′ g′ (sym frames-are) (sym (unfolded .0)) (count-few (p .over) (p .keys) (length (keyRows read)) not-over (keys-held .0)) (sym (patterns-are .0)) ∙ tables-within read b′ k′ g′ laid-rules
         where
-          laid-rules : tooMany 0 (countsOf read) mosts ≡ clear → inTables read b′ k′ g′ ≡ movementFault read
+          laid-rules : tooMany 0 (countsOf read) movementMosts ≡ clear → inTables read b′ k′ g′ ≡ movementFault read
           laid-rules h =
               let w = bounds read h in
               held-rules read b′ k′ g′ _ _ _
@@ -164,7 +166,7 @@ module _ (text : List ℕ) (b k g : List ℤ) (blank : Blank text b k g) (p : Pa
 
     -- too many
     rules-over : 4096 < length (keyRows read) → rulesFault p b′ k′ g′ ≡ movementFault read
-    unfolding rulesFault keyRows countsOf
+    unfolding rulesFault keyRows countsOf movementCounts movementLists
     rules-over h =
         let q = sym (fold-over 0 0 b k bones (omega arith) (omega (arith, h))) ∙ bones-are in
         let i : 0 + length bones ≡ length bones = omega arith in
@@ -221,7 +223,7 @@ module _ (text : List ℕ) (b k g : List ℤ) (blank : Blank text b k g) (p : Pa
       total = rw (layout-length read whole, unfolded (within .1) .0, keys-held (within .1) .0, patterns-are .0)
 
       counts : countsAnswer p ≡ answerOf (accepted read)
-      unfolding countsAnswer answerOf
+      unfolding countsAnswer answerOf movementCounts
       counts = rw (total, unfolded (within .1) .0, keys-held (within .1) .0, patterns-are .0)
 
       pub rows-fit : Fits p b′ k′ g′

@@ -10,21 +10,21 @@ use Rattle.refusal.specs.Faults.{Fault, clear, fault}
 use Rattle.table_rows.specs.Overlay.{overlayAt}
 use Rattle.refusal.specs.Outcomes.{Outcome, rejected, accepted}
 use Rattle.tra4_text.specs.Movement.{Movement}
-use Rattle.tra4_text.specs.Rules.{keyRows}
+use Rattle.tra4_text.specs.Rules.{movementCounts}
 use Rattle.tra4_text.specs.Layout.{layoutOf}
 use Rattle.tra4_parse.specs.declared.shape.Parsed.{Parsed}
 use Rattle.tra4_rules.specs.Order.{tablesFault}
 use Rattle.tra4.specs.declared.setting.MovementAnswer.{MovementAnswer}
+use Rattle.table_counts.specs.Counts.{noMovement}
 
 -- a refusal's number and place, file 1 and zeros
 unfoldable pub refusedWith : ℕ → ℕ → MovementAnswer
-refusedWith n p = record { refusal = n; place = p; file = 1; total = 0; bones = 0; keys = 0; patterns = 0 }
+refusedWith n p = record { refusal = n; place = p; file = 1; total = 0; counts = noMovement }
 
 -- that, or the total and the three counts
 unfoldable pub answerOf : Outcome Movement → MovementAnswer
 answerOf (rejected n p) = refusedWith n p
-answerOf (accepted m) =
-    record { refusal = 0; place = 0; file = 0; total = length (layoutOf m); bones = length (m .bones); keys = length (keyRows m); patterns = length (m .patterns) }
+answerOf (accepted m) = record { refusal = 0; place = 0; file = 0; total = length (layoutOf m); counts = movementCounts m }
 
 -- ---- from the counts and tables
 
@@ -32,7 +32,7 @@ unfoldable pub totalOf : Parsed → ℕ
 totalOf p = 3 + p .bones * 22 + p .keys * 2 + p .patterns * 3
 
 unfoldable pub countsAnswer : Parsed → MovementAnswer
-countsAnswer p = record { refusal = 0; place = 0; file = 0; total = totalOf p; bones = p .bones; keys = p .keys; patterns = p .patterns }
+countsAnswer p = record { refusal = 0; place = 0; file = 0; total = totalOf p; counts = record { bones = p .bones; keys = p .keys; patterns = p .patterns } }
 
 -- 17 where the table is too short
 unfoldable pub downAnswer : Parsed → ℕ → MovementAnswer

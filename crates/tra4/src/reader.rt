@@ -23,7 +23,7 @@ pub fn read(text: &[u8], table: &mut [i64]) -> MovementAnswer
     ensures content { λ r. ⌜ now (table .exit) ≡ movementTable (now (text .entry)) (now (table .entry)) ⌝ }
 {
     match text_check::check_text(text, Format::Tra) {
-        Checked::Refused { number, offset } => refused(number as usize, offset),
+        Checked::Refused { number, place } => refused(number as usize, place),
         Checked::Clear => read_shape(text, table),
     }
 }
@@ -81,7 +81,7 @@ fn read_into(
         key_rows,
         pattern_rows,
     ) {
-        Checked::Refused { number, offset } => refused(number as usize, offset),
+        Checked::Refused { number, place } => refused(number as usize, place),
         Checked::Clear => set_down(table, p, bone_rows, key_rows, pattern_rows),
     }
 }

@@ -2,6 +2,8 @@
 ghost use mathlib.Core.Path.{_≡_};
 ghost use lib.ListN.{length};
 ghost use Rattle.tra4.specs.Answers.{Fits, refusedWith, downAnswer, downTable, partsOf};
+use table_counts::MovementCounts;
+use table_counts::no_movement;
 use table_rows::put;
 use tra4_parse::Parsed;
 
@@ -11,9 +13,7 @@ pub struct MovementAnswer {
     pub place: usize,
     pub file: usize,
     pub total: usize,
-    pub bones: usize,
-    pub keys: usize,
-    pub patterns: usize,
+    pub counts: MovementCounts,
 }
 
 pub(crate) fn refused(number: usize, place: usize) -> MovementAnswer
@@ -24,9 +24,7 @@ pub(crate) fn refused(number: usize, place: usize) -> MovementAnswer
         place,
         file: 1,
         total: 0,
-        bones: 0,
-        keys: 0,
-        patterns: 0,
+        counts: no_movement(),
     }
 }
 
@@ -56,13 +54,16 @@ pub(crate) fn set_down(
     let boned = put(table, named, &bone_rows[..b]);
     let keyed = put(table, boned, &key_rows[..k]);
     put(table, keyed, &pattern_rows[..g]);
+    let counts = MovementCounts {
+        bones: p.bones,
+        keys: p.keys,
+        patterns: p.patterns,
+    };
     MovementAnswer {
         refusal: 0,
         place: 0,
         file: 0,
         total,
-        bones: p.bones,
-        keys: p.keys,
-        patterns: p.patterns,
+        counts,
     }
 }

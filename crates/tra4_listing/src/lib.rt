@@ -8,17 +8,28 @@ ghost use Rattle.tra4_listing.specs.Movements.{movementLists, movementLi
 use report::Progress;
 use report::append_list;
 use report::first_line;
+use table_counts::MovementCounts;
 use tra4::MovementAnswer;
 
 // Puts the lines of the lists after the first n bytes of buf, and answers how many bytes are filled then.
-fn append_lists(answer: MovementAnswer, table: &[i64], buf: &mut [u8], n: usize) -> usize
-    ensures { λ r. ⌜ output r (now (buf .exit)) ≡ appendedEach (output n (now (buf .entry))) (listLines (movementLists answer) (now (table .entry))) ⌝ }
+fn append_lists(n: MovementCounts, table: &[i64], buf: &mut [u8], start: usize) -> usize
+    ensures { λ r. ⌜ output r (now (buf .exit)) ≡ appendedEach (output start (now (buf .entry))) (listLines (movementLists n) (now (table .entry))) ⌝ }
 {
-    let frames = append_list(buf, Progress { filled: n, at: 0 }, b"frames", 1, 1, table);
+    let frames = append_list(
+        buf,
+        Progress {
+            filled: start,
+            at: 0,
+        },
+        b"frames",
+        1,
+        1,
+        table,
+    );
     let names = append_list(buf, frames, b"name", 2, 1, table);
-    let bones = append_list(buf, names, b"bone", 22, answer.bones, table);
-    let keys = append_list(buf, bones, b"key", 2, answer.keys, table);
-    let patterns = append_list(buf, keys, b"pattern", 3, answer.patterns, table);
+    let bones = append_list(buf, names, b"bone", 22, n.bones, table);
+    let keys = append_list(buf, bones, b"key", 2, n.keys, table);
+    let patterns = append_list(buf, keys, b"pattern", 3, n.patterns, table);
     patterns.filled
 }
 
@@ -33,5 +44,6 @@ pub fn list_movement(answer: MovementAnswer, table: &[i64], buf: &mut [u8]) -> u
     if answer.refusal != 0 {
         return n;
     }
-    append_lists(answer, table, buf, n)
+    let counts = answer.counts;
+    append_lists(counts, table, buf, n)
 }

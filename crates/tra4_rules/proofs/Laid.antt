@@ -17,13 +17,15 @@ use Rattle.parse_cursor.proofs.Given.{Every}
 use Rattle.tra4_text.specs.Movement.{Key, Channel, Bone, Movement}
 use Rattle.tra4_text.specs.Layout.{nameNumbers, keyRanges, boneRow, boneRows}
 use Rattle.refusal.specs.Rules.{tooMany}
-use Rattle.tra4_text.specs.Rules.{channelsOf, allKeys, keyRows, countsOf, mosts, movementFault}
+use Rattle.tra4_text.specs.Rules.{channelsOf, allKeys, keyRows, countsOf, movementCounts, movementFault}
 use Rattle.tra4_rules.specs.Rows.{rowsOf, wholeRows}
 use Rattle.tra4_rules.specs.Keys.{countOf, pairCounts, boneCounts, rowCounts, keyCounts, cut, channelsIn}
 use Rattle.tra4_rules.specs.Order.{tablesFault}
 use Rattle.tra4_rules.proofs.Tables.{rows-more}
 use Rattle.tra4_rules.proofs.Counts.{count-beyond}
 use Rattle.refusal.proofs.Rules.{or-fault}
+use Rattle.table_counts.specs.Counts.{movementLists, movementMosts}
+use Rattle.table_counts.specs.Counts.{movementLists}
 
 -- ---- rows of one width
 
@@ -115,8 +117,8 @@ channels-laid bs rb rk t h = rw (counts-laid bs rb t, whole-front (allKeys (chan
 -- ---- a movement's tables
 
 -- more keys than there may be, however many: the first such list
-pub keys-beyond : (b k p : ℕ) → 4096 < k → tooMany 0 (b ∷ k ∷ p ∷ []) mosts ≡ fault 8 (elim (leb b 128) [ true ↦ 1 | false ↦ 0 ])
-unfolding mosts tooMany
+pub keys-beyond : (b k p : ℕ) → 4096 < k → tooMany 0 (b ∷ k ∷ p ∷ []) movementMosts ≡ fault 8 (elim (leb b 128) [ true ↦ 1 | false ↦ 0 ])
+unfolding movementMosts tooMany
 keys-beyond b k p h = go (leb b 128)
   where
     go : (v : Bool) → elim v [ true ↦ tooMany 1 (k ∷ p ∷ []) (4096 ∷ 256 ∷ []) | false ↦ fault 8 0 ] ≡ fault 8 (elim v [ true ↦ 1 | false ↦ 0 ])
@@ -125,7 +127,7 @@ keys-beyond b k p h = go (leb b 128)
 
 module _ (m : Movement) where
   -- where a list has too many rows, whatever the tables hold, and whatever counts say the same
-  pub tables-over : {n q : ℕ} → tooMany 0 (countsOf m) mosts ≡ fault n q → (total : ℤ) (b k p : ℕ) (bs ks ps : List ℤ) → tooMany 0 (b ∷ k ∷ p ∷ []) mosts ≡ fault n q → tablesFault total b k p bs ks ps ≡ movementFault m
+  pub tables-over : {n q : ℕ} → tooMany 0 (countsOf m) movementMosts ≡ fault n q → (total : ℤ) (b k p : ℕ) (bs ks ps : List ℤ) → tooMany 0 (b ∷ k ∷ p ∷ []) movementMosts ≡ fault n q → tablesFault total b k p bs ks ps ≡ movementFault m
   unfolding tablesFault movementFault
   tables-over e total b k p bs ks ps f = or-fault _ f ∙ sym (or-fault _ e)
 
@@ -134,14 +136,14 @@ module _ (m : Movement) where
   inTables bs ks ps = tablesFault (m .totalFrames) (length (m .bones)) (length (keyRows m)) (length (m .patterns)) bs ks ps
 
   -- so the tables need hold the movement only where none has
-  pub tables-within : (bs ks ps : List ℤ) → (tooMany 0 (countsOf m) mosts ≡ clear → inTables bs ks ps ≡ movementFault m) → inTables bs ks ps ≡ movementFault m
-  tables-within bs ks ps h = go (tooMany 0 (countsOf m) mosts) refl
+  pub tables-within : (bs ks ps : List ℤ) → (tooMany 0 (countsOf m) movementMosts ≡ clear → inTables bs ks ps ≡ movementFault m) → inTables bs ks ps ≡ movementFault m
+  tables-within bs ks ps h = go (tooMany 0 (countsOf m) movementMosts) refl
     where
-      go : (v : Fault) → tooMany 0 (countsOf m) mosts ≡ v → inTables bs ks ps ≡ movementFault m
+      go : (v : Fault) → tooMany 0 (countsOf m) movementMosts ≡ v → inTables bs ks ps ≡ movementFault m
       go clear e = h e
-      go (fault n q) e = tables-over e (m .totalFrames) (length (m .bones)) (length (keyRows m)) (length (m .patterns)) bs ks ps (unfold countsOf in e)
+      go (fault n q) e = tables-over e (m .totalFrames) (length (m .bones)) (length (keyRows m)) (length (m .patterns)) bs ks ps (unfold countsOf movementLists movementCounts in e)
 
   -- the first fault of the tables is the movement's
   pub tables-laid : (rb rk rp : List ℤ) → Tenfold (m .bones) → Wide 2 (keyRows m) → Wide 3 (m .patterns) → inTables (flat (boneRows 0 (m .bones)) ++ rb) (flat (keyRows m) ++ rk) (flat (m .patterns) ++ rp) ≡ movementFault m
-  unfolding tablesFault movementFault countsOf keyRows
+  unfolding tablesFault movementFault countsOf movementCounts movementLists keyRows
   tables-laid rb rk rp t h p = rw (channels-laid (m .bones) rb rk t h, rows-laid 3 (m .patterns) rp p)

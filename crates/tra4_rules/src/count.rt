@@ -3,29 +3,30 @@ ghost use mathlib.Core.Path.{_≡_};
 ghost use mathlib.Core.List.{[], _∷_};
 ghost use Rattle.refusal.specs.Answers.{refusal};
 ghost use Rattle.refusal.specs.Rules.{tooMany};
-ghost use Rattle.tra4_text.specs.Rules.{mosts, totalFault};
+ghost use Rattle.tra4_text.specs.Rules.{totalFault};
+ghost use Rattle.table_counts.specs.Counts.{movementMosts};
 use refusal::Checked;
 
 // The first list with more rows than it may have.
 pub fn counts_fault(bones: usize, keys: usize, patterns: usize) -> Checked
-    ensures { λ r. ⌜ refusal r ≡ tooMany 0 (bones ∷ keys ∷ patterns ∷ []) mosts ⌝ }
+    ensures { λ r. ⌜ refusal r ≡ tooMany 0 (bones ∷ keys ∷ patterns ∷ []) movementMosts ⌝ }
 {
     if 128 < bones {
         return Checked::Refused {
             number: 8,
-            offset: 0,
+            place: 0,
         };
     }
     if 4096 < keys {
         return Checked::Refused {
             number: 8,
-            offset: 1,
+            place: 1,
         };
     }
     if 256 < patterns {
         return Checked::Refused {
             number: 8,
-            offset: 2,
+            place: 2,
         };
     }
     Checked::Clear
@@ -38,13 +39,13 @@ pub fn total_fault(total: i64) -> Checked
     if total < 1 {
         return Checked::Refused {
             number: 14,
-            offset: 0,
+            place: 0,
         };
     }
     if 32767 < total {
         return Checked::Refused {
             number: 14,
-            offset: 0,
+            place: 0,
         };
     }
     Checked::Clear

@@ -39,7 +39,7 @@ pub fn frames_fault(kind: Timed, total: i64, table: &[i64], row: usize, end: usi
         if !row_fits(kind, total, at == row, before, &table[base..next]) {
             return Checked::Refused {
                 number: number_of(kind),
-                offset: at,
+                place: at,
             };
         }
         before = table[base];

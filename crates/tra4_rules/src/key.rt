@@ -12,7 +12,7 @@ use refusal::Checked;
 // The row after the keys that were walked, or the first fault among them.
 enum Walk {
     At(usize),
-    Refused { number: u8, offset: usize },
+    Refused { number: u8, place: usize },
 }
 
 // The first key of the channels of `bone_count` rows of 22 that breaks the rule; a row that is not whole is not looked at.
@@ -29,8 +29,8 @@ pub fn keys_fault(total: i64, bones: &[i64], bone_count: usize, keys: &[i64]) ->
         let end = base + 22;
         i += 1;
         match bone_fault(total, &bones[base..end], keys, row) {
-            Walk::Refused { number, offset } => {
-                return Checked::Refused { number, offset };
+            Walk::Refused { number, place } => {
+                return Checked::Refused { number, place };
             }
             Walk::At(next) => {
                 row = next;
@@ -54,8 +54,8 @@ fn bone_fault(total: i64, bone: &[i64], keys: &[i64], row: usize) -> Walk
         let next = at + count;
         column += 2;
         match frames_fault(Timed::Key, total, &keys[base..], at, next) {
-            Checked::Refused { number, offset } => {
-                return Walk::Refused { number, offset };
+            Checked::Refused { number, place } => {
+                return Walk::Refused { number, place };
             }
             Checked::Clear => {
                 at = next;

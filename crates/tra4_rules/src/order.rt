@@ -21,11 +21,11 @@ pub fn first_fault(
     ensures { λ r. ⌜ refusal r ≡ tablesFault total «bone_count» «key_count» «pattern_count» (now (bones .entry)) (now (keys .entry)) (now (patterns .entry)) ⌝ }
 {
     match counts_fault(bone_count, key_count, pattern_count) {
-        Checked::Refused { number, offset } => Checked::Refused { number, offset },
+        Checked::Refused { number, place } => Checked::Refused { number, place },
         Checked::Clear => match total_fault(total) {
-            Checked::Refused { number, offset } => Checked::Refused { number, offset },
+            Checked::Refused { number, place } => Checked::Refused { number, place },
             Checked::Clear => match keys_fault(total, bones, bone_count, keys) {
-                Checked::Refused { number, offset } => Checked::Refused { number, offset },
+                Checked::Refused { number, place } => Checked::Refused { number, place },
                 Checked::Clear => patterns_fault(total, patterns, pattern_count),
             },
         },

@@ -15,12 +15,14 @@ use Rattle.parse_cursor.specs.Fields.{kind, isSome, unread, complete, kindFrom,
 use Rattle.table_rows.specs.Flat.{flat}
 use Rattle.tra4_text.specs.Movement.{Movement, frameOf, groupOf}
 use Rattle.tra4_text.specs.Grammar.{repeatedIn, repeated, repeated⁺, key, channelNames, channel, channelKinds, keysIn, bone, truth, pattern, movement}
-use Rattle.tra4_text.specs.Rules.{channelsOf, allKeys, keyRows, countsOf, mosts, totalFault, isFrame, isZero, rises, neverFalls, framesFault, keyFine, keysFault, patternFine, patternsFault, movementFault}
+use Rattle.tra4_text.specs.Rules.{channelsOf, allKeys, keyRows, countsOf, movementCounts, totalFault, isFrame, isZero, rises, neverFalls, framesFault, keyFine, keysFault, patternFine, patternsFault, movementFault}
 use Rattle.tra4_text.specs.Layout.{nameNumbers, keyRanges, boneRow, boneRows, layoutOf}
 use Rattle.tra4_text.specs.Answer.{movementOutcome, movementAnswer, movementTable}
 use Rattle.refusal.specs.Rules.{orElse, tooMany}
 use Rattle.refusal.specs.Outcomes.{Outcome, rejected, accepted, ruled, fitted, laid}
 use Rattle.parse_text.specs.Texts.{shaped, checked, outcome}
+use Rattle.table_counts.specs.Counts.{movementMosts}
+use Rattle.table_counts.specs.Counts.{movementLists}
 
 -- ---- a text of two bones, their channels out of order, and the table that it leaves of one with a number more than it takes
 
@@ -90,13 +92,13 @@ cases =
     ∷ []
 
 pub worked : (movementTable walk (replicate 101 (pos 9)) ≡ walked ++ (pos 9 ∷ [])) × (movementAnswer walk 99 ≡ rejected 17 100) × (map (λ c. reply (movementAnswer (front ++ bytes (c .0)) 100)) cases ≡ map (λ c. c .1) cases)
-unfolding rowOf cells bytes isBlank between isLetter classOf inLine inString isDigit isContent run same lexeme tokens lex isKeyword decimalFrom decimal signed notEmpty allDigits intMost intOf millionths floatOf numberFrom afterDigits unsigned negative magnitude numberOf faultIn markOf blankOrEnd begins marked textFault after _>>=_ _>>_ pure stop tokenOf rest isOpening isClosing isEnd take-if open-bracket close-bracket wordOf text-end openedOf opened closed numberIn numberAt number numbers versionAt version absent nameAt string oneFrom oneOf starts optional trailing manyIn many many⁺ headOf head kind isSome unread complete kindFrom fieldsIn fields flat frameOf groupOf repeatedIn repeated repeated⁺ key channelNames channel channelKinds keysIn bone truth pattern movement orElse channelsOf allKeys keyRows countsOf mosts tooMany totalFault isFrame isZero rises neverFalls framesFault keyFine keysFault patternFine patternsFault movementFault nameNumbers keyRanges boneRow boneRows layoutOf ruled shaped checked outcome movementOutcome fitted movementAnswer laid movementTable
+unfolding rowOf cells bytes isBlank between isLetter classOf inLine inString isDigit isContent run same lexeme tokens lex isKeyword decimalFrom decimal signed notEmpty allDigits intMost intOf millionths floatOf numberFrom afterDigits unsigned negative magnitude numberOf faultIn markOf blankOrEnd begins marked textFault after _>>=_ _>>_ pure stop tokenOf rest isOpening isClosing isEnd take-if open-bracket close-bracket wordOf text-end openedOf opened closed numberIn numberAt number numbers versionAt version absent nameAt string oneFrom oneOf starts optional trailing manyIn many many⁺ headOf head kind isSome unread complete kindFrom fieldsIn fields flat frameOf groupOf repeatedIn repeated repeated⁺ key channelNames channel channelKinds keysIn bone truth pattern movement orElse channelsOf allKeys keyRows countsOf movementCounts movementLists movementMosts tooMany totalFault isFrame isZero rises neverFalls framesFault keyFine keysFault patternFine patternsFault movementFault nameNumbers keyRanges boneRow boneRows layoutOf ruled shaped checked outcome movementOutcome fitted movementAnswer laid movementTable
 worked = (refl, refl, refl)
 
--- ---- the lists' mosts, and the total's range
+-- ---- the lists' movementMosts, and the total's range
 
-pub most-rows : map (λ ns. tooMany 0 ns mosts) ((128 ∷ 4096 ∷ 256 ∷ []) ∷ (129 ∷ 4097 ∷ 257 ∷ []) ∷ (128 ∷ 4097 ∷ 257 ∷ []) ∷ (128 ∷ 4096 ∷ 257 ∷ []) ∷ []) ≡ clear ∷ fault 8 0 ∷ fault 8 1 ∷ fault 8 2 ∷ []
-unfolding rowOf cells tooMany mosts
+pub most-rows : map (λ ns. tooMany 0 ns movementMosts) ((128 ∷ 4096 ∷ 256 ∷ []) ∷ (129 ∷ 4097 ∷ 257 ∷ []) ∷ (128 ∷ 4097 ∷ 257 ∷ []) ∷ (128 ∷ 4096 ∷ 257 ∷ []) ∷ []) ≡ clear ∷ fault 8 0 ∷ fault 8 1 ∷ fault 8 2 ∷ []
+unfolding rowOf cells tooMany movementMosts
 most-rows = refl
 
 pub total-range : map totalFault (pos 1 ∷ pos 32767 ∷ pos 0 ∷ negsuc 0 ∷ pos 32768 ∷ []) ≡ clear ∷ clear ∷ fault 14 0 ∷ fault 14 0 ∷ fault 14 0 ∷ []

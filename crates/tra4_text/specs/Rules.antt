@@ -10,6 +10,8 @@ use lib.Signed.{ltZ, leZ}
 use Rattle.refusal.specs.Faults.{Fault, clear, fault}
 use Rattle.refusal.specs.Rules.{orElse, tooMany}
 use Rattle.tra4_text.specs.Movement.{Key, Channel, Pattern, frameOf, groupOf, Bone, Movement}
+use Rattle.table_counts.specs.declared.counts.MovementCounts.{MovementCounts}
+use Rattle.table_counts.specs.Counts.{movementLists, movementMosts}
 
 -- every channel, by bone and then channel number
 unfoldable pub channelsOf : List Bone → List Channel
@@ -26,12 +28,12 @@ keyRows m = allKeys (channelsOf (m .bones))
 
 -- ---- 8: too many rows, at the first such list
 
-unfoldable pub countsOf : Movement → List ℕ
-countsOf m = length (m .bones) ∷ length (keyRows m) ∷ length (m .patterns) ∷ []
+-- how many rows each list has
+unfoldable pub movementCounts : Movement → MovementCounts
+movementCounts m = record { bones = length (m .bones); keys = length (keyRows m); patterns = length (m .patterns) }
 
--- the most rows of each
-unfoldable pub mosts : List ℕ
-mosts = 128 ∷ 4096 ∷ 256 ∷ []
+unfoldable pub countsOf : Movement → List ℕ
+countsOf m = movementLists (movementCounts m)
 
 -- ---- 14: the total is 1 to 32,767
 
@@ -85,7 +87,7 @@ patternsFault total ps = framesFault 16 (patternFine total) none 0 ps
 
 unfoldable pub movementFault : Movement → Fault
 movementFault m =
-    orElse (tooMany 0 (countsOf m) mosts)
+    orElse (tooMany 0 (countsOf m) movementMosts)
     (orElse (totalFault (m .totalFrames))
     (orElse (keysFault (m .totalFrames) 0 (channelsOf (m .bones)))
     (patternsFault (m .totalFrames) (m .patterns))))

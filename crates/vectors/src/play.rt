@@ -5,8 +5,8 @@ use crate::kind::SHOWN;
 use crate::record::count;
 use crate::record::numbers;
 use crate::record::put;
-use player::FigureCounts;
-use player::MovementCounts;
+use table_counts::FigureCounts;
+use table_counts::MovementCounts;
 
 // Sets a number of a table, and answers what stood there.
 fn exchange(table: &mut [i64], at: usize, z: i64) -> i64 {

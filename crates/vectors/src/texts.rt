@@ -24,8 +24,8 @@ fn put_row(word: &[u8], row: &[i64]) {
 fn tell_checked(answer: Checked) {
     match answer {
         Checked::Clear => put(b"clear\n"),
-        Checked::Refused { number, offset } => {
-            put_row(b"refused", &[number as i64, report::shown(offset)])
+        Checked::Refused { number, place } => {
+            put_row(b"refused", &[number as i64, report::shown(place)])
         }
     }
 }

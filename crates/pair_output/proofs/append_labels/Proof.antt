@@ -10,8 +10,8 @@ use lib.ListN.{length}
 use denote.Ref.{now}
 use Rattle.report.specs.Output.{output}
 use Rattle.report.specs.Lists.{appendedEach}
-use Rattle.player.specs.declared.counts.FigureCounts.{FigureCounts}
-use Rattle.player.specs.declared.counts.MovementCounts.{MovementCounts}
+use Rattle.table_counts.specs.declared.counts.FigureCounts.{FigureCounts}
+use Rattle.table_counts.specs.declared.counts.MovementCounts.{MovementCounts}
 use Rattle.player_label.specs.Labels.{labelIn, orEmpty}
 use Rattle.player_listing.specs.Parts.{linesFrom}
 use Rattle.player_listing.proofs.Turns.{turn-put, turn-short, Short, all-lines, all-short}

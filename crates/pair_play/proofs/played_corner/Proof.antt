@@ -5,7 +5,7 @@ use denote.Ref.{now}
 use lib.IntN.{ℤ}
 use Rattle.bac6_text.specs.Figure.{Figure}
 use Rattle.tra4_text.specs.Movement.{Movement}
-use Rattle.player.specs.declared.counts.FigureCounts.{FigureCounts}
+use Rattle.table_counts.specs.declared.counts.FigureCounts.{FigureCounts}
 use Rattle.pair_load.specs.declared.pair.PairAnswer.{PairAnswer}
 use Rattle.player.specs.Lookups.{cornerIn}
 use Rattle.player.specs.Answers.{cornered}

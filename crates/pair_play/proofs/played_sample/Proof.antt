@@ -5,7 +5,7 @@ use denote.Ref.{now}
 use lib.IntN.{ℤ}
 use Rattle.bac6_text.specs.Figure.{Figure}
 use Rattle.tra4_text.specs.Movement.{Movement}
-use Rattle.player.specs.declared.counts.MovementCounts.{MovementCounts}
+use Rattle.table_counts.specs.declared.counts.MovementCounts.{MovementCounts}
 use Rattle.pair_load.specs.declared.pair.PairAnswer.{PairAnswer}
 use Rattle.player.specs.Lookups.{sampleIn}
 use Rattle.player.specs.Answers.{sampled}

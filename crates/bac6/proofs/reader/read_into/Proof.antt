@@ -80,7 +80,7 @@ same-length-16 : tie.Need-same-length-16
 same-length-16 c = search (needs, c .before .before .before .before .before .before .before .before .before .before .before .before .before .before .before .before .before .before .before .before .before .before .before .before .before .before .before .parse)
 
 same-length-17 : tie.Need-same-length-17
-same-length-17 c = search needs
+same-length-17 c = search (needs, c .before .before .before .before .before .before .before .before .before .before .before .before .before .before .before .before .before .before .before .before .before .before .before .before .before .before .before .parse)
 
 same-length-18 : tie.Need-same-length-18
 same-length-18 c = search needs

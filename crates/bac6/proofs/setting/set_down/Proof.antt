@@ -1,8 +1,9 @@
 -- `set_down` lays the parts where they fit, and refuses where not.
-use mathlib.Core.Path.{refl, sym, _∙_}
+use mathlib.Core.Path.{refl, ap, sym, _∙_}
 use native.Mathlib.Omega.{arith}
 use lib.ListN.{length}
 use denote.Ref.{now}
+use Rattle.table_counts.specs.declared.counts.FigureCounts.{FigureCounts}
 use Rattle.bac6.specs.Answers.{totalOf, countsAnswer, partsOf}
 use Rattle.bac6.proofs.Settings.{part-length, short-answer, short-table, long-answer, long-table, laid-name}
 use borrow.Author.Needs.{needs}
@@ -139,11 +140,14 @@ lay-requires c κs = search needs
 same-length : tie.Need-same-length
 same-length c = search needs
 
+counts-of-requires : tie.Need-counts-of-requires
+counts-of-requires c κs = search needs
+
 returns-2 : tie.Need-returns-2
 unfolding totalOf countsAnswer partsOf
 returns-2 c =
-    let a = c .before .before .before .before .before .before .before .before .before .before .before .before .before .before .before .before .before .before .before .before .before .before .before .before .args in
-    (sym (long-answer (a .p) (length (now (a .table))) (c .before .before .before .before .before .before .before .before .before .before .before .before .before .before .if1 .left)), long-table (a .p) _ (now (a .table)) _ (c .before .before .before .before .before .before .before .before .before .before .before .before .before .before .if1 .left) (laid-name (a .p .place) (a .p .length) _ _ _ (omega (arith, c .before .before .before .before .before .before .before .before .before .before .before .before .before .before .before .before .before .before .before .before .before .before .before .before .pre .place)) (omega (arith, c .before .before .before .before .before .before .before .before .before .before .before .before .before .before .before .before .before .before .before .before .before .before .before .before .pre .size)) (c .before .lay .ensures)))
+    let a = c .before .before .before .before .before .before .before .before .before .before .before .before .before .before .before .before .before .before .before .before .before .before .before .before .before .args in
+    (ap (λ (n : FigureCounts). record { refusal = 0; place = 0; file = 0; total = totalOf (a .p); counts = n }) (c .counts-of .ensures) ∙ sym (long-answer (a .p) (length (now (a .table))) (c .before .before .before .before .before .before .before .before .before .before .before .before .before .before .before .if1 .left)), long-table (a .p) _ (now (a .table)) _ (c .before .before .before .before .before .before .before .before .before .before .before .before .before .before .before .if1 .left) (laid-name (a .p .place) (a .p .length) _ _ _ (omega (arith, c .before .before .before .before .before .before .before .before .before .before .before .before .before .before .before .before .before .before .before .before .before .before .before .before .before .pre .place)) (omega (arith, c .before .before .before .before .before .before .before .before .before .before .before .before .before .before .before .before .before .before .before .before .before .before .before .before .before .pre .size)) (c .before .before .lay .ensures)))
 
 pub set-down-spec : {M : Type 1} → statement M
 set-down-spec =
@@ -184,5 +188,6 @@ set-down-spec =
     slice-aggregate-lay-10
     slice-aggregate-lay-11
     lay-requires
+    counts-of-requires
     same-length
     returns-2)

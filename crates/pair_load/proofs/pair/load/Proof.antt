@@ -12,7 +12,7 @@ use Rattle.bac6_text.specs.Answer.{figureOutcome, figureAnswer, tableAfter}
 use Rattle.bac6.specs.Answers.{answerOf}
 use Rattle.figure_bridge.specs.Rows.{countsIn}
 use Rattle.figure_bridge.proofs.Texts.{figure-table}
-use Rattle.player.specs.declared.counts.FigureCounts.{FigureCounts}
+use Rattle.table_counts.specs.declared.counts.FigureCounts.{FigureCounts}
 use Rattle.pair_text.specs.Answer.{Loaded, loaded, withFigure, pairAnswer, figureLeft, movementOf, movementLeft}
 use Rattle.bac6_text.specs.Figure.{Figure}
 use Rattle.tra4_text.specs.Movement.{Movement}

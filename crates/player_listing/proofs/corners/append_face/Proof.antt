@@ -12,7 +12,7 @@ use Rattle.report.specs.Output.{output}
 use Rattle.report.specs.Lists.{appendedEach}
 use Rattle.player.specs.Lookups.{cornerIn}
 use Rattle.player.specs.Answers.{numbered}
-use Rattle.player.specs.declared.counts.FigureCounts.{FigureCounts}
+use Rattle.table_counts.specs.declared.counts.FigureCounts.{FigureCounts}
 use Rattle.player_listing.specs.Parts.{linesFrom}
 use Rattle.player_listing.specs.Corners.{cornerLines, faceLines}
 use Rattle.player_listing.proofs.CornerLines.{corner-put}

@@ -12,8 +12,8 @@ use Rattle.report.specs.Output.{output}
 use Rattle.report.specs.Lists.{appendedEach}
 use Rattle.player.specs.Lookups.{shownIn}
 use Rattle.player.specs.Answers.{numbered, showed}
-use Rattle.player.specs.declared.counts.FigureCounts.{FigureCounts}
-use Rattle.player.specs.declared.counts.MovementCounts.{MovementCounts}
+use Rattle.table_counts.specs.declared.counts.FigureCounts.{FigureCounts}
+use Rattle.table_counts.specs.declared.counts.MovementCounts.{MovementCounts}
 use Rattle.player_listing.specs.Parts.{linesFrom}
 use Rattle.player_listing.specs.Faces.{shownLine, shownLines, shownText}
 use Rattle.player_listing.proofs.ShownLines.{frame-put}

@@ -12,7 +12,7 @@ use Rattle.report.specs.Output.{output}
 use Rattle.report.specs.Lists.{appendedEach}
 use Rattle.player.specs.Lookups.{sampleIn}
 use Rattle.player.specs.Answers.{numbered}
-use Rattle.player.specs.declared.counts.MovementCounts.{MovementCounts}
+use Rattle.table_counts.specs.declared.counts.MovementCounts.{MovementCounts}
 use Rattle.player_listing.specs.Parts.{linesFrom}
 use Rattle.player_listing.specs.Samples.{sampleLine, sampleLines, sampleText}
 use Rattle.player_listing.proofs.SampleLines.{frame-put}

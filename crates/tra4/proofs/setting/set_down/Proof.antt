@@ -42,11 +42,11 @@ returns c =
     let a = c .before .before .before .before .before .args in
     (c .refused .ensures ∙ sym (short-answer (a .p) (length (now (a .table))) (c .before .if1 .taken)), short-table (a .p) _ (now (a .table)) (c .before .if1 .taken))
 
-cast-t22 : tie.Need-cast-t22
-cast-t22 c = search needs
-
 cast-t23 : tie.Need-cast-t23
 cast-t23 c = search needs
+
+cast-t24 : tie.Need-cast-t24
+cast-t24 c = search needs
 
 slice-aggregate-put : tie.Need-slice-aggregate-put
 slice-aggregate-put c = search needs
@@ -103,8 +103,8 @@ set-down-spec =
     add-total-3
     refused-requires
     returns
-    cast-t22
     cast-t23
+    cast-t24
     slice-aggregate-put
     put-requires
     slice-aggregate-put-2

@@ -7,12 +7,13 @@ use mir.Facts.{toZ-ofZ}
 use Rattle.refusal.specs.Faults.{clear}
 use Rattle.refusal.specs.Answers.{refusal}
 use Rattle.refusal.specs.Rules.{tooMany}
-use Rattle.tra4_text.specs.Rules.{mosts, totalFault, keysFault}
+use Rattle.tra4_text.specs.Rules.{totalFault, keysFault}
 use Rattle.tra4_rules.specs.Keys.{channelsIn}
 use Rattle.tra4_rules.specs.Order.{tablesFault}
 use Rattle.refusal.proofs.Rules.{refused-by, clear-by, or-clear, or-fault}
 use Rattle.tra4_rules.proofs.order.first_fault.Statement.{statement}
 use Rattle.tra4_rules.proofs.order.first_fault.Tie as tie
+use Rattle.table_counts.specs.Counts.{movementMosts}
 
 -- what each call says, with the total as it was passed
 total-told : (c : tie.After-total-fault) → refusal (c .total-fault .result) ≡ totalFault (c .before .before .before .before .args .total)
@@ -21,7 +22,7 @@ total-told c = rw (toZ-ofZ (c .before .before .before .before .fits .total)) at 
 keys-told : (c : tie.After-keys-fault) → let a = c .before .before .before .before .before .before .before .args in refusal (c .keys-fault .result) ≡ keysFault (a .total) 0 (channelsIn (a .bone-count) (now (a .bones)) (now (a .keys)))
 keys-told c = rw (toZ-ofZ (c .before .before .before .before .before .before .before .fits .total)) at (c .keys-fault .ensures)
 
-no-counts : (c : tie.After-enum-told) → let a = c .before .before .before .args in tooMany 0 (a .bone-count ∷ a .key-count ∷ a .pattern-count ∷ []) mosts ≡ clear
+no-counts : (c : tie.After-enum-told) → let a = c .before .before .before .args in tooMany 0 (a .bone-count ∷ a .key-count ∷ a .pattern-count ∷ []) movementMosts ≡ clear
 no-counts c = clear-by (c .before .before .counts-fault .ensures) (c .enum-told .given .1)
 
 no-total : (c : tie.After-enum-told2) → totalFault (c .before .before .before .before .before .before .args .total) ≡ clear

@@ -1,8 +1,8 @@
 -- `counts_of` copies the counts.
 use mathlib.Core.Path.{refl}
 use Rattle.bac6.specs.Answers.{parsedCounts}
-use Rattle.bac6.proofs.reader.counts_of.Statement.{statement}
-use Rattle.bac6.proofs.reader.counts_of.Tie as tie
+use Rattle.bac6.proofs.shape.counts_of.Statement.{statement}
+use Rattle.bac6.proofs.shape.counts_of.Tie as tie
 
 returns : tie.Need-returns
 unfolding parsedCounts

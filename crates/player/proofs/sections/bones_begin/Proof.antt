@@ -2,8 +2,8 @@
 use native.Mathlib.Omega.{arith}
 use Rattle.player.specs.Columns.{pointsBegin, bonesBegin}
 use borrow.Author.Needs.{needs}
-use Rattle.player.proofs.counts.bones_begin.Statement.{statement}
-use Rattle.player.proofs.counts.bones_begin.Tie as tie
+use Rattle.player.proofs.sections.bones_begin.Statement.{statement}
+use Rattle.player.proofs.sections.bones_begin.Tie as tie
 
 points-begin-requires : tie.Need-points-begin-requires
 points-begin-requires c κs = search needs

@@ -2,8 +2,8 @@
 use mathlib.Core.Path.{refl}
 use Rattle.player.specs.Columns.{pointsBegin, ownersBegin, uvsBegin, facesBegin}
 use borrow.Author.Needs.{needs}
-use Rattle.player.proofs.counts.points_begin.Statement.{statement}
-use Rattle.player.proofs.counts.points_begin.Tie as tie
+use Rattle.player.proofs.sections.points_begin.Statement.{statement}
+use Rattle.player.proofs.sections.points_begin.Tie as tie
 
 mul-result : tie.Need-mul-result
 mul-result c = search needs

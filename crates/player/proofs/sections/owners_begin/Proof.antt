@@ -2,8 +2,8 @@
 use native.Mathlib.Omega.{arith}
 use Rattle.player.specs.Columns.{pointsBegin, bonesBegin, ownersBegin}
 use borrow.Author.Needs.{needs}
-use Rattle.player.proofs.counts.owners_begin.Statement.{statement}
-use Rattle.player.proofs.counts.owners_begin.Tie as tie
+use Rattle.player.proofs.sections.owners_begin.Statement.{statement}
+use Rattle.player.proofs.sections.owners_begin.Tie as tie
 
 bones-begin-requires : tie.Need-bones-begin-requires
 bones-begin-requires c κs = search needs

@@ -5,8 +5,8 @@ use Rattle.refusal.proofs.Rules.{refused-by, clear-by}
 use Rattle.player.specs.Columns.{pointsBegin, bonesBegin, ownersBegin, uvsBegin, facesBegin}
 use Rattle.player.proofs.Mosts.{figure-within, figure-over, figure-held}
 use borrow.Author.Needs.{needs}
-use Rattle.player.proofs.counts.holds_figure.Statement.{statement}
-use Rattle.player.proofs.counts.holds_figure.Tie as tie
+use Rattle.player.proofs.sections.holds_figure.Statement.{statement}
+use Rattle.player.proofs.sections.holds_figure.Tie as tie
 
 slice-aggregate-too-many : tie.Need-slice-aggregate-too-many
 slice-aggregate-too-many c = search needs

@@ -3,32 +3,15 @@ ghost use mathlib.Core.Path.{_≡_};
 ghost use Prim.Native.Nat.{_≤_};
 ghost use Rattle.player.specs.Columns.{patternsBegin, holdsMovement, pointsBegin, bonesBegin, ownersBegin, uvsBegin, facesBegin, holdsFigure, WithinMosts};
 use refusal::Checked;
-
-pub struct MovementCounts {
-    pub bones: usize,
-    pub keys: usize,
-    pub patterns: usize,
-}
-
-// Owners are as many as points.
-pub struct FigureCounts {
-    pub textures: usize,
-    pub colours: usize,
-    pub materials: usize,
-    pub points: usize,
-    pub normals: usize,
-    pub bones: usize,
-    pub uvs: usize,
-    pub faces: usize,
-    pub groups: usize,
-}
+use table_counts::FigureCounts;
+use table_counts::MovementCounts;
 
 // No count is above its most, and the table is not shorter than they say.
 pub fn holds_movement(table: &[i64], n: MovementCounts) -> bool
     ensures { λ r. ⌜ r ≡ holdsMovement n (now (table .entry)) ⌝ }
 {
     match refusal::too_many(&[n.bones, n.keys, n.patterns], &[128, 4096, 256]) {
-        Checked::Refused { number, offset } => false,
+        Checked::Refused { number, place } => false,
         Checked::Clear => 3 + n.bones * 22 + n.keys * 2 + n.patterns * 3 <= table.len(),
     }
 }
@@ -92,7 +75,7 @@ pub fn holds_figure(table: &[i64], n: FigureCounts) -> bool
         n.groups,
     ];
     match refusal::too_many(&counts, &[16, 256, 64, 2048, 2048, 128, 4096, 1024, 32]) {
-        Checked::Refused { number, offset } => false,
+        Checked::Refused { number, place } => false,
         Checked::Clear => faces_begin(n) + n.faces * 11 + n.groups * 2 <= table.len(),
     }
 }

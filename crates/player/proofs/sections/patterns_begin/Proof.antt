@@ -2,8 +2,8 @@
 use mathlib.Core.Path.{refl}
 use Rattle.player.specs.Columns.{keysBegin, patternsBegin}
 use borrow.Author.Needs.{needs}
-use Rattle.player.proofs.counts.patterns_begin.Statement.{statement}
-use Rattle.player.proofs.counts.patterns_begin.Tie as tie
+use Rattle.player.proofs.sections.patterns_begin.Statement.{statement}
+use Rattle.player.proofs.sections.patterns_begin.Tie as tie
 
 mul-result : tie.Need-mul-result
 mul-result c = search needs

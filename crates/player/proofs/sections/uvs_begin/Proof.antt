@@ -2,8 +2,8 @@
 use native.Mathlib.Omega.{arith}
 use Rattle.player.specs.Columns.{pointsBegin, bonesBegin, ownersBegin, uvsBegin, facesBegin}
 use borrow.Author.Needs.{needs}
-use Rattle.player.proofs.counts.uvs_begin.Statement.{statement}
-use Rattle.player.proofs.counts.uvs_begin.Tie as tie
+use Rattle.player.proofs.sections.uvs_begin.Statement.{statement}
+use Rattle.player.proofs.sections.uvs_begin.Tie as tie
 
 owners-begin-requires : tie.Need-owners-begin-requires
 owners-begin-requires c κs = search needs

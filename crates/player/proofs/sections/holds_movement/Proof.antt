@@ -4,8 +4,8 @@ use native.Mathlib.Omega.{arith}
 use Rattle.refusal.proofs.Rules.{refused-by, clear-by}
 use Rattle.player.proofs.Mosts.{movement-within, movement-over, movement-held}
 use borrow.Author.Needs.{needs}
-use Rattle.player.proofs.counts.holds_movement.Statement.{statement}
-use Rattle.player.proofs.counts.holds_movement.Tie as tie
+use Rattle.player.proofs.sections.holds_movement.Statement.{statement}
+use Rattle.player.proofs.sections.holds_movement.Tie as tie
 
 slice-aggregate-too-many : tie.Need-slice-aggregate-too-many
 slice-aggregate-too-many c = search needs

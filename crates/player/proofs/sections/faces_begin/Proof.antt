@@ -2,8 +2,8 @@
 use native.Mathlib.Omega.{arith}
 use Rattle.player.specs.Columns.{pointsBegin, bonesBegin, ownersBegin, uvsBegin, facesBegin}
 use borrow.Author.Needs.{needs}
-use Rattle.player.proofs.counts.faces_begin.Statement.{statement}
-use Rattle.player.proofs.counts.faces_begin.Tie as tie
+use Rattle.player.proofs.sections.faces_begin.Statement.{statement}
+use Rattle.player.proofs.sections.faces_begin.Tie as tie
 
 uvs-begin-requires : tie.Need-uvs-begin-requires
 uvs-begin-requires c κs = search needs
