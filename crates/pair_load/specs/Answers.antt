@@ -17,7 +17,7 @@ use Rattle.table_counts.specs.declared.counts.FigureCounts.{FigureCounts}
 use Rattle.table_counts.specs.declared.counts.MovementCounts.{MovementCounts}
 use Rattle.movement_bridge.specs.Counts as movement
 use Rattle.figure_bridge.specs.Rows as figure
-use Rattle.pair_text.specs.Answer.{Loaded, refused, loaded, withMovement}
+use Rattle.pair_text.specs.Answer.{Loaded, refused, loaded, withMovement, loading}
 use Rattle.pair_bridge.specs.Names.{namesIn}
 use Rattle.pair_load.specs.declared.pair.PairAnswer.{PairAnswer}
 use Rattle.bac6_text.specs.Rules.{figureCounts}
@@ -55,3 +55,11 @@ pairReply (loaded (f, m)) =
       «movement_total» = length (movements.layoutOf m);
       movement = movementCounts m;
     }
+
+-- by two texts and what the two lent tables held
+abbrev pub reply : List ℕ → List ℤ → List ℕ → List ℤ → PairAnswer
+reply F table M moves = pairReply (loading F table M moves)
+
+-- by a figure's text, counts and table, a movement's text and what its lent table held
+abbrev pub moving : List ℕ → FigureCounts → List ℤ → List ℕ → List ℤ → Loaded Movement
+moving F n table M moves = movedAnswer F n table M (length moves)

@@ -1,8 +1,7 @@
 // Loads a movement with a figure that already stands in a table.
 ghost use mathlib.Core.Path.{_≡_};
-ghost use lib.ListN.{length};
 ghost use Rattle.pair_text.specs.Answer.{refused as refusedAt, movementLeft};
-ghost use Rattle.pair_load.specs.Answers.{movedAnswer, movedReply};
+ghost use Rattle.pair_load.specs.Answers.{movedReply, moving};
 use pair_rules::has_names;
 use pair_rules::pair_fault;
 use refusal::Checked;
@@ -32,8 +31,8 @@ pub fn load_movement(
     movement: &[u8],
     moves: &mut [i64],
 ) -> MovementAnswer
-    ensures answer { λ r. ⌜ r ≡ movedReply (movedAnswer (now (figure .entry)) n (now (table .entry)) (now (movement .entry)) (length (now (moves .entry)))) ⌝ }
-    ensures content { λ r. ⌜ now (moves .exit) ≡ movementLeft (now (moves .entry)) (movedAnswer (now (figure .entry)) n (now (table .entry)) (now (movement .entry)) (length (now (moves .entry)))) ⌝ }
+    ensures answer { λ r. ⌜ r ≡ movedReply (moving (now (figure .entry)) n (now (table .entry)) (now (movement .entry)) (now (moves .entry))) ⌝ }
+    ensures content { λ r. ⌜ now (moves .exit) ≡ movementLeft (now (moves .entry)) (moving (now (figure .entry)) n (now (table .entry)) (now (movement .entry)) (now (moves .entry))) ⌝ }
 {
     if !has_names(figure, table, n) {
         return refused(21, 0, 0);

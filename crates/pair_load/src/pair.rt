@@ -1,8 +1,7 @@
 // Loads a figure and a movement.
 ghost use mathlib.Core.Path.{_≡_};
-ghost use lib.ListN.{length};
-ghost use Rattle.pair_text.specs.Answer.{refused as refusedAt, pairAnswer, figureLeft, movementOf, movementLeft};
-ghost use Rattle.pair_load.specs.Answers.{pairReply};
+ghost use Rattle.pair_text.specs.Answer.{refused as refusedAt, tableLeft, movesLeft};
+ghost use Rattle.pair_load.specs.Answers.{pairReply, reply};
 use crate::moving::load_movement;
 use table_counts::FigureCounts;
 use table_counts::MovementCounts;
@@ -37,9 +36,9 @@ fn refused(number: usize, place: usize, file: usize) -> PairAnswer
 
 // The answer is document 01's; each table holds its text's layout from its start on, or, where the pair is refused, what it held.
 pub fn load(figure: &[u8], movement: &[u8], table: &mut [i64], moves: &mut [i64]) -> PairAnswer
-    ensures answer { λ r. ⌜ r ≡ pairReply (pairAnswer (now (figure .entry)) (length (now (table .entry))) (now (movement .entry)) (length (now (moves .entry)))) ⌝ }
-    ensures figure { λ r. ⌜ now (table .exit) ≡ figureLeft (now (table .entry)) (pairAnswer (now (figure .entry)) (length (now (table .entry))) (now (movement .entry)) (length (now (moves .entry)))) ⌝ }
-    ensures movement { λ r. ⌜ now (moves .exit) ≡ movementLeft (now (moves .entry)) (movementOf (pairAnswer (now (figure .entry)) (length (now (table .entry))) (now (movement .entry)) (length (now (moves .entry))))) ⌝ }
+    ensures answer { λ r. ⌜ r ≡ reply (now (figure .entry)) (now (table .entry)) (now (movement .entry)) (now (moves .entry)) ⌝ }
+    ensures figure { λ r. ⌜ now (table .exit) ≡ tableLeft (now (figure .entry)) (now (table .entry)) (now (movement .entry)) (now (moves .entry)) ⌝ }
+    ensures movement { λ r. ⌜ now (moves .exit) ≡ movesLeft (now (figure .entry)) (now (table .entry)) (now (movement .entry)) (now (moves .entry)) ⌝ }
 {
     // As long as the longest layout, so that 17 is told by the lent table alone.
     let mut rows = [0i64; 37026];

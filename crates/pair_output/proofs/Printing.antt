@@ -21,7 +21,8 @@ use Rattle.player_listing.specs.Parts.{linesFrom}
 use Rattle.pair_text.specs.Answer.{Loaded, refused, loaded, pairAnswer, figureLeft, movementOf, movementLeft}
 use Rattle.pair_bridge.specs.Playing.{labelAsked}
 use Rattle.pair_bridge.proofs.Lookups.{figure-holds-read}
-use Rattle.pair_load.specs.Answers.{pairReply, noFigure}
+use Rattle.pair_load.specs.Answers.{pairReply}
+use Rattle.table_counts.specs.Counts.{noFigure}
 use Rattle.pair_load.specs.declared.pair.PairAnswer.{PairAnswer}
 use Rattle.pair_play.proofs.Parts.{parts-taken}
 use Rattle.pair_play.proofs.Loaded.{every-label}

@@ -28,7 +28,8 @@ use Rattle.pair_bridge.proofs.Lookups.{sample-asked, corner-asked, shown-asked}
 use Rattle.pair_bridge.proofs.Labels.{label-read}
 use Rattle.pair_load.specs.Answers.{pairReply}
 use Rattle.pair_load.proofs.Standing.{figure-stands, movement-stands}
-use Rattle.pair_play.specs.Playing.{reply, tableLeft, movesLeft}
+use Rattle.pair_load.specs.Answers.{reply}
+use Rattle.pair_text.specs.Answer.{tableLeft, movesLeft}
 use Rattle.pair_play.proofs.Parts.{figure-alone, movement-alone, parts-taken, figure-left, moves-left}
 use Rattle.bac6_text.specs.Rules.{figureCounts}
 use Rattle.tra4_text.specs.Rules.{movementCounts}

@@ -3,35 +3,17 @@ use mathlib.Core.Option.{Option, none}
 use mathlib.Core.Bool.{Bool}
 use mathlib.Core.List.{List}
 use Prim.Native.Nat.{ℕ}
-use lib.IntN.{ℤ}
-use lib.ListN.{length}
 use Rattle.bac6_text.specs.Figure.{Figure}
 use Rattle.tra4_text.specs.Movement.{Movement}
 use Rattle.player.specs.Fractions.{Fraction}
 use Rattle.player.specs.Faces.{CornerOf}
 use Rattle.player.specs.Answers.{numbered, sampled, cornered, showed}
 use Rattle.player_label.specs.Labels.{orEmpty}
-use Rattle.pair_text.specs.Answer.{Loaded, refused, loaded, pairAnswer, figureLeft, movementOf, movementLeft}
-use Rattle.pair_load.specs.Answers.{pairReply}
-use Rattle.pair_load.specs.declared.pair.PairAnswer.{PairAnswer}
+use Rattle.pair_text.specs.Answer.{Loaded, refused, loaded}
 use Rattle.pair_play.specs.declared.PlayedSample.{PlayedSample}
 use Rattle.pair_play.specs.declared.PlayedCorner.{PlayedCorner}
 use Rattle.pair_play.specs.declared.PlayedShown.{PlayedShown}
 use Rattle.pair_play.specs.declared.Refusal.{Refusal}
-
--- what loading two texts answers and leaves, by what the two lent tables held
-module _ (F : List ℕ) (table : List ℤ) (M : List ℕ) (moves : List ℤ) where
-  abbrev pub answer : Loaded (Figure × Movement)
-  answer = pairAnswer F (length table) M (length moves)
-
-  abbrev pub reply : PairAnswer
-  reply = pairReply answer
-
-  abbrev pub tableLeft : List ℤ
-  tableLeft = figureLeft table answer
-
-  abbrev pub movesLeft : List ℤ
-  movesLeft = movementLeft moves (movementOf answer)
 
 -- number, place and file, and the value: the pair's refusal, or what is asked of the two texts, 21 where it does not exist
 unfoldable pub played : {A : Type 0} → Loaded (Figure × Movement) → (Figure → Movement → Option A) → ℕ × ℕ × ℕ × Option A

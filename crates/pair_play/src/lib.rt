@@ -1,10 +1,7 @@
 // Calls that load a pair and then play it: the two texts are lent with two tables, and the answer speaks of the texts alone.
 ghost use mathlib.Core.Path.{_≡_};
-ghost use lib.ListN.{length};
-ghost use Rattle.bac6_text.specs.Figure.{Figure};
-ghost use Rattle.tra4_text.specs.Movement.{Movement};
 ghost use Rattle.player.specs.Answers.{sampled, cornered, showed};
-ghost use Rattle.pair_text.specs.Answer.{pairAnswer, figureLeft, movementOf, movementLeft};
+ghost use Rattle.pair_text.specs.Answer.{loading, tableLeft, movesLeft};
 ghost use Rattle.pair_bridge.specs.Playing.{sampleAsked, cornerAsked, shownAsked, labelAsked};
 ghost use Rattle.pair_play.specs.Playing.{played, sampleTold, cornerTold, shownTold, refusalOf, bytesOf};
 use pair_load::load;
@@ -96,9 +93,9 @@ pub fn played_sample(
     channel: usize,
     at: usize,
 ) -> PlayedSample
-    ensures answer { λ r. ⌜ sampleTold r ≡ played (pairAnswer (now (figure .entry)) (length (now (table .entry))) (now (movement .entry)) (length (now (moves .entry)))) (λ f m. sampleAsked m bone channel at) ⌝ }
-    ensures figure { λ r. ⌜ now (table .exit) ≡ figureLeft (now (table .entry)) (pairAnswer (now (figure .entry)) (length (now (table .entry))) (now (movement .entry)) (length (now (moves .entry)))) ⌝ }
-    ensures movement { λ r. ⌜ now (moves .exit) ≡ movementLeft (now (moves .entry)) (movementOf (pairAnswer (now (figure .entry)) (length (now (table .entry))) (now (movement .entry)) (length (now (moves .entry))))) ⌝ }
+    ensures answer { λ r. ⌜ sampleTold r ≡ played (loading (now (figure .entry)) (now (table .entry)) (now (movement .entry)) (now (moves .entry))) (λ f m. sampleAsked m bone channel at) ⌝ }
+    ensures figure { λ r. ⌜ now (table .exit) ≡ tableLeft (now (figure .entry)) (now (table .entry)) (now (movement .entry)) (now (moves .entry)) ⌝ }
+    ensures movement { λ r. ⌜ now (moves .exit) ≡ movesLeft (now (figure .entry)) (now (table .entry)) (now (movement .entry)) (now (moves .entry)) ⌝ }
 {
     let a = load(figure, movement, table, moves);
     if a.figure_total == 0 {
@@ -127,9 +124,9 @@ pub fn played_corner(
     face: usize,
     k: usize,
 ) -> PlayedCorner
-    ensures answer { λ r. ⌜ cornerTold r ≡ played (pairAnswer (now (figure .entry)) (length (now (table .entry))) (now (movement .entry)) (length (now (moves .entry)))) (λ f m. cornerAsked f face k) ⌝ }
-    ensures figure { λ r. ⌜ now (table .exit) ≡ figureLeft (now (table .entry)) (pairAnswer (now (figure .entry)) (length (now (table .entry))) (now (movement .entry)) (length (now (moves .entry)))) ⌝ }
-    ensures movement { λ r. ⌜ now (moves .exit) ≡ movementLeft (now (moves .entry)) (movementOf (pairAnswer (now (figure .entry)) (length (now (table .entry))) (now (movement .entry)) (length (now (moves .entry))))) ⌝ }
+    ensures answer { λ r. ⌜ cornerTold r ≡ played (loading (now (figure .entry)) (now (table .entry)) (now (movement .entry)) (now (moves .entry))) (λ f m. cornerAsked f face k) ⌝ }
+    ensures figure { λ r. ⌜ now (table .exit) ≡ tableLeft (now (figure .entry)) (now (table .entry)) (now (movement .entry)) (now (moves .entry)) ⌝ }
+    ensures movement { λ r. ⌜ now (moves .exit) ≡ movesLeft (now (figure .entry)) (now (table .entry)) (now (movement .entry)) (now (moves .entry)) ⌝ }
 {
     let a = load(figure, movement, table, moves);
     if a.figure_total == 0 {
@@ -158,9 +155,9 @@ pub fn played_shown(
     face: usize,
     at: usize,
 ) -> PlayedShown
-    ensures answer { λ r. ⌜ shownTold r ≡ played (pairAnswer (now (figure .entry)) (length (now (table .entry))) (now (movement .entry)) (length (now (moves .entry)))) (λ f m. shownAsked f m face at) ⌝ }
-    ensures figure { λ r. ⌜ now (table .exit) ≡ figureLeft (now (table .entry)) (pairAnswer (now (figure .entry)) (length (now (table .entry))) (now (movement .entry)) (length (now (moves .entry)))) ⌝ }
-    ensures movement { λ r. ⌜ now (moves .exit) ≡ movementLeft (now (moves .entry)) (movementOf (pairAnswer (now (figure .entry)) (length (now (table .entry))) (now (movement .entry)) (length (now (moves .entry))))) ⌝ }
+    ensures answer { λ r. ⌜ shownTold r ≡ played (loading (now (figure .entry)) (now (table .entry)) (now (movement .entry)) (now (moves .entry))) (λ f m. shownAsked f m face at) ⌝ }
+    ensures figure { λ r. ⌜ now (table .exit) ≡ tableLeft (now (figure .entry)) (now (table .entry)) (now (movement .entry)) (now (moves .entry)) ⌝ }
+    ensures movement { λ r. ⌜ now (moves .exit) ≡ movesLeft (now (figure .entry)) (now (table .entry)) (now (movement .entry)) (now (moves .entry)) ⌝ }
 {
     let a = load(figure, movement, table, moves);
     if a.figure_total == 0 {
@@ -190,9 +187,9 @@ pub fn played_label<'a>(
     moves: &mut [i64],
     bone: usize,
 ) -> &'a [u8]
-    ensures answer { λ r. ⌜ now r ≡ bytesOf (played (pairAnswer (now (figure .entry)) (length (now (table .entry))) (now (movement .entry)) (length (now (moves .entry)))) (λ f m. labelAsked f m bone)) ⌝ }
-    ensures figure { λ r. ⌜ now (table .exit) ≡ figureLeft (now (table .entry)) (pairAnswer (now (figure .entry)) (length (now (table .entry))) (now (movement .entry)) (length (now (moves .entry)))) ⌝ }
-    ensures movement { λ r. ⌜ now (moves .exit) ≡ movementLeft (now (moves .entry)) (movementOf (pairAnswer (now (figure .entry)) (length (now (table .entry))) (now (movement .entry)) (length (now (moves .entry))))) ⌝ }
+    ensures answer { λ r. ⌜ now r ≡ bytesOf (played (loading (now (figure .entry)) (now (table .entry)) (now (movement .entry)) (now (moves .entry))) (λ f m. labelAsked f m bone)) ⌝ }
+    ensures figure { λ r. ⌜ now (table .exit) ≡ tableLeft (now (figure .entry)) (now (table .entry)) (now (movement .entry)) (now (moves .entry)) ⌝ }
+    ensures movement { λ r. ⌜ now (moves .exit) ≡ movesLeft (now (figure .entry)) (now (table .entry)) (now (movement .entry)) (now (moves .entry)) ⌝ }
 {
     let a = load(figure, movement, table, moves);
     if a.figure_total == 0 {
@@ -211,9 +208,9 @@ pub fn played_label_number(
     moves: &mut [i64],
     bone: usize,
 ) -> Refusal
-    ensures answer { λ r. ⌜ r ≡ refusalOf (played (pairAnswer (now (figure .entry)) (length (now (table .entry))) (now (movement .entry)) (length (now (moves .entry)))) (λ f m. labelAsked f m bone)) ⌝ }
-    ensures figure { λ r. ⌜ now (table .exit) ≡ figureLeft (now (table .entry)) (pairAnswer (now (figure .entry)) (length (now (table .entry))) (now (movement .entry)) (length (now (moves .entry)))) ⌝ }
-    ensures movement { λ r. ⌜ now (moves .exit) ≡ movementLeft (now (moves .entry)) (movementOf (pairAnswer (now (figure .entry)) (length (now (table .entry))) (now (movement .entry)) (length (now (moves .entry))))) ⌝ }
+    ensures answer { λ r. ⌜ r ≡ refusalOf (played (loading (now (figure .entry)) (now (table .entry)) (now (movement .entry)) (now (moves .entry))) (λ f m. labelAsked f m bone)) ⌝ }
+    ensures figure { λ r. ⌜ now (table .exit) ≡ tableLeft (now (figure .entry)) (now (table .entry)) (now (movement .entry)) (now (moves .entry)) ⌝ }
+    ensures movement { λ r. ⌜ now (moves .exit) ≡ movesLeft (now (figure .entry)) (now (table .entry)) (now (movement .entry)) (now (moves .entry)) ⌝ }
 {
     let a = load(figure, movement, table, moves);
     if a.figure_total == 0 {

@@ -52,3 +52,14 @@ movementLeft moves (loaded m) = tra4.layoutOf m ++ drop (length (tra4.layoutOf m
 unfoldable pub movementOf : Loaded (Figure × Movement) → Loaded Movement
 movementOf (refused n p file) = refused n p file
 movementOf (loaded (f, m)) = loaded m
+
+-- by two texts and what the two lent tables held: what loading them answers, and each table at exit
+module _ (F : List ℕ) (table : List ℤ) (M : List ℕ) (moves : List ℤ) where
+  abbrev pub loading : Loaded (Figure × Movement)
+  loading = pairAnswer F (length table) M (length moves)
+
+  abbrev pub tableLeft : List ℤ
+  tableLeft = figureLeft table loading
+
+  abbrev pub movesLeft : List ℤ
+  movesLeft = movementLeft moves (movementOf loading)

@@ -40,7 +40,8 @@ use Rattle.bac6.specs.Answers as bac6
 use Rattle.tra4.specs.Answers as tra4
 use Rattle.pair_load.specs.Answers.{pairReply}
 use Rattle.refusal_laws.specs.Numbers.{figureNumbers, movementNumbers, Refusal, numbersOf, textOf, IsTaken, IsLoaded}
-use Rattle.pair_play.specs.Playing.{reply, tableLeft, movesLeft}
+use Rattle.pair_load.specs.Answers.{reply}
+use Rattle.pair_text.specs.Answer.{tableLeft, movesLeft}
 
 -- ---- 1: "a refusal has its fixed number and place, and lent tables stay untouched": the number is one that 01 gives for the file, never 0
 

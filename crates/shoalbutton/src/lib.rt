@@ -9,10 +9,10 @@ ghost use Rattle.tra4.specs.Answers.{answerOf as movementReply};
 ghost use Rattle.player.specs.Lookups.{sampleIn, shownIn, cornerIn};
 ghost use Rattle.player.specs.Answers.{numbered, sampled, showed, cornered};
 ghost use Rattle.player_label.specs.Labels.{labelIn, orEmpty};
-ghost use Rattle.pair_text.specs.Answer.{pairAnswer, figureLeft, movementOf, movementLeft};
+ghost use Rattle.pair_text.specs.Answer.{movementLeft, loading, tableLeft, movesLeft};
 ghost use Rattle.pair_bridge.specs.Playing.{sampleAsked, cornerAsked, shownAsked, labelAsked};
 ghost use Rattle.pair_play.specs.Playing.{played, sampleTold, cornerTold, shownTold, refusalOf, bytesOf};
-ghost use Rattle.pair_load.specs.Answers.{pairReply, movedAnswer, movedReply};
+ghost use Rattle.pair_load.specs.Answers.{movedReply, reply, moving};
 use bac6::FigureAnswer;
 use pair_load::PairAnswer;
 use pair_play::PlayedCorner;
@@ -46,9 +46,9 @@ pub fn read_movement(text: &[u8], table: &mut [i64]) -> MovementAnswer
 
 // A figure and a movement as a pair: both tables are written, or neither.
 pub fn load(figure: &[u8], movement: &[u8], table: &mut [i64], moves: &mut [i64]) -> PairAnswer
-    ensures answer { λ r. ⌜ r ≡ pairReply (pairAnswer (now (figure .entry)) (length (now (table .entry))) (now (movement .entry)) (length (now (moves .entry)))) ⌝ }
-    ensures figure { λ r. ⌜ now (table .exit) ≡ figureLeft (now (table .entry)) (pairAnswer (now (figure .entry)) (length (now (table .entry))) (now (movement .entry)) (length (now (moves .entry)))) ⌝ }
-    ensures movement { λ r. ⌜ now (moves .exit) ≡ movementLeft (now (moves .entry)) (movementOf (pairAnswer (now (figure .entry)) (length (now (table .entry))) (now (movement .entry)) (length (now (moves .entry))))) ⌝ }
+    ensures answer { λ r. ⌜ r ≡ reply (now (figure .entry)) (now (table .entry)) (now (movement .entry)) (now (moves .entry)) ⌝ }
+    ensures figure { λ r. ⌜ now (table .exit) ≡ tableLeft (now (figure .entry)) (now (table .entry)) (now (movement .entry)) (now (moves .entry)) ⌝ }
+    ensures movement { λ r. ⌜ now (moves .exit) ≡ movesLeft (now (figure .entry)) (now (table .entry)) (now (movement .entry)) (now (moves .entry)) ⌝ }
 {
     pair_load::load(figure, movement, table, moves)
 }
@@ -61,8 +61,8 @@ pub fn load_movement(
     movement: &[u8],
     moves: &mut [i64],
 ) -> MovementAnswer
-    ensures answer { λ r. ⌜ r ≡ movedReply (movedAnswer (now (figure .entry)) n (now (table .entry)) (now (movement .entry)) (length (now (moves .entry)))) ⌝ }
-    ensures content { λ r. ⌜ now (moves .exit) ≡ movementLeft (now (moves .entry)) (movedAnswer (now (figure .entry)) n (now (table .entry)) (now (movement .entry)) (length (now (moves .entry)))) ⌝ }
+    ensures answer { λ r. ⌜ r ≡ movedReply (moving (now (figure .entry)) n (now (table .entry)) (now (movement .entry)) (now (moves .entry))) ⌝ }
+    ensures content { λ r. ⌜ now (moves .exit) ≡ movementLeft (now (moves .entry)) (moving (now (figure .entry)) n (now (table .entry)) (now (movement .entry)) (now (moves .entry))) ⌝ }
 {
     pair_load::load_movement(figure, table, n, movement, moves)
 }
@@ -138,9 +138,9 @@ pub fn played_sample(
     channel: usize,
     at: usize,
 ) -> PlayedSample
-    ensures answer { λ r. ⌜ sampleTold r ≡ played (pairAnswer (now (figure .entry)) (length (now (table .entry))) (now (movement .entry)) (length (now (moves .entry)))) (λ f m. sampleAsked m bone channel at) ⌝ }
-    ensures figure { λ r. ⌜ now (table .exit) ≡ figureLeft (now (table .entry)) (pairAnswer (now (figure .entry)) (length (now (table .entry))) (now (movement .entry)) (length (now (moves .entry)))) ⌝ }
-    ensures movement { λ r. ⌜ now (moves .exit) ≡ movementLeft (now (moves .entry)) (movementOf (pairAnswer (now (figure .entry)) (length (now (table .entry))) (now (movement .entry)) (length (now (moves .entry))))) ⌝ }
+    ensures answer { λ r. ⌜ sampleTold r ≡ played (loading (now (figure .entry)) (now (table .entry)) (now (movement .entry)) (now (moves .entry))) (λ f m. sampleAsked m bone channel at) ⌝ }
+    ensures figure { λ r. ⌜ now (table .exit) ≡ tableLeft (now (figure .entry)) (now (table .entry)) (now (movement .entry)) (now (moves .entry)) ⌝ }
+    ensures movement { λ r. ⌜ now (moves .exit) ≡ movesLeft (now (figure .entry)) (now (table .entry)) (now (movement .entry)) (now (moves .entry)) ⌝ }
 {
     pair_play::played_sample(figure, movement, table, moves, bone, channel, at)
 }
@@ -153,9 +153,9 @@ pub fn played_corner(
     face: usize,
     k: usize,
 ) -> PlayedCorner
-    ensures answer { λ r. ⌜ cornerTold r ≡ played (pairAnswer (now (figure .entry)) (length (now (table .entry))) (now (movement .entry)) (length (now (moves .entry)))) (λ f m. cornerAsked f face k) ⌝ }
-    ensures figure { λ r. ⌜ now (table .exit) ≡ figureLeft (now (table .entry)) (pairAnswer (now (figure .entry)) (length (now (table .entry))) (now (movement .entry)) (length (now (moves .entry)))) ⌝ }
-    ensures movement { λ r. ⌜ now (moves .exit) ≡ movementLeft (now (moves .entry)) (movementOf (pairAnswer (now (figure .entry)) (length (now (table .entry))) (now (movement .entry)) (length (now (moves .entry))))) ⌝ }
+    ensures answer { λ r. ⌜ cornerTold r ≡ played (loading (now (figure .entry)) (now (table .entry)) (now (movement .entry)) (now (moves .entry))) (λ f m. cornerAsked f face k) ⌝ }
+    ensures figure { λ r. ⌜ now (table .exit) ≡ tableLeft (now (figure .entry)) (now (table .entry)) (now (movement .entry)) (now (moves .entry)) ⌝ }
+    ensures movement { λ r. ⌜ now (moves .exit) ≡ movesLeft (now (figure .entry)) (now (table .entry)) (now (movement .entry)) (now (moves .entry)) ⌝ }
 {
     pair_play::played_corner(figure, movement, table, moves, face, k)
 }
@@ -168,9 +168,9 @@ pub fn played_shown(
     face: usize,
     at: usize,
 ) -> PlayedShown
-    ensures answer { λ r. ⌜ shownTold r ≡ played (pairAnswer (now (figure .entry)) (length (now (table .entry))) (now (movement .entry)) (length (now (moves .entry)))) (λ f m. shownAsked f m face at) ⌝ }
-    ensures figure { λ r. ⌜ now (table .exit) ≡ figureLeft (now (table .entry)) (pairAnswer (now (figure .entry)) (length (now (table .entry))) (now (movement .entry)) (length (now (moves .entry)))) ⌝ }
-    ensures movement { λ r. ⌜ now (moves .exit) ≡ movementLeft (now (moves .entry)) (movementOf (pairAnswer (now (figure .entry)) (length (now (table .entry))) (now (movement .entry)) (length (now (moves .entry))))) ⌝ }
+    ensures answer { λ r. ⌜ shownTold r ≡ played (loading (now (figure .entry)) (now (table .entry)) (now (movement .entry)) (now (moves .entry))) (λ f m. shownAsked f m face at) ⌝ }
+    ensures figure { λ r. ⌜ now (table .exit) ≡ tableLeft (now (figure .entry)) (now (table .entry)) (now (movement .entry)) (now (moves .entry)) ⌝ }
+    ensures movement { λ r. ⌜ now (moves .exit) ≡ movesLeft (now (figure .entry)) (now (table .entry)) (now (movement .entry)) (now (moves .entry)) ⌝ }
 {
     pair_play::played_shown(figure, movement, table, moves, face, at)
 }
@@ -183,9 +183,9 @@ pub fn played_label<'a>(
     moves: &mut [i64],
     bone: usize,
 ) -> &'a [u8]
-    ensures answer { λ r. ⌜ now r ≡ bytesOf (played (pairAnswer (now (figure .entry)) (length (now (table .entry))) (now (movement .entry)) (length (now (moves .entry)))) (λ f m. labelAsked f m bone)) ⌝ }
-    ensures figure { λ r. ⌜ now (table .exit) ≡ figureLeft (now (table .entry)) (pairAnswer (now (figure .entry)) (length (now (table .entry))) (now (movement .entry)) (length (now (moves .entry)))) ⌝ }
-    ensures movement { λ r. ⌜ now (moves .exit) ≡ movementLeft (now (moves .entry)) (movementOf (pairAnswer (now (figure .entry)) (length (now (table .entry))) (now (movement .entry)) (length (now (moves .entry))))) ⌝ }
+    ensures answer { λ r. ⌜ now r ≡ bytesOf (played (loading (now (figure .entry)) (now (table .entry)) (now (movement .entry)) (now (moves .entry))) (λ f m. labelAsked f m bone)) ⌝ }
+    ensures figure { λ r. ⌜ now (table .exit) ≡ tableLeft (now (figure .entry)) (now (table .entry)) (now (movement .entry)) (now (moves .entry)) ⌝ }
+    ensures movement { λ r. ⌜ now (moves .exit) ≡ movesLeft (now (figure .entry)) (now (table .entry)) (now (movement .entry)) (now (moves .entry)) ⌝ }
 {
     pair_play::played_label(figure, movement, table, moves, bone)
 }
@@ -198,9 +198,9 @@ pub fn played_label_number(
     moves: &mut [i64],
     bone: usize,
 ) -> Refusal
-    ensures answer { λ r. ⌜ r ≡ refusalOf (played (pairAnswer (now (figure .entry)) (length (now (table .entry))) (now (movement .entry)) (length (now (moves .entry)))) (λ f m. labelAsked f m bone)) ⌝ }
-    ensures figure { λ r. ⌜ now (table .exit) ≡ figureLeft (now (table .entry)) (pairAnswer (now (figure .entry)) (length (now (table .entry))) (now (movement .entry)) (length (now (moves .entry)))) ⌝ }
-    ensures movement { λ r. ⌜ now (moves .exit) ≡ movementLeft (now (moves .entry)) (movementOf (pairAnswer (now (figure .entry)) (length (now (table .entry))) (now (movement .entry)) (length (now (moves .entry))))) ⌝ }
+    ensures answer { λ r. ⌜ r ≡ refusalOf (played (loading (now (figure .entry)) (now (table .entry)) (now (movement .entry)) (now (moves .entry))) (λ f m. labelAsked f m bone)) ⌝ }
+    ensures figure { λ r. ⌜ now (table .exit) ≡ tableLeft (now (figure .entry)) (now (table .entry)) (now (movement .entry)) (now (moves .entry)) ⌝ }
+    ensures movement { λ r. ⌜ now (moves .exit) ≡ movesLeft (now (figure .entry)) (now (table .entry)) (now (movement .entry)) (now (moves .entry)) ⌝ }
 {
     pair_play::played_label_number(figure, movement, table, moves, bone)
 }
