@@ -8,15 +8,9 @@ use lib.IntN.{ℤ, pos}
 use lib.ListN.{getD}
 use Rattle.text_numbers.specs.Numbers.{INT, FLOAT}
 use Rattle.parse_cursor.specs.Readers.{Reader, Name, absent, _>>=_, _>>_, pure, open-bracket, close-bracket, opened, closed, number, numbers, string, oneOf, optional, trailing, many, many⁺, row, head, text-end}
+unfoldable pub use Rattle.parse_cursor.specs.Readers.{word, truth}
 use Rattle.parse_cursor.specs.Fields.{Kind, kind, fields}
 use Rattle.bac6_text.specs.Figure.{Bone, Face, Group, Figure}
-
--- one of some words, by its row
-unfoldable pub word : List String → Reader ℤ
-word ks = oneOf ks >>= λ n. pure (pos n)
-
-unfoldable pub truth : Reader ℤ
-truth = word ("false" ∷ "true" ∷ [])
 
 unfoldable pub blend : Reader ℤ
 blend = word ("normal" ∷ "add" ∷ "sub" ∷ "half" ∷ [])

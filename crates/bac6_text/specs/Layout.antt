@@ -3,14 +3,10 @@ use mathlib.Core.List.{List, [], _∷_, _++_, map}
 use Prim.Native.Nat.{ℕ, zero, suc}
 use lib.ListN.{length}
 use lib.IntN.{ℤ, pos, negsuc}
-use Rattle.parse_cursor.specs.Readers.{Name}
+unfoldable pub use Rattle.parse_cursor.specs.Places.{nameNumbers}
 use Rattle.table_rows.specs.Flat.{flat}
 use Rattle.bac6_text.specs.Figure.{Bone, Face, Group, Figure}
 use Rattle.bac6_text.specs.Rules.{flagsOf, wholeList, parentsIn, ownerOf}
-
--- place and length
-unfoldable pub nameNumbers : Name → List ℤ
-nameNumbers n = pos (n .at) ∷ pos (length (n .bytes)) ∷ []
 
 unfoldable pub boneRow : Bone → ℤ → List ℤ
 boneRow b parent = b .translate ++ b .rotate ++ b .handle ++ (b .child ∷ b .brother ∷ parent ∷ nameNumbers (b .name))

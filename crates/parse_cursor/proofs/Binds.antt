@@ -1,4 +1,4 @@
--- Laws of readers one after another, whatever they read.
+-- Laws of readers one after another, whatever they read, by cases on what the first gives.
 use mathlib.Core.Path.{_≡_, refl, sym, _∙_}
 use mathlib.Core.List.{List}
 use Prim.Native.Nat.{ℕ}

@@ -1,16 +1,16 @@
 -- Laws of chunks in a free order: which kind a token picks, and what its chunk does to the fields.
-use mathlib.Core.Path.{_≡_, refl, ap, sym, _∙_}
-use mathlib.Core.List.{List, [], _∷_, map}
-use mathlib.Core.Bool.{Bool, true, false, true≢false, false≢true}
+use mathlib.Core.Path.{_≡_, refl, ap, sym}
+use mathlib.Core.List.{List, [], _∷_}
+use mathlib.Core.Bool.{Bool, true, false, false≢true}
 use mathlib.Core.Option.{Option, none, some}
 use Prim.Native.Nat.{ℕ, zero, suc, _≤_, _<_}
 use Prim.Native.String.{String}
 use native.Mathlib.Omega.{arith}
 use lib.ListN.{length, getD, set}
 use Rattle.text_bytes.specs.Bytes.{bytes}
-use Rattle.text_tokens.specs.Tokens.{Token, Lexeme, isKeyword}
+use Rattle.text_tokens.specs.Tokens.{Lexeme, isKeyword}
 use Rattle.parse_cursor.specs.Readers.{Got, got, refused, Reader, after, _>>=_, _>>_, pure, stop, tokenOf, rest, isOpening, isClosing, take-if, open-bracket, oneFrom}
-use Rattle.parse_cursor.specs.Fields.{Kind, isSome, complete, kindFrom, fieldsIn, hits, single, insideAt, fieldOf, fieldsOf}
+use Rattle.parse_cursor.specs.Fields.{Kind, complete, kindFrom, fieldsIn, hits, single, insideAt, fieldOf, fieldsOf}
 
 -- a refusal stays one
 pub after-stop : {A B : Type 0} (n : ℕ) (ms : List Lexeme) (f : A → Reader B) → after (stop n ms) f ≡ stop n ms

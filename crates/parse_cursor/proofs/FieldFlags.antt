@@ -1,4 +1,4 @@
--- Fields by their flags: which have been read.
+-- Fields by their flags, which say what has been read: one law a step of a chunk.
 use mathlib.Core.Path.{_≡_, refl, ap}
 use mathlib.Core.List.{List, [], _∷_, map}
 use mathlib.Core.Bool.{Bool, true, false, false≢true, true≢false}

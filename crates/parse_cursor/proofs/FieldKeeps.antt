@@ -1,5 +1,5 @@
 -- Chunks in a free order leave no more tokens than they found, where what stands in each kind does.
-use mathlib.Core.Path.{_≡_, refl, sym, _∙_}
+use mathlib.Core.Path.{_≡_, refl}
 use mathlib.Core.List.{List, [], _∷_}
 use mathlib.Core.Bool.{Bool, true, false}
 use mathlib.Core.Option.{Option, none, some}
@@ -8,7 +8,7 @@ use native.Mathlib.Omega.{arith}
 use lib.ListN.{length}
 use Rattle.text_bytes.specs.Bytes.{bytes}
 use Rattle.text_tokens.specs.Tokens.{Lexeme, isKeyword}
-use Rattle.parse_cursor.specs.Readers.{Got, got, Reader, _>>=_, _>>_, pure, stop, tokenOf, rest, isClosing, open-bracket}
+use Rattle.parse_cursor.specs.Readers.{Got, got, _>>=_, _>>_, pure, stop, tokenOf, rest, isClosing}
 use Rattle.parse_cursor.specs.Fields.{Kind, complete, kindFrom, fieldsIn, fields}
 use Rattle.parse_cursor.proofs.Many.{Keeps, stop-not, rest-short, got-rest, pure-keeps, bind-keeps, then-keeps, takes-keeps, open-takes}
 

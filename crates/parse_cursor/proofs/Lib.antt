@@ -9,6 +9,7 @@ pub mod FieldFlags
 pub mod FieldKeeps
 pub mod FieldSteps
 pub mod Given
+pub mod KindTests
 pub mod Many
 pub mod Names
 pub mod NumberSteps

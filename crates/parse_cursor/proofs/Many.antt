@@ -9,7 +9,7 @@ use lib.IntN.{ℤ}
 use lib.ListN.{length}
 use Rattle.text_bytes.specs.Bytes.{bytes, same}
 use Rattle.text_tokens.specs.Tokens.{Token, opening, closing, ending, quoted, plain, Lexeme, isKeyword}
-use Rattle.text_numbers.specs.Numbers.{Number, value, beyond, wrong, Form, INT}
+use Rattle.text_numbers.specs.Numbers.{Number, value, beyond, wrong, Form, INT, refusalOf}
 use Rattle.parse_cursor.specs.Readers.{Got, got, refused, Reader, after, _>>=_, _>>_, pure, stop, tokenOf, rest, isOpening, isClosing, isEnd, take-if, open-bracket, close-bracket, wordOf, keyword, text-end, openedOf, opened, closed, numberIn, numberAt, number, numbers, versionAt, version, Name, nameAt, string, oneFrom, oneOf, starts, optional, trailing, manyIn, many, many⁺, cells, rowOf, row, headOf, head}
 use Rattle.parse_cursor.specs.Tokens.{tokenNumber}
 use Rattle.parse_cursor.proofs.NumberSteps.{number-of}
@@ -136,8 +136,8 @@ closed-takes t = bind-takes t (λ a. then-keeps (takes-keeps close-takes) (pure-
 number-in-less : (n : Number) (m : Lexeme) (ms : List Lexeme) (z : ℤ) (l : List Lexeme) → numberIn n (m ∷ ms) ≡ got z l → length l < suc (length ms)
 unfolding numberIn rest
 number-in-less (value x) m ms z l e = omega (arith, got-rest x z ms l e)
-number-in-less beyond m ms z l e = absurd (stop-not 6 (m ∷ ms) z l e)
-number-in-less wrong m ms z l e = absurd (stop-not 5 (m ∷ ms) z l e)
+number-in-less beyond m ms z l e = absurd (stop-not (refusalOf beyond) (m ∷ ms) z l e)
+number-in-less wrong m ms z l e = absurd (stop-not (refusalOf wrong) (m ∷ ms) z l e)
 
 number-less : (f : Form) (ms : List Lexeme) (z : ℤ) (l : List Lexeme) → number f ms ≡ got z l → length l < length ms
 unfolding number numberAt tokenOf stop

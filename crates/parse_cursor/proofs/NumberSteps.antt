@@ -6,7 +6,7 @@ use Prim.Native.Nat.{ℕ}
 use native.Mathlib.Omega.{arith}
 use lib.IntN.{ℤ}
 use Rattle.text_tokens.specs.Tokens.{Token, opening, closing, ending, quoted, plain, Lexeme, lexeme, lexAt}
-use Rattle.text_numbers.specs.Numbers.{value, beyond, wrong, Form}
+use Rattle.text_numbers.specs.Numbers.{value, beyond, wrong, Form, refusalOf}
 use Rattle.text_tokens.specs.declared.token.Kind.{Kind}
 use Rattle.text_tokens.specs.declared.token.Kind.the-variants.{Opening, Closing, Quoted, Plain, Ending}
 use Rattle.text_tokens.specs.declared.token.Span.{Span}
@@ -30,7 +30,7 @@ counts f Plain bs z e = refl
 counts f Ending bs z e = absurd (wrong-value z e)
 
 pub number-of : (f : Form) (t : Token) (ms : List Lexeme) → numberAt f t ms ≡ numberIn (tokenNumber f t) ms
-unfolding numberAt numberIn tokenNumber
+unfolding numberAt numberIn refusalOf tokenNumber
 number-of f opening ms = refl
 number-of f closing ms = refl
 number-of f ending ms = refl
@@ -48,9 +48,9 @@ module _ (text : List ℕ) (c : Cursor) (t : Span) (n : Next text (c .at) t) (o 
   number-value z e = reads-on text _ z refl ∙ sym (number-next ∙ rw e (ap (got z) (next-rest text (c .at) t n (counts f (t .kind) _ z e))))
 
   pub number-beyond : (z : ℤ) → tokenNumber f (lexemeOf text t .token) ≡ beyond → reads text (record { refusal = 6; at = t .start }) z ≡ from text c (number f)
-  unfolding numberIn reads
+  unfolding numberIn refusalOf reads
   number-beyond z e = from-off text _ (pure z) (λ h. omega arith) ∙ sym (number-next ∙ rw e (next-stop text (c .at) t n 6))
 
   pub number-wrong : (z : ℤ) → tokenNumber f (lexemeOf text t .token) ≡ wrong → reads text (record { refusal = 5; at = t .start }) z ≡ from text c (number f)
-  unfolding numberIn reads
+  unfolding numberIn refusalOf reads
   number-wrong z e = from-off text _ (pure z) (λ h. omega arith) ∙ sym (number-next ∙ rw e (next-stop text (c .at) t n 5))

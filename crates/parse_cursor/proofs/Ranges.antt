@@ -10,7 +10,7 @@ use lib.Seq.{drop-at}
 use lib.IntN.{ℤ}
 use Rattle.text_bytes.specs.Bytes.{bytes}
 use Rattle.text_tokens.specs.Tokens.{Token, opening, closing, ending, quoted, plain, Lexeme, isKeyword}
-use Rattle.text_numbers.specs.Numbers.{Number, value, beyond, wrong, Form, INT, numberOf, inForm}
+use Rattle.text_numbers.specs.Numbers.{Number, value, beyond, wrong, Form, INT, numberOf, refusalOf, inForm}
 use Rattle.text_numbers.proofs.Numerals.{number-range}
 use Rattle.parse_cursor.specs.Readers.{Reader, tokenOf, numberIn, numberAt, number, numbers, cells, rowOf, row, oneFrom, oneOf, many⁺}
 use Rattle.parse_cursor.proofs.Given.{GivesOn, LeavesOn, Every, pure-gives, stop-gives, next-gives, either-gives, bind-gives, then-gives, gives-as, closed-gives, opened-of-leaves, many-gives}
@@ -36,8 +36,8 @@ module _ {Q : Lexeme → Type 0} where
   value-gives : (f : Form) (bs : List ℕ) (n : Number) → numberOf f bs ≡ n → GivesOn Q (InForm f) (numberIn n)
   unfolding numberIn
   value-gives f bs (value y) o = next-gives y (number-range f bs y o)
-  value-gives f bs beyond o = stop-gives 6
-  value-gives f bs wrong o = stop-gives 5
+  value-gives f bs beyond o = stop-gives (refusalOf beyond)
+  value-gives f bs wrong o = stop-gives (refusalOf wrong)
 
   token-gives : (f : Form) (t : Token) → GivesOn Q (InForm f) (numberAt f t)
   unfolding numberAt

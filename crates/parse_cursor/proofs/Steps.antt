@@ -1,6 +1,6 @@
--- How cursors join: one token, and one reader after another.
+-- How cursors join: what one token makes of a reader, and one reader after another, by whether the cursor has refused.
 use mathlib.Core.Path.{_≡_, refl, ap, sym, _∙_}
-use mathlib.Core.List.{List, []}
+use mathlib.Core.List.{List}
 use mathlib.Core.Bool.{Bool, true, false, false≢true}
 use Prim.Native.Nat.{ℕ}
 use native.Mathlib.Omega.{arith}

@@ -1,6 +1,8 @@
 -- A name as the code holds it: the offset of its first byte, and how many bytes it has.
+use mathlib.Core.List.{List, [], _∷_}
 use mathlib.Core.Bool.{Bool, true, false}
 use Prim.Native.Nat.{ℕ}
+use lib.IntN.{ℤ, pos}
 use lib.ListN.{length}
 use Rattle.text_tokens.specs.Tokens.{Token, opening, closing, ending, quoted, plain}
 use Rattle.parse_cursor.specs.Readers.{Reader, _>>=_, pure, closed, Name, absent, string, optional}
@@ -14,6 +16,10 @@ isQuoted (plain bs) = false
 
 unfoldable pub placeOf : Name → ℕ × ℕ
 placeOf n = (n .at, length (n .bytes))
+
+-- the same, as numbers of a table
+unfoldable pub nameNumbers : Name → List ℤ
+nameNumbers n = pos (n .at) ∷ pos (length (n .bytes)) ∷ []
 
 unfoldable pub stringOf : Reader (ℕ × ℕ)
 stringOf = string >>= λ n. pure (placeOf n)

@@ -4,10 +4,10 @@ use mathlib.Core.Bool.{Bool, true, false, _&&_}
 use Prim.Native.Nat.{ℕ, zero, suc}
 use Prim.Native.String.{String}
 use lib.ListN.{length}
-use lib.IntN.{ℤ}
+use lib.IntN.{ℤ, pos}
 use Rattle.text_bytes.specs.Bytes.{bytes, same}
 use Rattle.text_tokens.specs.Tokens.{Token, opening, closing, ending, quoted, plain, Lexeme, isKeyword}
-use Rattle.text_numbers.specs.Numbers.{Number, value, beyond, wrong, Form, INT, numberOf}
+use Rattle.text_numbers.specs.Numbers.{Number, value, beyond, wrong, Form, INT, numberOf, refusalOf}
 
 -- what was read and the tokens left, or a refusal's number and offset
 pub data Got (A : Type 0) : Type 0 where
@@ -108,8 +108,8 @@ closed r = r >>= λ a. close-bracket >> pure a
 -- a number of a form
 unfoldable pub numberIn : Number → Reader ℤ
 numberIn (value z) ms = got z (rest ms)
-numberIn beyond ms = stop 6 ms
-numberIn wrong ms = stop 5 ms
+numberIn beyond ms = stop (refusalOf beyond) ms
+numberIn wrong ms = stop (refusalOf wrong) ms
 
 unfoldable pub numberAt : Form → Token → Reader ℤ
 numberAt f opening ms = stop 5 ms
@@ -162,6 +162,14 @@ oneFrom n (k ∷ ks) ms = elim (isKeyword (bytes k) (tokenOf ms)) [ true ↦ got
 
 unfoldable pub oneOf : List String → Reader ℕ
 oneOf ks = oneFrom 0 ks
+
+-- the same, as a number of a table
+unfoldable pub word : List String → Reader ℤ
+word ks = oneOf ks >>= λ n. pure (pos n)
+
+-- false is 0 and true is 1
+unfoldable pub truth : Reader ℤ
+truth = word ("false" ∷ "true" ∷ [])
 
 -- a chunk that may be left out, before one that may not
 unfoldable pub starts : List ℕ → List Lexeme → Bool

@@ -1,52 +1,14 @@
 // A cursor goes from reader to reader. Once one refuses, the others pass the refusal on, so that a sequence has no branches.
 ghost use mathlib.Core.Path.{_≡_};
-ghost use mathlib.Core.List.{List};
-ghost use Prim.Native.Nat.{ℕ};
-ghost use Rattle.text_tokens.specs.Answers.{tokenOf};
-ghost use Rattle.parse_cursor.specs.Readers.{isOpening, isClosing, isPlain, open-bracket, close-bracket, wordOf, openedOf};
+ghost use Rattle.parse_cursor.specs.Readers.{open-bracket, close-bracket, wordOf, openedOf};
 ghost use Rattle.parse_cursor.specs.Cursors.{reads, from};
-use text_tokens::Kind;
+use crate::kinds::is_closing;
+use crate::kinds::is_opening;
 
 // Where to read on, with `refusal` 0; or a refusal's number and offset. Where to read on is settled up to blanks and comments before the next token.
 pub struct Cursor {
     pub refusal: u8,
     pub at: usize,
-}
-
-pub fn is_opening(kind: Kind) -> bool
-    ensures { λ r. ⌜ ((bs : List ℕ) → r ≡ isOpening (tokenOf kind bs)) ⌝ }
-{
-    match kind {
-        Kind::Opening => true,
-        Kind::Closing => false,
-        Kind::Quoted => false,
-        Kind::Plain => false,
-        Kind::Ending => false,
-    }
-}
-
-pub fn is_closing(kind: Kind) -> bool
-    ensures { λ r. ⌜ ((bs : List ℕ) → r ≡ isClosing (tokenOf kind bs)) ⌝ }
-{
-    match kind {
-        Kind::Opening => false,
-        Kind::Closing => true,
-        Kind::Quoted => false,
-        Kind::Plain => false,
-        Kind::Ending => false,
-    }
-}
-
-pub fn is_plain(kind: Kind) -> bool
-    ensures { λ r. ⌜ ((bs : List ℕ) → r ≡ isPlain (tokenOf kind bs)) ⌝ }
-{
-    match kind {
-        Kind::Opening => false,
-        Kind::Closing => false,
-        Kind::Quoted => false,
-        Kind::Plain => true,
-        Kind::Ending => false,
-    }
 }
 
 // (

@@ -1,32 +1,17 @@
 // Names: where their bytes begin and how many they are.
 ghost use mathlib.Core.Path.{_≡_};
-ghost use mathlib.Core.List.{List};
-ghost use Prim.Native.Nat.{ℕ};
-ghost use Rattle.text_tokens.specs.Answers.{tokenOf};
 ghost use Rattle.parse_cursor.specs.Cursors.{reads, from};
-ghost use Rattle.parse_cursor.specs.Places.{isQuoted, stringOf, nameOf, optionalName};
+ghost use Rattle.parse_cursor.specs.Places.{stringOf, nameOf, optionalName};
 use crate::optionals::optional;
 use parse_cursor::Cursor;
 use parse_cursor::closing;
-use text_tokens::Kind;
+use parse_cursor::is_quoted;
 
 // A cursor past a name, the offset of its first byte and its length; where the cursor has refused, both are free.
 pub struct Named {
     pub cursor: Cursor,
     pub place: usize,
     pub length: usize,
-}
-
-fn is_quoted(kind: Kind) -> bool
-    ensures { λ r. ⌜ ((bs : List ℕ) → r ≡ isQuoted (tokenOf kind bs)) ⌝ }
-{
-    match kind {
-        Kind::Opening => false,
-        Kind::Closing => false,
-        Kind::Quoted => true,
-        Kind::Plain => false,
-        Kind::Ending => false,
-    }
 }
 
 // A string.

@@ -1,4 +1,4 @@
--- Laws of readers that write over a table.
+-- Laws of readers that write over a table: each turn of a loop is one step of its reader, over the table as it then is.
 use mathlib.Core.Path.{_≡_, refl, ap, sym, _∙_}
 use mathlib.Core.List.{List, _∷_}
 use mathlib.Core.Bool.{Bool, true, false}

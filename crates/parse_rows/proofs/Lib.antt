@@ -1,4 +1,5 @@
 -- Laws that belong to no one function.
+pub mod Before
 pub mod Folds
 pub mod Into
 pub mod RowCounts

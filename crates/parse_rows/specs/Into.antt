@@ -1,4 +1,4 @@
--- Readers of numbers, with a table that they are written over. What a table holds after a refusal is not said.
+-- Readers of numbers, with a table that they are written over. What a table holds from that index on after a refusal is not said.
 use mathlib.Core.List.{List}
 use Prim.Native.Nat.{ℕ}
 use lib.IntN.{ℤ}

@@ -1,5 +1,6 @@
-// Numbers and rows, written to a lent table. What a table holds after a refusal is left open.
+// Numbers and rows, written to a lent table. After a refusal the table's numbers from the index on are free; those before it stay.
 ghost use mathlib.Core.Path.{_≡_};
+ghost use lib.ListN.{take};
 ghost use Rattle.parse_cursor.specs.Cursors.{reads, from};
 ghost use Rattle.parse_numbers.specs.Answers.{formNamed};
 ghost use Rattle.parse_rows.specs.Into.{numbersInto, rowInto, rowTail, rowsInto, someInto};
@@ -13,7 +14,7 @@ use parse_numbers::number;
 use table_rows::advance;
 
 // `width` numbers, to the table from index `at` on; those past its end are dropped.
-// Where the cursor has refused, what the table holds is free.
+// Where the cursor has refused, the table's numbers from that index on are free; those before it always stay.
 pub fn numbers(
     text: &[u8],
     c: Cursor,
@@ -22,7 +23,8 @@ pub fn numbers(
     out: &mut [i64],
     at: usize,
 ) -> Cursor
-    ensures { λ r. ⌜ reads (now (text .entry)) r (now (out .exit)) ≡ from (now (text .entry)) c (numbersInto (formNamed form) width at (now (out .entry))) ⌝ }
+    ensures meaning { λ r. ⌜ reads (now (text .entry)) r (now (out .exit)) ≡ from (now (text .entry)) c (numbersInto (formNamed form) width at (now (out .entry))) ⌝ }
+    ensures before { λ r. ⌜ take at (now (out .exit)) ≡ take at (now (out .entry)) ⌝ }
 {
     let mut d = c;
     let mut i = at;
@@ -54,7 +56,8 @@ fn row_tail(
     out: &mut [i64],
     at: usize,
 ) -> Cursor
-    ensures { λ r. ⌜ reads (now (text .entry)) r (now (out .exit)) ≡ from (now (text .entry)) c (rowTail (now (word .entry)) lead (formNamed form) width at (now (out .entry))) ⌝ }
+    ensures meaning { λ r. ⌜ reads (now (text .entry)) r (now (out .exit)) ≡ from (now (text .entry)) c (rowTail (now (word .entry)) lead (formNamed form) width at (now (out .entry))) ⌝ }
+    ensures before { λ r. ⌜ take at (now (out .exit)) ≡ take at (now (out .entry)) ⌝ }
 {
     let d = numbers(text, keyword(text, c, word), Form::Int, lead, out, at);
     let i = advance(at, lead, out.len());
@@ -62,7 +65,7 @@ fn row_tail(
 }
 
 // ( a keyword, `lead` INT numbers, `width` of a form, and ), the numbers to the table from index `at` on.
-// Where the cursor has refused, what the table holds is free.
+// Where the cursor has refused, the table's numbers from that index on are free; those before it always stay.
 pub fn row(
     text: &[u8],
     c: Cursor,
@@ -73,7 +76,8 @@ pub fn row(
     out: &mut [i64],
     at: usize,
 ) -> Cursor
-    ensures { λ r. ⌜ reads (now (text .entry)) r (now (out .exit)) ≡ from (now (text .entry)) c (rowInto (now (word .entry)) lead (formNamed form) width at (now (out .entry))) ⌝ }
+    ensures meaning { λ r. ⌜ reads (now (text .entry)) r (now (out .exit)) ≡ from (now (text .entry)) c (rowInto (now (word .entry)) lead (formNamed form) width at (now (out .entry))) ⌝ }
+    ensures before { λ r. ⌜ take at (now (out .exit)) ≡ take at (now (out .entry)) ⌝ }
 {
     row_tail(text, opening(text, c), word, lead, form, width, out, at)
 }
@@ -85,7 +89,7 @@ pub struct Counted {
 }
 
 // Rows up to ), one after the other to the table from index `at` on; numbers past its end are dropped.
-// Where the cursor has refused, what the table holds is free.
+// Where the cursor has refused, the table's numbers from that index on are free; those before it always stay.
 pub fn rows(
     text: &[u8],
     c: Cursor,
@@ -96,7 +100,8 @@ pub fn rows(
     out: &mut [i64],
     at: usize,
 ) -> Counted
-    ensures { λ r. ⌜ reads (now (text .entry)) (r .cursor) (r .count, now (out .exit)) ≡ from (now (text .entry)) c (rowsInto (now (word .entry)) lead (formNamed form) width at (now (out .entry))) ⌝ }
+    ensures meaning { λ r. ⌜ reads (now (text .entry)) (r .cursor) (r .count, now (out .exit)) ≡ from (now (text .entry)) c (rowsInto (now (word .entry)) lead (formNamed form) width at (now (out .entry))) ⌝ }
+    ensures before { λ r. ⌜ take at (now (out .exit)) ≡ take at (now (out .entry)) ⌝ }
 {
     let mut d = c;
     let mut i = at;
@@ -131,7 +136,8 @@ pub fn some_rows(
     out: &mut [i64],
     at: usize,
 ) -> Counted
-    ensures { λ r. ⌜ reads (now (text .entry)) (r .cursor) (r .count, now (out .exit)) ≡ from (now (text .entry)) c (someInto (now (word .entry)) lead (formNamed form) width at (now (out .entry))) ⌝ }
+    ensures meaning { λ r. ⌜ reads (now (text .entry)) (r .cursor) (r .count, now (out .exit)) ≡ from (now (text .entry)) c (someInto (now (word .entry)) lead (formNamed form) width at (now (out .entry))) ⌝ }
+    ensures before { λ r. ⌜ take at (now (out .exit)) ≡ take at (now (out .entry)) ⌝ }
 {
     let first = row(text, c, word, lead, form, width, out, at);
     let n = out.len();

@@ -2,24 +2,24 @@
 use mathlib.Core.Path.{_≡_, refl, ap, sym, _∙_}
 use mathlib.Core.List.{List, [], _∷_}
 use mathlib.Core.Option.{Option, none, some}
-use mathlib.Core.Bool.{Bool, true, false, not, _&&_, false≢true}
-use Prim.Native.Nat.{ℕ, zero, suc, _+_, _≤_, _<_}
+use mathlib.Core.Bool.{Bool, true, false, not, false≢true}
+use Prim.Native.Nat.{ℕ, suc, _+_, _≤_, _<_}
 use native.Mathlib.Nat.{add-sub-cancel-left}
 use native.Mathlib.Omega.{arith}
 use borrow.Author.Tests.{not-true, eqb-true, leb-true, leb-false, ltb-true, ltb-false, lt-ltb, le-ltb}
 use Prim.Native.String.{String}
 use lib.Dec.{eqb, leb, ltb}
-use lib.ListN.{length, take, drop, getD, set, length-drop, drop-of-length-le}
-use lib.Seq.{drop-cons, drop-drop}
+use lib.ListN.{length, drop, getD, set, length-drop}
+use lib.Seq.{drop-drop}
 use Rattle.text_bytes.specs.Bytes.{bytes, same, inWord, run, part}
 use lib.IntN.{ℤ, pos}
 use Rattle.text_tokens.specs.Tokens.{Token, opening, closing, ending, quoted, plain, Lexeme, lexeme, lexAt, isKeyword}
 use Rattle.text_tokens.specs.declared.token.Span.{Span}
 use Rattle.text_tokens.specs.Answers.{Next, lexemeOf}
-use Rattle.text_bytes.proofs.Runs.{run-yes, run-no, run-take, run-length}
+use Rattle.text_bytes.proofs.Runs.{run-yes, run-no, run-take}
 use Rattle.text_numbers.proofs.Numerals.{and-true}
 use Rattle.parse_cursor.specs.declared.cursor.Cursor.{Cursor}
-use Rattle.parse_cursor.specs.Readers.{Got, got, refused, Reader, after, _>>=_, pure, stop, tokenOf, rest, isPlain, oneFrom, oneOf}
+use Rattle.parse_cursor.specs.Readers.{Got, got, refused, after, _>>=_, pure, stop, tokenOf, rest, isPlain, oneFrom, oneOf}
 use Rattle.parse_cursor.specs.Cursors.{reads, from}
 use Rattle.parse_cursor.specs.Fields.{Kind, hits, single, kindFrom, insideAt}
 use Rattle.parse_words.specs.Words.{onto, words, indexIn, keysOf, differs, apart, among, wordIn}

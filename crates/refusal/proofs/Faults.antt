@@ -1,4 +1,4 @@
--- A fault is not none.
+-- A fault is not none: two constructors differ.
 use mathlib.Core.Path.{_≡_}
 use Prim.Native.Nat.{ℕ, _-_}
 use native.Mathlib.Omega.{arith}

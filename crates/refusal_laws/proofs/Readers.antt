@@ -9,7 +9,7 @@ use native.Mathlib.Omega.{arith}
 use lib.ListN.{length}
 use Rattle.text_bytes.specs.Bytes.{bytes, same}
 use Rattle.text_bytes.specs.Every.{Every}
-use Rattle.text_numbers.specs.Numbers.{Number, value, beyond, wrong, Form, INT, numberOf}
+use Rattle.text_numbers.specs.Numbers.{Number, value, beyond, wrong, Form, INT, numberOf, refusalOf}
 use Rattle.text_tokens.specs.Tokens.{Token, opening, closing, ending, quoted, plain, Lexeme, isKeyword}
 use Rattle.parse_cursor.specs.Readers.{Got, got, refused, Reader, after, _>>=_, _>>_, pure, stop, tokenOf, rest, take-if, isOpening, isClosing, isEnd, open-bracket, close-bracket, wordOf, text-end, openedOf, opened, closed, numberIn, numberAt, number, numbers, versionAt, version, Name, absent, nameAt, string, oneFrom, oneOf, starts, optional, trailing, manyIn, many, many⁺, cells, rowOf, row, headOf, head}
 use Rattle.parse_cursor.specs.Fields.{Kind, unread, complete, kindFrom, fieldsIn, fields}
@@ -138,7 +138,7 @@ module _ {b : ℕ} where
   -- ---- numbers: 6
 
   value-ends : (n : Number) → Ends b (numberIn n)
-  unfolding numberIn isAmong
+  unfolding numberIn refusalOf isAmong
   value-ends (value z) = next-ends z
   value-ends beyond = stop-ends 6 refl
   value-ends wrong = five

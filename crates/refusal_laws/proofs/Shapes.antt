@@ -114,7 +114,7 @@ module _ (b : ℕ) where
   moved-ends = bind-ends name-ends (λ n. bind-ends (fields-end channelKinds (channel-kinds channelNames)) (λ cs. pure-ends _))
 
   pattern-ends : Ends b pattern
-  unfolding pattern tra4.truth
+  unfolding pattern tra4.truth word
   pattern-ends = then-ends (opened-ends "kgf") (closed-ends (bind-ends (numbers-end INT 2) (λ zs. bind-ends (bind-ends (choice-ends _) (λ n. pure-ends _)) (λ z. pure-ends _))))
 
   pub movement-ends : Ends b movement

@@ -1,4 +1,4 @@
--- Laws of lists that are laid over a table one after the other.
+-- Laws of lists that are laid over a table one after the other: each begins at the index after the one before.
 use mathlib.Core.Path.{_≡_, refl, ap, sym, _∙_}
 use mathlib.Core.List.{List, [], _∷_, _++_}
 use Prim.Native.Nat.{ℕ, zero, suc, _+_, _-_, _≤_, min}

@@ -1,4 +1,4 @@
--- Laws of numbers that are laid over a table from an index on.
+-- Laws of numbers that are laid over a table from an index on, by induction on the index and the table.
 use mathlib.Core.Path.{_≡_, refl, ap, sym, _∙_}
 use mathlib.Core.List.{List, [], _∷_, _++_}
 use mathlib.Core.Bool.{Bool, true, false}

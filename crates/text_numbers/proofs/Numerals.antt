@@ -1,5 +1,5 @@
--- Laws of digits, their values and the words that they make.
-use mathlib.Core.Path.{_≡_, refl, ap, sym, _∙_}
+-- Laws of digits, their values and the words that they make: by induction on the digits, and a word by what stands after them.
+use mathlib.Core.Path.{_≡_, refl, sym, _∙_}
 use mathlib.Core.List.{List, [], _∷_, _++_}
 use mathlib.Core.Bool.{Bool, true, false, cond, _&&_, false≢true}
 use Prim.Native.Nat.{ℕ, zero, suc, _+_, _-_, _*_, _^_, _≤_, _<_}
@@ -10,11 +10,11 @@ use lib.Pow.{pow-add}
 use lib.Dec.{leb, eqb}
 use lib.ListN.{length, take, drop, getD, length-drop, drop-of-length-le}
 use lib.Seq.{drop-cons, drop-drop, take-all}
-use lib.IntN.{ℤ, pos, negsuc, negℤ}
+use lib.IntN.{ℤ}
 use Rattle.text_bytes.specs.Bytes.{between, isDigit, run, part}
 use Rattle.text_bytes.proofs.Runs.{run-yes, run-no, run-take, run-within}
 use Rattle.text_bytes.proofs.Parts.{part-none}
-use Rattle.text_numbers.specs.Numbers.{Number, value, beyond, wrong, Form, INT, FLOAT, decimalFrom, decimal, allDigits, notEmpty, signed, intMost, intOf, millionths, floatOf, numberFrom, afterDigits, unsigned, negative, magnitude, numberOf, inForm}
+use Rattle.text_numbers.specs.Numbers.{Number, value, beyond, wrong, Form, INT, FLOAT, decimalFrom, decimal, allDigits, notEmpty, signed, intMost, intOf, millionths, floatOf, numberFrom, afterDigits, unsigned, negative, unsignedPart, numberOf, inForm}
 
 pub negative-none : (word : List ℕ) → length word ≡ 0 → negative word ≡ false
 unfolding negative
@@ -107,13 +107,13 @@ decimal-below bs k e h = lt-of-lt-of-le (decimal-bound bs e) (pow-le-pow-right (
 
 -- ---- words, by their sign and the digits from `start` to `end`
 
-pub magnitude-yes : (word : List ℕ) → negative word ≡ true → magnitude word ≡ drop 1 word
-unfolding magnitude
-magnitude-yes word e = rw (e, magnitude)
+pub unsigned-yes : (word : List ℕ) → negative word ≡ true → unsignedPart word ≡ drop 1 word
+unfolding unsignedPart
+unsigned-yes word e = rw (e, unsignedPart)
 
-pub magnitude-no : (word : List ℕ) → negative word ≡ false → magnitude word ≡ word
-unfolding magnitude
-magnitude-no word e = rw (e, magnitude)
+pub unsigned-no : (word : List ℕ) → negative word ≡ false → unsignedPart word ≡ word
+unfolding unsignedPart
+unsigned-no word e = rw (e, unsignedPart)
 
 notEmpty-some : (bs : List ℕ) → 0 < length bs → notEmpty bs ≡ true
 unfolding notEmpty
@@ -125,13 +125,13 @@ unfolding notEmpty
 notEmpty-none [] h = refl
 notEmpty-none (b ∷ bs) h = absurd (omega arith)
 
-module _ (word : List ℕ) (start end : ℕ) (d : drop start word ≡ magnitude word) (e : end ≡ start + length (run isDigit (drop start word))) where
+module _ (word : List ℕ) (start end : ℕ) (d : drop start word ≡ unsignedPart word) (e : end ≡ start + length (run isDigit (drop start word))) where
   -- the digits, and what stands after them
-  lead-digits : part word start end ≡ run isDigit (magnitude word)
+  lead-digits : part word start end ≡ run isDigit (unsignedPart word)
   unfolding part
   lead-digits = rw (e, add-sub-cancel-left, ← d) (run-take isDigit (drop start word))
 
-  lead-after : afterDigits (magnitude word) ≡ drop end word
+  lead-after : afterDigits (unsignedPart word) ≡ drop end word
   unfolding afterDigits
   lead-after = rw (← d, drop-drop (length (run isDigit (drop start word))) start word, e)
 
@@ -142,15 +142,15 @@ module _ (word : List ℕ) (start end : ℕ) (d : drop start word ≡ magnitude 
   lead-within h = rw e (run-within isDigit word start h)
 
   pub lead-all : allDigits (part word start end) ≡ true
-  lead-all = rw lead-digits (digits-run (magnitude word))
+  lead-all = rw lead-digits (digits-run (unsignedPart word))
 
   pub lead-none : (f : Form) → end ≡ start → numberOf f word ≡ wrong
   unfolding numberOf unsigned
-  lead-none f n = rw (notEmpty-none (run isDigit (magnitude word)) (rw (← d) (omega arith)), unsigned)
+  lead-none f n = rw (notEmpty-none (run isDigit (unsignedPart word)) (rw (← d) (omega arith)), unsigned)
 
   lead-some : (f : Form) → start < end → numberOf f word ≡ numberFrom f (negative word) (part word start end) (drop end word)
   unfolding numberOf unsigned
-  lead-some f n = rw (notEmpty-some (run isDigit (magnitude word)) (rw (← d) (omega arith)), unsigned, lead-digits, lead-after)
+  lead-some f n = rw (notEmpty-some (run isDigit (unsignedPart word)) (rw (← d) (omega arith)), unsigned, lead-digits, lead-after)
 
   pub lead-int-more : start < end → end < length word → numberOf INT word ≡ wrong
   unfolding numberFrom
@@ -294,8 +294,8 @@ from-range FLOAT s ds (b ∷ rest) z d e = go (eqb b 46 && notEmpty rest && allD
 -- a word's value lies in its form's range
 pub number-range : (f : Form) (word : List ℕ) (z : ℤ) → numberOf f word ≡ value z → inForm f z ≡ true
 unfolding numberOf unsigned
-number-range f word z e = go (notEmpty (run isDigit (magnitude word))) refl
+number-range f word z e = go (notEmpty (run isDigit (unsignedPart word))) refl
   where
-    go : (t : Bool) → notEmpty (run isDigit (magnitude word)) ≡ t → inForm f z ≡ true
-    go true c = from-range f (negative word) _ _ z (digits-run (magnitude word)) (rw (c, unsigned) at e)
+    go : (t : Bool) → notEmpty (run isDigit (unsignedPart word)) ≡ t → inForm f z ≡ true
+    go true c = from-range f (negative word) _ _ z (digits-run (unsignedPart word)) (rw (c, unsigned) at e)
     go false c = absurd (wrong-no z (rw (c, unsigned) at e))

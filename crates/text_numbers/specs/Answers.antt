@@ -7,7 +7,7 @@ use Rattle.text_numbers.specs.declared.number.Parsed.{Parsed}
 use Rattle.text_numbers.specs.declared.number.Parsed.the-variants.{Value, Beyond, Malformed}
 use Rattle.text_numbers.specs.declared.number.Leading.{Leading}
 use Rattle.text_bytes.specs.Bytes.{isDigit, run}
-use Rattle.text_numbers.specs.Numbers.{Number, value, beyond, wrong, negative, magnitude}
+use Rattle.text_numbers.specs.Numbers.{Number, value, beyond, wrong, negative, unsignedPart}
 
 unfoldable pub numberNamed : Parsed → Number
 numberNamed (Value z) = value z
@@ -17,6 +17,6 @@ numberNamed Malformed = wrong
 -- a word's sign, and where the digits after it begin and end
 pub record Leads (word : List ℕ) (r : Leading) : Type 0 where
   pub sign : r .negative ≡ negative word
-  pub digits : drop (r .start) word ≡ magnitude word
+  pub digits : drop (r .start) word ≡ unsignedPart word
   pub within : r .start ≤ length word
   pub ends : r .end ≡ r .start + length (run isDigit (drop (r .start) word))

@@ -75,12 +75,12 @@ negative [] = false
 negative (b ∷ bs) = eqb b 45
 
 -- a word without its minus sign
-unfoldable pub magnitude : List ℕ → List ℕ
-magnitude word = elim (negative word) [ true ↦ drop 1 word | false ↦ word ]
+unfoldable pub unsignedPart : List ℕ → List ℕ
+unsignedPart word = elim (negative word) [ true ↦ drop 1 word | false ↦ word ]
 
 -- a word as a number of a form
 unfoldable pub numberOf : Form → List ℕ → Number
-numberOf f word = unsigned f (negative word) (magnitude word)
+numberOf f word = unsigned f (negative word) (unsignedPart word)
 
 -- a value that INT or FLOAT can have
 unfoldable pub inForm : Form → ℤ → Bool

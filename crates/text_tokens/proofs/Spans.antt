@@ -1,13 +1,13 @@
 -- A span is the next token, from what the tokens at its start are.
 use mathlib.Core.Path.{_≡_, refl, ap, sym, _∙_}
-use mathlib.Core.List.{List, [], _∷_}
+use mathlib.Core.List.{List, _∷_}
 use mathlib.Core.Bool.{Bool, true, false, true≢false}
-use Prim.Native.Nat.{ℕ, zero, suc, _+_, _-_, _≤_, _<_, min}
+use Prim.Native.Nat.{ℕ, suc, _+_, _-_, _≤_, _<_, min}
 use native.Mathlib.Nat.{le-of-lt, min-eq-left, min-eq-right, add-sub-cancel-left}
 use native.Mathlib.Omega.{arith}
 use lib.Dec.{leb}
 use borrow.Author.Tests.{leb-true, leb-false}
-use lib.ListN.{length, take, drop, getD}
+use lib.ListN.{length, drop, getD}
 use lib.Seq.{drop-cons}
 use Rattle.text_bytes.specs.Bytes.{opener, closer, quote, letter, classOf, isLetter, inString, run, part}
 use Rattle.text_tokens.specs.Tokens.{Token, opening, closing, ending, quoted, plain, Lexeme, lexeme, lexAt, first, bytesOf, widthOf}
@@ -16,7 +16,6 @@ use Rattle.text_tokens.specs.declared.token.Kind.the-variants.{Ending}
 use Rattle.text_tokens.specs.declared.token.Span.{Span}
 use Rattle.text_tokens.specs.Answers.{Next, spanOf, spanAt, kindOf, tokenOf, isEnding, heldBytes, lexemeOf, after}
 use Rattle.text_bytes.proofs.Runs.{run-take, run-within}
-use Rattle.text_bytes.proofs.Parts.{part-none}
 use Rattle.text_tokens.proofs.Lexing.{lexAt-end, lexAt-opening, lexAt-closing, lexAt-quoted, lexAt-plain}
 
 -- past the text's end an offset is as good as the end

@@ -1,31 +1,30 @@
 -- What ranges and keys say where every channel has been read: the channels' keys, by induction over the ranges in pairs.
 use mathlib.Core.Path.{_≡_, refl, ap, ap₂, sym, _∙_}
-use mathlib.Core.List.{List, [], _∷_, _++_, map, append-assoc}
+use mathlib.Core.List.{List, [], _∷_, _++_, map}
 use mathlib.Core.Bool.{Bool, true, false}
 use mathlib.Core.Option.{none, some}
 use Prim.Native.Nat.{ℕ, suc, _+_, _*_, _≤_, _<_}
 use native.Mathlib.Omega.{arith}
-use lib.IntN.{ℤ, pos}
+use lib.IntN.{ℤ, pos, natAbs}
 use lib.ListN.{length, getD, length-append}
 use Rattle.table_rows.specs.Flat.{flat}
 use Rattle.parse_rows.proofs.Widths.{flat-append}
-use Rattle.tra4_text.specs.Movement.{Key, Channel}
-use Rattle.tra4_text.specs.Grammar.{keysIn}
+use Rattle.tra4_text.specs.Movement.{Channel}
 use Rattle.tra4_text.specs.Rules.{allKeys}
 use Rattle.tra4_text.specs.Layout.{keyRanges}
-use Rattle.tra4_bones.specs.Held.{keysRead, Stored, Held}
+use Rattle.tra4_bones.specs.Held.{Stored, Held}
 use Rattle.tra4_bones.proofs.Whole.{keys-read-some}
-use Rattle.tra4_bones.specs.Laying.{magnitude, rangeRows, gathered, rangesTotal, renumbered, RangeIn, Within}
-use Rattle.tra4_bones.proofs.Ranges.{magnitude-is}
+use Rattle.tra4_bones.specs.Laying.{rangeRows, gathered, rangesTotal, renumbered, RangeIn, Within}
+use Rattle.tra4_bones.proofs.Ranges.{natural-is}
 
 -- ---- one channel
 
 module _ (keys : List ℤ) (n : ℕ) (f g : ℤ) (c : Channel) (s : Stored keys n f g c) where
-  stored-first : magnitude f ≡ s .row
-  stored-first = magnitude-is f (s .row) (s .first-is)
+  stored-first : natAbs f ≡ s .row
+  stored-first = natural-is f (s .row) (s .first-is)
 
-  stored-count : magnitude g ≡ length c
-  stored-count = magnitude-is g (length c) (s .count-is)
+  stored-count : natAbs g ≡ length c
+  stored-count = natural-is g (length c) (s .count-is)
 
   stored-range : (m : ℕ) → n ≤ m → RangeIn m f g
   stored-range m l =

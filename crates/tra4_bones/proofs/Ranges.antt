@@ -13,39 +13,38 @@ use mir.Val.{Fits, SFits, toZ, ofZ}
 use mir.Facts.{toZ-ofZ, fits-natAbs}
 use Rattle.table_rows.specs.Overlay.{overlayAt}
 use Rattle.table_rows.proofs.Tables.{overlayAt-none, overlayAt-append, overlayAt-length}
-use Rattle.tra4_bones.specs.Laying.{magnitude, rangeRows, gathered, rangesTotal, renumbered, RangeIn, Within}
+use Rattle.tra4_bones.specs.Laying.{rangeRows, gathered, rangesTotal, renumbered, RangeIn, Within}
 
--- the magnitude of a natural number is what a cast gives
-pub magnitude-is : (z : ℤ) (n : ℕ) → z ≡ pos n → magnitude z ≡ n
-unfolding magnitude
-magnitude-is z n e = rw e refl
+-- a natural number is what a cast gives
+pub natural-is : (z : ℤ) (n : ℕ) → z ≡ pos n → natAbs z ≡ n
+natural-is z n e = rw e refl
 
-pub cast-is : (z : ℤ) → SFits w64 z → z ≡ pos (magnitude z) → natAbs (toZ w64 (ofZ w64 z)) ≡ magnitude z
+pub cast-is : (z : ℤ) → SFits w64 z → z ≡ pos (natAbs z) → natAbs (toZ w64 (ofZ w64 z)) ≡ natAbs z
 cast-is z f e = ap natAbs (toZ-ofZ f ∙ e)
 
-pub cast-fits : (z : ℤ) → SFits w64 z → z ≡ pos (magnitude z) → T (nonNeg (toZ w64 (ofZ w64 z))) × Fits w64 (natAbs (toZ w64 (ofZ w64 z)))
+pub cast-fits : (z : ℤ) → SFits w64 z → z ≡ pos (natAbs z) → T (nonNeg (toZ w64 (ofZ w64 z))) × Fits w64 (natAbs (toZ w64 (ofZ w64 z)))
 cast-fits z f e = rw (toZ-ofZ f) (rw e tt, fits-natAbs tt f)
 
 -- a range's rows are as many numbers as it says
-pub rows-length : (n : ℕ) (f c : ℤ) (keys : List ℤ) → RangeIn n f c → length keys ≡ n * 2 → length (rangeRows f c keys) ≡ magnitude c * 2
+pub rows-length : (n : ℕ) (f c : ℤ) (keys : List ℤ) → RangeIn n f c → length keys ≡ n * 2 → length (rangeRows f c keys) ≡ natAbs c * 2
 unfolding rangeRows
 rows-length n f c keys h l = let b = h .below in rw (length-take, length-drop, l) (omega arith)
 
 -- they are the part of the table between two indices
-pub part-is : (f c : ℤ) (keys : List ℤ) (a e : ℕ) → a ≡ magnitude f → e ≡ magnitude c → take (a * 2 + e * 2 - a * 2) (drop (a * 2) keys) ≡ rangeRows f c keys
+pub part-is : (f c : ℤ) (keys : List ℤ) (a e : ℕ) → a ≡ natAbs f → e ≡ natAbs c → take (a * 2 + e * 2 - a * 2) (drop (a * 2) keys) ≡ rangeRows f c keys
 unfolding rangeRows
-part-is f c keys a e p q = let d : magnitude f * 2 + magnitude c * 2 - magnitude f * 2 ≡ magnitude c * 2 = omega arith in rw (p, q, d) refl
+part-is f c keys a e p q = let d : natAbs f * 2 + natAbs c * 2 - natAbs f * 2 ≡ natAbs c * 2 = omega arith in rw (p, q, d) refl
 
 -- two numbers in front
 gathered-two : (f c : ℤ) (rs keys : List ℤ) → gathered (f ∷ c ∷ rs) keys ≡ rangeRows f c keys ++ gathered rs keys
 unfolding gathered
 gathered-two f c rs keys = refl
 
-total-two : (f c : ℤ) (rs : List ℤ) → rangesTotal (f ∷ c ∷ rs) ≡ magnitude c + rangesTotal rs
+total-two : (f c : ℤ) (rs : List ℤ) → rangesTotal (f ∷ c ∷ rs) ≡ natAbs c + rangesTotal rs
 unfolding rangesTotal
 total-two f c rs = refl
 
-renumbered-two : (row : ℕ) (f c : ℤ) (rs : List ℤ) → renumbered row (f ∷ c ∷ rs) ≡ pos row ∷ c ∷ renumbered (row + magnitude c) rs
+renumbered-two : (row : ℕ) (f c : ℤ) (rs : List ℤ) → renumbered row (f ∷ c ∷ rs) ≡ pos row ∷ c ∷ renumbered (row + natAbs c) rs
 unfolding renumbered
 renumbered-two row f c rs = refl
 
@@ -114,16 +113,16 @@ module _ (ranges₀ keys table₀ : List ℤ) (row i : ℕ) (ranges table : List
         ∙ ap₂ (λ (l : List ℤ) (x : ℤ). l ++ (x ∷ [])) (ap (λ (n : ℕ). take n (set ranges i z)) one ∙ take-suc-set ranges i z (omega arith)) (getD-set-other ranges i (i + 1) z (pos 0) (λ e. omega arith))
         ∙ append-assoc (take i ranges) (z ∷ []) (countAt ranges i ∷ [])
 
-    next-is : length keys ≡ 8192 → Left ranges₀ keys table₀ row (i + 2) (set ranges i (pos next)) (overlayAt (next * 2) (rangeRows (firstAt ranges i) (countAt ranges i) keys) table) (next + magnitude (countAt ranges i))
+    next-is : length keys ≡ 8192 → Left ranges₀ keys table₀ row (i + 2) (set ranges i (pos next)) (overlayAt (next * 2) (rangeRows (firstAt ranges i) (countAt ranges i) keys) table) (next + natAbs (countAt ranges i))
     next-is k =
         let f = firstAt ranges i in
         let c = countAt ranges i in
         let rest = drop (i + 2) ranges in
         let s : drop i ranges ≡ f ∷ c ∷ rest = split-two ranges i b in
-        let t : rangesTotal (drop i ranges) ≡ magnitude c + rangesTotal rest = ap rangesTotal s ∙ total-two f c rest in
+        let t : rangesTotal (drop i ranges) ≡ natAbs c + rangesTotal rest = ap rangesTotal s ∙ total-two f c rest in
         let r = h .room in
         let n = rows-length 4096 f c keys range-here k in
-        let e : (next + magnitude c) * 2 ≡ next * 2 + length (rangeRows f c keys) = rw n (omega arith) in
+        let e : (next + natAbs c) * 2 ≡ next * 2 + length (rangeRows f c keys) = rw n (omega arith) in
         record {
           width = length-set ranges i (pos next) ∙ h .width;
           span = overlayAt-length (next * 2) (rangeRows f c keys) table ∙ h .span;
@@ -131,7 +130,7 @@ module _ (ranges₀ keys table₀ : List ℤ) (row i : ℕ) (ranges table : List
           room = rw (set-rest (pos next)) (omega arith);
           numbers =
               rw (set-front (pos next), set-rest (pos next))
-              (append-assoc (take i ranges) (pos next ∷ c ∷ []) (renumbered (next + magnitude c) rest)
+              (append-assoc (take i ranges) (pos next ∷ c ∷ []) (renumbered (next + natAbs c) rest)
               ∙ ap (λ (l : List ℤ). take i ranges ++ l) (sym (ap (renumbered next) s ∙ renumbered-two next f c rest))
               ∙ h .numbers);
           content =
@@ -141,5 +140,5 @@ module _ (ranges₀ keys table₀ : List ℤ) (row i : ℕ) (ranges table : List
               ∙ h .content);
         }
 
-    pub left-next : length keys ≡ 8192 → (i′ : ℕ) (ranges′ table′ : List ℤ) (next′ : ℕ) → i′ ≡ i + 2 → ranges′ ≡ set ranges i (pos next) → table′ ≡ overlayAt (next * 2) (rangeRows (firstAt ranges i) (countAt ranges i) keys) table → next′ ≡ next + magnitude (countAt ranges i) → Left ranges₀ keys table₀ row i′ ranges′ table′ next′
+    pub left-next : length keys ≡ 8192 → (i′ : ℕ) (ranges′ table′ : List ℤ) (next′ : ℕ) → i′ ≡ i + 2 → ranges′ ≡ set ranges i (pos next) → table′ ≡ overlayAt (next * 2) (rangeRows (firstAt ranges i) (countAt ranges i) keys) table → next′ ≡ next + natAbs (countAt ranges i) → Left ranges₀ keys table₀ row i′ ranges′ table′ next′
     left-next k i′ ranges′ table′ next′ e r t n = rw (e, r, t, n) (next-is k)

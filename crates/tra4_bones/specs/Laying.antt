@@ -2,17 +2,12 @@
 use mathlib.Core.Path.{_≡_}
 use mathlib.Core.List.{List, [], _∷_, _++_}
 use Prim.Native.Nat.{ℕ, _+_, _*_, _≤_}
-use lib.IntN.{ℤ, pos, negsuc}
-use lib.ListN.{length, take, drop}
-
--- a range's numbers, first row and count; none is negative
-unfoldable pub magnitude : ℤ → ℕ
-magnitude (pos n) = n
-magnitude (negsuc n) = 0
+use lib.IntN.{ℤ, pos, natAbs}
+use lib.ListN.{take, drop}
 
 -- the rows of two numbers that a range names
 unfoldable pub rangeRows : ℤ → ℤ → List ℤ → List ℤ
-rangeRows f c keys = take (magnitude c * 2) (drop (magnitude f * 2) keys)
+rangeRows f c keys = take (natAbs c * 2) (drop (natAbs f * 2) keys)
 
 -- those that some ranges name, range by range
 unfoldable pub gathered : List ℤ → List ℤ → List ℤ
@@ -24,19 +19,19 @@ gathered (f ∷ c ∷ ranges) keys = rangeRows f c keys ++ gathered ranges keys
 unfoldable pub rangesTotal : List ℤ → ℕ
 rangesTotal [] = 0
 rangesTotal (f ∷ []) = 0
-rangesTotal (f ∷ c ∷ ranges) = magnitude c + rangesTotal ranges
+rangesTotal (f ∷ c ∷ ranges) = natAbs c + rangesTotal ranges
 
 -- the ranges of those rows where they are laid one after the other from a row on
 unfoldable pub renumbered : ℕ → List ℤ → List ℤ
 renumbered row [] = []
 renumbered row (f ∷ []) = f ∷ []
-renumbered row (f ∷ c ∷ ranges) = pos row ∷ c ∷ renumbered (row + magnitude c) ranges
+renumbered row (f ∷ c ∷ ranges) = pos row ∷ c ∷ renumbered (row + natAbs c) ranges
 
 -- a range lies within the first n rows
 pub record RangeIn (n : ℕ) (f c : ℤ) : Type 0 where
-  pub first-is : f ≡ pos (magnitude f)
-  pub count-is : c ≡ pos (magnitude c)
-  pub below : magnitude f + magnitude c ≤ n
+  pub first-is : f ≡ pos (natAbs f)
+  pub count-is : c ≡ pos (natAbs c)
+  pub below : natAbs f + natAbs c ≤ n
 
 -- every range does
 unfoldable pub Within : ℕ → List ℤ → Type 0

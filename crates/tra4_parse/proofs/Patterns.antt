@@ -28,7 +28,7 @@ use Rattle.parse_cursor.proofs.Given.{Every, free, many-gives, trailing-gives}
 use Rattle.parse_cursor.proofs.Ranges.{numbers-give}
 use Rattle.parse_cursor.proofs.Many.{Keeps, Takes, takes-keeps, pure-keeps, bind-keeps, then-keeps, then-takes, word-takes, opened-takes, closed-keeps, numbers-keeps, one-of-takes}
 use Rattle.tra4_text.specs.Movement.{Pattern}
-use Rattle.tra4_text.specs.Grammar.{truth, pattern}
+use Rattle.tra4_text.specs.Grammar.{word, truth, pattern}
 use Rattle.tra4_text.proofs.Whole.{pattern-wide}
 use Rattle.tra4_parse.specs.Patterns.{patternTail, patternInto, patternsInto}
 
@@ -39,7 +39,7 @@ unfolding pattern patternTail opened openedOf
 pattern-opens ms = then-assoc open-bracket (wordOf (bytes "kgf")) _ ms
 
 truth-keeps : Keeps truth
-unfolding truth
+unfolding truth word
 truth-keeps = bind-keeps (takes-keeps (one-of-takes ("false" ∷ "true" ∷ []))) (λ n. pure-keeps (pos n))
 
 inside-keeps : Keeps (closed (numbers INT 2 >>= λ zs. truth >>= λ z. pure (zs ++ (z ∷ []))))
@@ -56,7 +56,7 @@ pattern-takes = then-takes (opened-takes "kgf") inside-keeps
 -- ---- a line, number by number
 
 truth-word : (ms : List Lexeme) → truth ms ≡ wordIn (bytes "false true") 2 ms
-unfolding truth words onto inWord bytes wordList
+unfolding truth word words onto inWord bytes wordList
 truth-word ms = one-word ("false" ∷ "true" ∷ []) (bytes "false true") ms refl
 
 module _ (at : ℕ) (out : List ℤ) where

@@ -7,14 +7,14 @@ use lib.ListN.{length, replicate}
 use lib.IntN.{ℤ, pos, negsuc}
 use Rattle.text_bytes.specs.Bytes.{bytes, isBlank, between, isLetter, classOf, inLine, inString, isDigit, isContent, run, same}
 use Rattle.text_tokens.specs.Tokens.{lexeme, tokens, lex, isKeyword}
-use Rattle.text_numbers.specs.Numbers.{decimalFrom, decimal, signed, notEmpty, allDigits, intMost, intOf, millionths, floatOf, numberFrom, afterDigits, unsigned, negative, magnitude, numberOf}
+use Rattle.text_numbers.specs.Numbers.{decimalFrom, decimal, signed, notEmpty, allDigits, intMost, intOf, millionths, floatOf, numberFrom, afterDigits, unsigned, negative, unsignedPart, numberOf, refusalOf}
 use Rattle.text_check.specs.Faults.{faultIn, markOf, blankOrEnd, begins, marked, textFault}
 use Rattle.refusal.specs.Faults.{clear, fault}
 use Rattle.parse_cursor.specs.Readers.{rowOf, cells, after, _>>=_, _>>_, pure, stop, tokenOf, rest, isOpening, isClosing, isEnd, take-if, open-bracket, close-bracket, wordOf, text-end, openedOf, opened, closed, numberIn, numberAt, number, numbers, versionAt, version, absent, nameAt, string, oneFrom, oneOf, starts, optional, trailing, manyIn, many, many⁺, headOf, head}
 use Rattle.parse_cursor.specs.Fields.{kind, isSome, unread, complete, kindFrom, fieldsIn, fields}
 use Rattle.table_rows.specs.Flat.{flat}
 use Rattle.tra4_text.specs.Movement.{Movement, frameOf, groupOf}
-use Rattle.tra4_text.specs.Grammar.{repeatedIn, repeated, repeated⁺, key, channelNames, channel, channelKinds, keysIn, bone, truth, pattern, movement}
+use Rattle.tra4_text.specs.Grammar.{repeatedIn, repeated, repeated⁺, key, channelNames, channel, channelKinds, keysIn, bone, word, truth, pattern, movement}
 use Rattle.tra4_text.specs.Rules.{channelsOf, allKeys, keyRows, countsOf, movementCounts, totalFault, isFrame, isZero, rises, neverFalls, framesFault, keyFine, keysFault, patternFine, patternsFault, movementFault}
 use Rattle.tra4_text.specs.Layout.{nameNumbers, keyRanges, boneRow, boneRows, layoutOf}
 use Rattle.tra4_text.specs.Answer.{movementOutcome, movementAnswer, movementTable}
@@ -92,10 +92,10 @@ cases =
     ∷ []
 
 pub worked : (movementTable walk (replicate 101 (pos 9)) ≡ walked ++ (pos 9 ∷ [])) × (movementAnswer walk 99 ≡ rejected 17 100) × (map (λ c. reply (movementAnswer (front ++ bytes (c .0)) 100)) cases ≡ map (λ c. c .1) cases)
-unfolding rowOf cells bytes isBlank between isLetter classOf inLine inString isDigit isContent run same lexeme tokens lex isKeyword decimalFrom decimal signed notEmpty allDigits intMost intOf millionths floatOf numberFrom afterDigits unsigned negative magnitude numberOf faultIn markOf blankOrEnd begins marked textFault after _>>=_ _>>_ pure stop tokenOf rest isOpening isClosing isEnd take-if open-bracket close-bracket wordOf text-end openedOf opened closed numberIn numberAt number numbers versionAt version absent nameAt string oneFrom oneOf starts optional trailing manyIn many many⁺ headOf head kind isSome unread complete kindFrom fieldsIn fields flat frameOf groupOf repeatedIn repeated repeated⁺ key channelNames channel channelKinds keysIn bone truth pattern movement orElse channelsOf allKeys keyRows countsOf movementCounts movementLists movementMosts tooMany totalFault isFrame isZero rises neverFalls framesFault keyFine keysFault patternFine patternsFault movementFault nameNumbers keyRanges boneRow boneRows layoutOf ruled shaped checked outcome movementOutcome fitted movementAnswer laid movementTable
+unfolding rowOf cells bytes isBlank between isLetter classOf inLine inString isDigit isContent run same lexeme tokens lex isKeyword decimalFrom decimal signed notEmpty allDigits intMost intOf millionths floatOf numberFrom afterDigits unsigned negative unsignedPart numberOf refusalOf faultIn markOf blankOrEnd begins marked textFault after _>>=_ _>>_ pure stop tokenOf rest isOpening isClosing isEnd take-if open-bracket close-bracket wordOf text-end openedOf opened closed numberIn numberAt number numbers versionAt version absent nameAt string oneFrom oneOf starts optional trailing manyIn many many⁺ headOf head kind isSome unread complete kindFrom fieldsIn fields flat frameOf groupOf repeatedIn repeated repeated⁺ key channelNames channel channelKinds keysIn bone word truth pattern movement orElse channelsOf allKeys keyRows countsOf movementCounts movementLists movementMosts tooMany totalFault isFrame isZero rises neverFalls framesFault keyFine keysFault patternFine patternsFault movementFault nameNumbers keyRanges boneRow boneRows layoutOf ruled shaped checked outcome movementOutcome fitted movementAnswer laid movementTable
 worked = (refl, refl, refl)
 
--- ---- the lists' movementMosts, and the total's range
+-- ---- the lists' mosts, and the total's range
 
 pub most-rows : map (λ ns. tooMany 0 ns movementMosts) ((128 ∷ 4096 ∷ 256 ∷ []) ∷ (129 ∷ 4097 ∷ 257 ∷ []) ∷ (128 ∷ 4097 ∷ 257 ∷ []) ∷ (128 ∷ 4096 ∷ 257 ∷ []) ∷ []) ≡ clear ∷ fault 8 0 ∷ fault 8 1 ∷ fault 8 2 ∷ []
 unfolding rowOf cells tooMany movementMosts

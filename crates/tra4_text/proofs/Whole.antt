@@ -21,7 +21,7 @@ use Rattle.parse_cursor.proofs.FieldFits.{AllGive, AllFit, Whole, fields-fit}
 use Rattle.parse_cursor.proofs.Ranges.{InForm, number-gives, numbers-give, row-of-gives, choice-below, some-stand}
 use Rattle.parse_rows.proofs.Widths.{Wide}
 use Rattle.tra4_text.specs.Movement.{Key, Channel, Bone, Pattern, Movement}
-use Rattle.tra4_text.specs.Grammar.{repeatedIn, repeated, repeated⁺, key, channel, channelNames, channelKinds, keysIn, bone, truth, pattern, movement}
+use Rattle.tra4_text.specs.Grammar.{repeatedIn, repeated, repeated⁺, key, channel, channelNames, channelKinds, keysIn, bone, word, truth, pattern, movement}
 use Rattle.tra4_text.specs.Names.{NamedMovement}
 
 -- a key's value is in FLOAT's range
@@ -77,7 +77,7 @@ module _ {Q : Lexeme → Type 0} where
   channel-gives = gives-as (both-give (some-give key-gives) (some-stand (leaves-on key-gives))) (λ c h. record { wide = every-as (λ _ k. k .0) c (h .0); values = every-as (λ _ k. k .1) c (h .0); some-key = h .1 })
 
   truth-gives : GivesOn Q Flag truth
-  unfolding truth
+  unfolding truth word
   truth-gives = bind-gives (choice-below ("false" ∷ "true" ∷ [])) (λ n h. pure-gives {P = Flag} (pos n) (n, refl, h))
 
   pattern-gives : GivesOn Q Line pattern

@@ -1,14 +1,14 @@
 -- The shape of a movement's text (the figure of document 004, with document 01's "Movement shape").
 use mathlib.Core.List.{List, [], _∷_, _++_, map}
-use mathlib.Core.Bool.{Bool, true, false}
+use mathlib.Core.Bool.{true, false}
 use mathlib.Core.Option.{Option, none, some}
 use Prim.Native.Nat.{ℕ, zero, suc}
 use Prim.Native.String.{String}
-use lib.IntN.{ℤ, pos}
 use lib.ListN.{length}
 use Rattle.text_bytes.specs.Bytes.{bytes}
 use Rattle.text_numbers.specs.Numbers.{INT, FLOAT}
-use Rattle.parse_cursor.specs.Readers.{Reader, got, absent, _>>=_, _>>_, pure, rest, close-bracket, opened, closed, number, numbers, string, oneOf, starts, optional, trailing, many, many⁺, head, text-end, rowOf}
+use Rattle.parse_cursor.specs.Readers.{Reader, got, absent, _>>=_, _>>_, pure, rest, close-bracket, opened, closed, number, numbers, string, starts, optional, trailing, many, many⁺, head, text-end, rowOf}
+unfoldable pub use Rattle.parse_cursor.specs.Readers.{word, truth}
 use Rattle.parse_cursor.specs.Fields.{Kind, kind, fields}
 use Rattle.tra4_text.specs.Movement.{Key, Channel, Pattern, Bone, Movement}
 
@@ -63,9 +63,6 @@ bone = do
   n ← optional "name" absent (closed string)
   cs ← fields channelKinds
   pure (record { name = n; channels = map keysIn cs })
-
-unfoldable pub truth : Reader ℤ
-truth = oneOf ("false" ∷ "true" ∷ []) >>= λ n. pure (pos n)
 
 unfoldable pub pattern : Reader Pattern
 pattern = opened "kgf" >> closed (numbers INT 2 >>= λ zs. truth >>= λ z. pure (zs ++ (z ∷ [])))

@@ -3,14 +3,10 @@ use mathlib.Core.List.{List, [], _∷_, _++_}
 use Prim.Native.Nat.{ℕ, _+_}
 use lib.ListN.{length}
 use lib.IntN.{ℤ, pos}
-use Rattle.parse_cursor.specs.Readers.{Name}
+unfoldable pub use Rattle.parse_cursor.specs.Places.{nameNumbers}
 use Rattle.table_rows.specs.Flat.{flat}
 use Rattle.tra4_text.specs.Movement.{Channel, Bone, Movement}
 use Rattle.tra4_text.specs.Rules.{allKeys, keyRows}
-
--- place and length
-unfoldable pub nameNumbers : Name → List ℤ
-nameNumbers n = pos (n .at) ∷ pos (length (n .bytes)) ∷ []
 
 -- each channel's first key row and key count, where the first of them begins at a key row
 unfoldable pub keyRanges : ℕ → List Channel → List ℤ

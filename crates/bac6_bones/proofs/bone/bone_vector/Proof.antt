@@ -25,7 +25,7 @@ unfolding formNamed
 returns c =
     let n = c .before .before in
     let p = n .before .before .before .pre in
-    vector-read _ _ _ _ _ _ (c .closing .ensures) _ (p .0) (p .1) (n .numbers .ensures)
+    vector-read _ _ _ _ _ _ (c .closing .ensures) _ (p .0) (p .1) (n .numbers .ensures .0)
 
 pub bone-vector-spec : {M : Type 1} → statement M
 bone-vector-spec =

@@ -52,7 +52,7 @@ returns c =
     let cl = ro .before .before in
     let nm = cl .before .before in
     let b = nm .before .before .before .before in
-    rw (st .store .ensures) (corners-joined _ _ _ _ _ _ (b .pre) _ _ _ _ _ _ _ _ _ (blank-bits _ _ _ (b .fits .material) (b .fits .group) (b .pre)) (nm .numbers .ensures) (cl .closing .ensures) (ro .row4 .ensures) (c .closing2 .ensures))
+    rw (st .store .ensures) (corners-joined _ _ _ _ _ _ (b .pre) _ _ _ _ _ _ _ _ _ (blank-bits _ _ _ (b .fits .material) (b .fits .group) (b .pre)) (nm .numbers .ensures .0) (cl .closing .ensures) (ro .row4 .ensures .0) (c .closing2 .ensures))
 
 pub corners-spec : {M : Type 1} → statement M
 corners-spec =

@@ -115,9 +115,9 @@ returns c =
     (join _ _ _ _ _ _ _ _ (c .before .before .before .before .before .before .before .before .before .before .before .before .before .before .before .before .before .before .before .materials .ensures)
     (seq _ _ _ _ _ _ _ _ (c .before .before .before .before .before .before .before .before .before .before .before .before .before .before .before .opened3 .ensures)
     (seq _ _ _ _ _ _ _ _ (c .before .before .before .before .before .before .before .before .before .before .before .before .before .opened4 .ensures)
-    (join _ _ _ _ _ _ _ _ (c .before .before .before .before .before .before .before .before .before .before .some-rows .ensures)
+    (join _ _ _ _ _ _ _ _ (c .before .before .before .before .before .before .before .before .before .before .some-rows .ensures .0)
     (seq _ _ _ _ _ _ _ _ (c .before .before .before .before .before .before .opened5 .ensures)
-    (join _ _ _ _ _ _ _ _ (c .before .before .before .rows .ensures)
+    (join _ _ _ _ _ _ _ _ (c .before .before .before .rows .ensures .0)
     (seq _ _ _ _ _ _ _ _ (c .closing .ensures)
     (refl)))))))))))))
 

@@ -25,7 +25,7 @@ returns c =
     let t = r .before .before in
     let o = t .before .before in
     let a = c .before .before .before .before .before .before .before .before .before .args in
-    join _ _ _ _ _ _ _ (λ (x : Bool). sectionOf x (now (a .word)) (formNamed (a .form)) (a .width) (now (a .out))) (o .optional .ensures) (rw (t .if1 .taken) (r .rows .ensures))
+    join _ _ _ _ _ _ _ (λ (x : Bool). sectionOf x (now (a .word)) (formNamed (a .form)) (a .width) (now (a .out))) (o .optional .ensures) (rw (t .if1 .taken) (r .rows .ensures .0))
 
 returns-2 : tie.Need-returns-2
 unfolding sectionInto sectionOf reads

@@ -18,7 +18,7 @@ same-length c = search needs
 returns : tie.Need-returns
 returns c =
     let n = c .before in
-    seq _ _ _ _ _ _ _ _ (n .before .before .opening .ensures) (n .row-tail .ensures) ∙ sym (from-same _ _ _ _ (row-parts _ _ _ _ _ _))
+    (seq _ _ _ _ _ _ _ _ (n .before .before .opening .ensures) (n .row-tail .ensures .0) ∙ sym (from-same _ _ _ _ (row-parts _ _ _ _ _ _)), n .row-tail .ensures .1)
 
 pub row-spec : {M : Type 1} → statement M
 row-spec = tie.close (tie.spec opening-requires row-tail-requires same-length returns)

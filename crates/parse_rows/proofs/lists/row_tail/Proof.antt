@@ -1,8 +1,10 @@
 -- `row_tail` is the keyword, the numbers in front and those after them, and the closing bracket.
+use mathlib.Core.Path.{_∙_}
 use Rattle.parse_numbers.specs.Answers.{formNamed}
 use Rattle.parse_rows.specs.Into.{rowTail}
 use Rattle.parse_cursor.proofs.Steps.{seq}
 use Rattle.parse_cursor.proofs.Binds.{closed-at}
+use Rattle.parse_rows.proofs.Before.{before-step}
 use Rattle.parse_rows.proofs.Into.{cells-joined}
 use borrow.Author.Needs.{needs}
 use Rattle.parse_rows.proofs.lists.row_tail.Statement.{statement}
@@ -31,9 +33,11 @@ unfolding rowTail formNamed
 returns c =
     let m = c .before .before in
     let v = m .before .before in
-    let n = v .before .before in
-    seq _ _ _ _ _ _ _ _ (n .before .before .keyword .ensures)
-    (closed-at _ _ _ _ _ _ (cells-joined _ _ _ _ _ _ _ _ _ _ _ _ (n .numbers .ensures) (v .advance .ensures) (m .numbers2 .ensures)) (c .closing .ensures))
+    let n = v .before .before in (
+      seq _ _ _ _ _ _ _ _ (n .before .before .keyword .ensures)
+          (closed-at _ _ _ _ _ _ (cells-joined _ _ _ _ _ _ _ _ _ _ _ _ (n .numbers .ensures .0) (v .advance .ensures) (m .numbers2 .ensures .0)) (c .closing .ensures)),
+      before-step _ _ _ _ _ (m .numbers2 .kept .1 .1 .1 .1 .0) (v .advance .ensures) (m .numbers2 .ensures .1) ∙ n .numbers .ensures .1,
+    )
 
 pub row-tail-spec : {M : Type 1} → statement M
 row-tail-spec =

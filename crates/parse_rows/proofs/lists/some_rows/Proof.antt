@@ -6,6 +6,7 @@ use denote.Ref.{now}
 use lib.ListN.{length}
 use Rattle.parse_cursor.proofs.Steps.{reads-same}
 use Rattle.parse_rows.proofs.RowCounts.{rows-counted}
+use Rattle.parse_rows.proofs.Before.{before-step}
 use Rattle.parse_rows.proofs.Into.{row-past, some-join}
 use borrow.Author.Needs.{needs}
 use Rattle.parse_rows.proofs.lists.some_rows.Statement.{statement}
@@ -30,14 +31,18 @@ returns : tie.Need-returns
 returns c =
     let r = c .before .before .before .before in
     let a = r .before .before in
-    reads-same _ _ _ _ (λ o. absurd (c .if1 .taken o)) ∙ some-join _ _ _ _ _ _ _ _ _ _ _ _ _ _ (a .before .before .before .row .ensures) (row-past _ _ _ _ _ _ (a .before .advance .ensures) (a .advance2 .ensures)) (r .rows .ensures)
+    let f = a .before .before .before in
+    let next = row-past _ _ _ _ _ _ (a .before .advance .ensures) (a .advance2 .ensures) in (
+      reads-same _ _ _ _ (λ o. absurd (c .if1 .taken o)) ∙ some-join _ _ _ _ _ _ _ _ _ _ _ _ _ _ (f .row .ensures .0) next (r .rows .ensures .0),
+      before-step _ _ _ _ _ (r .rows .kept .1 .1 .1 .1 .1 .1 .0) next (r .rows .ensures .1) ∙ f .row .ensures .1,
+    )
 
 add-t16 : tie.Need-add-t16
 add-t16 c =
     let r = c .before .before .before .before .before in
     let s = c .before .before .before .before .before .before .before .before .before .before .before .before .before .before in
     let text = now (s .args .text) in
-    let few : r .rows .result .count ≤ suc (length text) = rows-counted _ _ _ _ _ _ _ _ _ _ _ (r .rows .ensures) (c .before .if1 .left) in
+    let few : r .rows .result .count ≤ suc (length text) = rows-counted _ _ _ _ _ _ _ _ _ _ _ (r .rows .ensures .0) (c .before .if1 .left) in
     omega (arith, few, s .good .0)
 
 same-length-2 : tie.Need-same-length-2
@@ -47,7 +52,11 @@ returns-2 : tie.Need-returns-2
 returns-2 c =
     let r = c .before .before .before .before .before in
     let a = r .before .before in
-    some-join _ _ _ _ _ _ _ _ _ _ _ _ _ _ (a .before .before .before .row .ensures) (row-past _ _ _ _ _ _ (a .before .advance .ensures) (a .advance2 .ensures)) (r .rows .ensures)
+    let f = a .before .before .before in
+    let next = row-past _ _ _ _ _ _ (a .before .advance .ensures) (a .advance2 .ensures) in (
+      some-join _ _ _ _ _ _ _ _ _ _ _ _ _ _ (f .row .ensures .0) next (r .rows .ensures .0),
+      before-step _ _ _ _ _ (r .rows .kept .1 .1 .1 .1 .1 .1 .0) next (r .rows .ensures .1) ∙ f .row .ensures .1,
+    )
 
 pub some-rows-spec : {M : Type 1} → statement M
 some-rows-spec =

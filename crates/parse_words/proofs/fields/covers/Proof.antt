@@ -1,13 +1,11 @@
 -- `covers` is the definition: the invariant says that the flags passed are covered.
-use mathlib.Core.Path.{_≡_, refl, ap, sym, _∙_}
+use mathlib.Core.Path.{_≡_, refl, sym, _∙_}
 use mathlib.Core.Logic.{⊎-elim}
-use Prim.Native.Nat.{ℕ, suc, _+_, _-_, _≤_, _<_}
-use native.Mathlib.Omega.{arith}
+use Prim.Native.Nat.{_-_}
 use native.Mathlib.Numerals.{add-one}
 use borrow.Author.Needs.{needs}
 use borrow.Author.Tests.{not-true, not-false}
-use denote.Ref.{now}
-use lib.ListN.{length, take, drop, getD, set, length-set}
+use lib.ListN.{length, drop}
 use Rattle.parse_cursor.specs.Fields.{coversAll}
 use Rattle.parse_words.proofs.Stored.{covers-end, covers-past, covers-missing, covers-set, covers-free}
 use Rattle.parse_words.proofs.fields.covers.Statement.{statement}

@@ -1,18 +1,16 @@
 -- `store` is the definition: the invariant says that the first `k` numbers stand in the table.
-use mathlib.Core.Path.{_≡_, refl, ap, sym, _∙_}
-use mathlib.Core.Logic.{⊎-elim}
-use Prim.Native.Nat.{ℕ, suc, _+_, _-_, _≤_, _<_}
+use mathlib.Core.Path.{_≡_, refl, sym, _∙_}
+use Prim.Native.Nat.{_+_, _-_, _≤_}
 use native.Mathlib.Omega.{arith}
 use native.Mathlib.Numerals.{add-one}
 use borrow.Author.Needs.{needs}
-use borrow.Author.Tests.{not-true, not-false}
 use denote.Ref.{now}
 use lib.IntN.{pos}
 use mir.Syntax.{w64}
 use mir.Facts.{toZ-ofZ}
-use lib.ListN.{length, take, drop, getD, set, length-set}
+use lib.ListN.{length, take, getD, length-set}
 use Rattle.table_rows.specs.Overlay.{overlayAt}
-use Rattle.table_rows.proofs.Tables.{overlayAt-none, overlayAt-length}
+use Rattle.table_rows.proofs.Tables.{overlayAt-none}
 use Rattle.table_rows.proofs.Stores.{store-more, store-full, store-all}
 use Rattle.table_rows.proofs.rows.store.Statement.{statement}
 use Rattle.table_rows.proofs.rows.store.Tie as tie

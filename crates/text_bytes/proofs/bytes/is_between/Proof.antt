@@ -1,4 +1,4 @@
--- `is_between` is the definition.
+-- `is_between` is the definition: its two tests, one after the other.
 use borrow.Author.Tests.{le-leb, lt-leb}
 use Rattle.text_bytes.specs.Bytes.{between}
 use Rattle.text_bytes.proofs.bytes.is_between.Statement.{statement}

@@ -1,12 +1,9 @@
 -- `same` is the definition: the invariant says that the lists from `i` on are the same exactly where the whole lists are.
 use mathlib.Core.Path.{_≡_, refl, sym, _∙_}
 use Prim.Native.Nat.{_-_}
-use native.Mathlib.Omega.{arith}
 use native.Mathlib.Numerals.{add-one}
 use borrow.Author.Needs.{needs}
-use borrow.Author.Tests.{eq-eqb, ne-eqb}
-use denote.Ref.{now}
-use lib.ListN.{length, drop, drop-of-length-le}
+use lib.ListN.{length, drop}
 use Rattle.text_bytes.specs.Bytes.{same}
 use Rattle.text_bytes.proofs.Parts.{same-lengths, same-differ, same-agree, same-end}
 use Rattle.text_bytes.proofs.bytes.same.Statement.{statement}

@@ -1,6 +1,6 @@
 -- `first_fault` is the first fault: the invariant says that the faults from the start are those from `i`.
 use mathlib.Core.Path.{_≡_, refl, ap, sym, _∙_}
-use Prim.Native.Nat.{ℕ, _+_, _-_, _<_, suc}
+use Prim.Native.Nat.{_+_, _-_, _<_, suc}
 use native.Mathlib.Omega.{arith}
 use native.Mathlib.Numerals.{add-one}
 use borrow.Author.Needs.{needs}

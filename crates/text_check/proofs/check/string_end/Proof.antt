@@ -1,12 +1,11 @@
 -- `string_end` finds the string's end or its fault: the invariant says that the faults from the quote are those from `i`.
-use mathlib.Core.Path.{_≡_, refl, ap, sym, _∙_}
-use Prim.Native.Nat.{ℕ, _+_, _-_, _<_, suc}
+use mathlib.Core.Path.{_≡_, sym, _∙_}
+use Prim.Native.Nat.{_-_, _<_, suc}
 use native.Mathlib.Omega.{arith}
 use native.Mathlib.Numerals.{add-one}
 use borrow.Author.Needs.{needs}
 use borrow.Author.Tests.{not-true, not-false}
-use denote.Ref.{now}
-use lib.ListN.{length, drop, getD}
+use lib.ListN.{length, drop}
 use Rattle.text_check.specs.Faults.{faultIn, string}
 use Rattle.text_bytes.specs.Bytes.{isContent}
 use Rattle.text_check.specs.Answers.{scanned, Ahead}

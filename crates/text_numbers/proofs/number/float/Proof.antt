@@ -1,14 +1,12 @@
 -- `float` is the definition, by the laws of a word's digits at each return.
-use mathlib.Core.Path.{_≡_, refl, ap, sym, _∙_}
-use mathlib.Core.Bool.{true}
-use Prim.Native.Nat.{ℕ, suc, _+_, _-_, _*_, _^_, _≤_, _<_}
+use mathlib.Core.Path.{_≡_, sym, _∙_}
+use Prim.Native.Nat.{suc, _+_, _-_, _<_}
 use native.Mathlib.Omega.{arith}
 use native.Mathlib.Numerals.{add-one}
-use native.Mathlib.Nat.{lt-of-le-of-lt}
 use denote.Ref.{now}
-use lib.ListN.{length, getD, drop}
-use Rattle.text_bytes.specs.Bytes.{part, isDigit, run}
-use Rattle.text_numbers.specs.Numbers.{FLOAT, numberOf, allDigits, floatOf}
+use lib.ListN.{length, drop}
+use Rattle.text_bytes.specs.Bytes.{isDigit, run}
+use Rattle.text_numbers.specs.Numbers.{FLOAT, allDigits}
 use Rattle.text_numbers.specs.Answers.{numberNamed}
 use Rattle.text_bytes.specs.Answers.{testNamed}
 use Rattle.text_bytes.proofs.Parts.{part-none}

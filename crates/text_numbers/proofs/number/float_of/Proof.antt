@@ -1,17 +1,14 @@
 -- `float_of` is the definition: the digits are few enough that nothing overflows.
-use mathlib.Core.Path.{_≡_, refl, ap, sym, _∙_}
-use mathlib.Core.Bool.{true}
-use Prim.Native.Nat.{ℕ, suc, _+_, _-_, _*_, _^_, _≤_, _<_}
+use mathlib.Core.Path.{_≡_, sym}
+use Prim.Native.Nat.{_+_, _-_, _*_, _^_, _<_}
 use native.Mathlib.Omega.{arith}
-use native.Mathlib.Numerals.{add-one}
-use native.Mathlib.Nat.{lt-of-le-of-lt}
 use denote.Ref.{now}
-use lib.ListN.{length, getD, drop}
+use lib.ListN.{length}
 use Rattle.text_bytes.specs.Bytes.{part}
-use Rattle.text_numbers.specs.Numbers.{value, signed, millionths, decimal}
+use Rattle.text_numbers.specs.Numbers.{millionths, decimal}
 use Rattle.text_numbers.specs.Answers.{numberNamed}
 use Rattle.text_bytes.proofs.Parts.{part-whole}
-use Rattle.text_numbers.proofs.Numerals.{float-whole-long, float-fraction-long, float-value, decimal-below, fraction-below, millionths-below}
+use Rattle.text_numbers.proofs.Numerals.{float-whole-long, float-fraction-long, float-value, decimal-below, millionths-below}
 use Rattle.text_numbers.proofs.Signed.{signed-back}
 use borrow.Author.Needs.{needs}
 use Rattle.text_numbers.proofs.number.float_of.Statement.{statement}

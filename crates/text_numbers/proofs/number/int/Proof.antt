@@ -1,12 +1,10 @@
 -- `int` is the definition, by the laws of a word's digits at each return.
-use mathlib.Core.Path.{_≡_, refl, ap, sym, _∙_}
-use mathlib.Core.Bool.{true}
-use Prim.Native.Nat.{ℕ, suc, _+_, _-_, _*_, _^_, _≤_, _<_}
+use mathlib.Core.Path.{_≡_, sym, _∙_}
+use Prim.Native.Nat.{_-_, _<_}
 use native.Mathlib.Omega.{arith}
-use native.Mathlib.Numerals.{add-one}
 use native.Mathlib.Nat.{lt-of-le-of-lt}
 use denote.Ref.{now}
-use lib.ListN.{length, getD, drop}
+use lib.ListN.{length}
 use Rattle.text_bytes.specs.Bytes.{part}
 use Rattle.text_numbers.specs.Numbers.{INT, numberOf, intOf}
 use Rattle.text_numbers.specs.Answers.{numberNamed}

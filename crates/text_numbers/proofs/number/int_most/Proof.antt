@@ -1,4 +1,4 @@
--- `int_most` is the definition.
+-- `int_most` is the definition at each sign.
 use Rattle.text_numbers.specs.Numbers.{intMost}
 use Rattle.text_numbers.proofs.number.int_most.Statement.{statement}
 use Rattle.text_numbers.proofs.number.int_most.Tie as tie

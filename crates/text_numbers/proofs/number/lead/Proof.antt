@@ -2,7 +2,7 @@
 use mathlib.Core.Path.{sym, _∙_}
 use native.Mathlib.Omega.{arith}
 use Rattle.text_bytes.specs.Answers.{testNamed}
-use Rattle.text_numbers.proofs.Numerals.{magnitude-yes, magnitude-no, negative-some}
+use Rattle.text_numbers.proofs.Numerals.{unsigned-yes, unsigned-no, negative-some}
 use borrow.Author.Needs.{needs}
 use Rattle.text_numbers.proofs.number.lead.Statement.{statement}
 use Rattle.text_numbers.proofs.number.lead.Tie as tie
@@ -17,7 +17,7 @@ returns : tie.Need-returns
 unfolding testNamed
 returns c =
     let e = sym (c .before .before .is-negative .ensures) ∙ c .before .if1 .taken in
-    record { sign = sym e; digits = sym (magnitude-yes _ e); within = negative-some _ e; ends = c .run-end .ensures }
+    record { sign = sym e; digits = sym (unsigned-yes _ e); within = negative-some _ e; ends = c .run-end .ensures }
 
 run-end-requires-2 : tie.Need-run-end-requires-2
 run-end-requires-2 c κs = search needs
@@ -26,7 +26,7 @@ returns-2 : tie.Need-returns-2
 unfolding testNamed
 returns-2 c =
     let e = sym (c .before .before .is-negative .ensures) ∙ c .before .if1 .left in
-    record { sign = sym e; digits = sym (magnitude-no _ e); within = omega arith; ends = c .run-end2 .ensures }
+    record { sign = sym e; digits = sym (unsigned-no _ e); within = omega arith; ends = c .run-end2 .ensures }
 
 pub lead-spec : {M : Type 1} → statement M
 lead-spec =

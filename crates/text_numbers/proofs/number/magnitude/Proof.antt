@@ -1,6 +1,5 @@
 -- `magnitude` is the distance from zero: below zero, one more than that of z + 1, which fits at the least number too.
 use mathlib.Core.Path.{_≡_, sym, ap, _∙_}
-use Prim.Native.Nat.{_^_, _<_}
 use native.Mathlib.Omega.{arith}
 use native.Mathlib.Numerals.{add-one}
 use lib.IntN.{ℤ, pos, negsuc, natAbs}

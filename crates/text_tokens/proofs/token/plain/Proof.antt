@@ -1,19 +1,18 @@
 -- `plain` is the next token: the run of letters from its first byte.
 use mathlib.Core.Path.{_≡_, refl}
 use mathlib.Core.List.{_∷_}
-use mathlib.Core.Logic.{⊎-elim}
 use Prim.Native.Nat.{_+_, suc}
 use native.Mathlib.Omega.{arith}
 use native.Mathlib.Numerals.{add-one}
 use borrow.Author.Needs.{needs}
 use denote.Ref.{now}
 use lib.ListN.{length, drop, getD}
-use Rattle.text_bytes.specs.Bytes.{run, isLetter, inString}
-use Rattle.text_tokens.specs.Tokens.{plain, quoted, widthOf, bytesOf}
+use Rattle.text_bytes.specs.Bytes.{run, isLetter}
+use Rattle.text_tokens.specs.Tokens.{plain, widthOf, bytesOf}
 use Rattle.text_tokens.specs.Answers.{kindOf}
 use Rattle.text_bytes.specs.Answers.{testNamed}
 use Rattle.text_bytes.proofs.Runs.{run-within}
-use Rattle.text_tokens.proofs.Spans.{spanned, next-plain, next-quoted}
+use Rattle.text_tokens.proofs.Spans.{spanned, next-plain}
 use Rattle.text_tokens.proofs.token.plain.Statement.{statement}
 use Rattle.text_tokens.proofs.token.plain.Tie as tie
 

@@ -28,7 +28,7 @@ unfolding bytes formNamed
 returns c =
     let s = c .before .before .before .before in
     let a = s .before .before .before .before in
-    keys-refused _ _ _ _ _ _ _ _ _ _ (a .pre .0) (s .some-rows .ensures) (c .if1 .taken) _
+    keys-refused _ _ _ _ _ _ _ _ _ _ (a .pre .0) (s .some-rows .ensures .0) (c .if1 .taken) _
 
 same-length-2 : tie.Need-same-length-2
 same-length-2 c = search needs
@@ -38,7 +38,7 @@ unfolding bytes formNamed
 returns-2 c =
     let s = c .before .before .before .before .before in
     let a = s .before .before .before .before in
-    keys-over _ _ _ _ _ _ _ _ _ _ (a .pre .0) (s .some-rows .ensures) (c .if2 .taken)
+    keys-over _ _ _ _ _ _ _ _ _ _ (a .pre .0) (s .some-rows .ensures .0) (c .if2 .taken)
 
 sub-if3 : tie.Need-sub-if3
 sub-if3 c = search needs
@@ -51,7 +51,7 @@ unfolding bytes formNamed
 returns-3 c =
     let s = c .before .before .before .before .before .before in
     let a = s .before .before .before .before in
-    keys-many _ _ _ _ _ _ _ _ _ _ (a .pre .0) (s .some-rows .ensures) (c .before .if2 .left) (c .if3 .taken)
+    keys-many _ _ _ _ _ _ _ _ _ _ (a .pre .0) (s .some-rows .ensures .0) (c .before .if2 .left) (c .if3 .taken)
 
 mul-i : tie.Need-mul-i
 mul-i c = search needs
@@ -95,7 +95,7 @@ returns-4 c =
     let a = s .before .before .before .before in
     let first : a .args .count < 2 ^ 63 = omega (arith, a .pre .3) in
     let size : s .some-rows .result .count < 2 ^ 63 = omega (arith, c .if3 .left) in
-    rw (bits-pos (a .args .count) first, bits-pos (s .some-rows .result .count) size) (keys-more _ _ _ _ _ _ _ _ _ _ (a .pre .0) (s .some-rows .ensures) (c .before .if2 .left) (c .if3 .left))
+    rw (bits-pos (a .args .count) first, bits-pos (s .some-rows .result .count) size) (keys-more _ _ _ _ _ _ _ _ _ _ (a .pre .0) (s .some-rows .ensures .0) (c .before .if2 .left) (c .if3 .left))
 
 pub channel-keys-spec : {M : Type 1} → statement M
 channel-keys-spec =

@@ -11,16 +11,15 @@ use mir.Syntax.{w64}
 use mir.Val.{toZ, ofZ}
 use Rattle.text_numbers.proofs.Signed.{bits-pos, pos-fits}
 use Rattle.table_rows.specs.Overlay.{overlayAt}
-use Rattle.tra4_bones.specs.Laying.{magnitude}
 use Rattle.tra4_bones.proofs.Ranges.{cast-is, cast-fits, part-is}
 use Rattle.tra4_bones.proofs.laying.lay_range.Statement.{statement}
 use Rattle.tra4_bones.proofs.laying.lay_range.Tie as tie
 
 -- the two numbers, as the casts give them
-first-is : (c : tie.After-first) → natAbs (toZ w64 (ofZ w64 (getD (now (c .before .args .ranges)) (c .before .args .at) (pos 0)))) ≡ magnitude (getD (now (c .before .args .ranges)) (c .before .args .at) (pos 0))
+first-is : (c : tie.After-first) → natAbs (toZ w64 (ofZ w64 (getD (now (c .before .args .ranges)) (c .before .args .at) (pos 0)))) ≡ natAbs (getD (now (c .before .args .ranges)) (c .before .args .at) (pos 0))
 first-is c = cast-is _ (record { sfits = c .first .given }) (c .before .pre .1 .first-is)
 
-count-is : (c : tie.After-count) → natAbs (toZ w64 (ofZ w64 (getD (now (c .before .before .args .ranges)) (c .before .before .args .at + 1) (pos 0)))) ≡ magnitude (getD (now (c .before .before .args .ranges)) (c .before .before .args .at + 1) (pos 0))
+count-is : (c : tie.After-count) → natAbs (toZ w64 (ofZ w64 (getD (now (c .before .before .args .ranges)) (c .before .before .args .at + 1) (pos 0)))) ≡ natAbs (getD (now (c .before .before .args .ranges)) (c .before .before .args .at + 1) (pos 0))
 count-is c = cast-is _ (record { sfits = c .count .given }) (c .before .before .pre .1 .count-is)
 
 mul-first : tie.Need-mul-first

@@ -43,7 +43,7 @@ unfolding bytes formNamed
 returns c =
     let o = c .before .before .before .before .before .before .before .before in
     let n = c .before .before .before .before .before .before .before .before .before .before .before in
-    pattern-read _ _ _ _ _ _ _ _ _ _ _ _ (n .before .before .keyword .ensures) (n .numbers .ensures) (o .one-of .ensures) (c .before .before .before .before .advance .ensures) (rw (toZ-ofZ {w = w64} {z = o .one-of .result .value} (record { sfits = c .before .before .before .before .before .before .struct-told .given .1 .0 .1 })) at (c .before .before .store .ensures)) (c .closing .ensures)
+    pattern-read _ _ _ _ _ _ _ _ _ _ _ _ (n .before .before .keyword .ensures) (n .numbers .ensures .0) (o .one-of .ensures) (c .before .before .before .before .advance .ensures) (rw (toZ-ofZ {w = w64} {z = o .one-of .result .value} (record { sfits = c .before .before .before .before .before .before .struct-told .given .1 .0 .1 })) at (c .before .before .store .ensures)) (c .closing .ensures)
 
 pub pattern-tail-spec : {M : Type 1} → statement M
 pattern-tail-spec =
