@@ -11,7 +11,7 @@ fn tell_faces(table: &[i64], n: FigureCounts) {
     let mut face = 0;
     while face < faces {
         let end = if 32 < faces - face { face + 32 } else { faces };
-        let filled = player_listing::list_corners(&mut out, table, n, face, end);
+        let filled = corner_listing::list_corners(&mut out, table, n, face, end);
         io::write_all(STDOUT_FILENO, &out[..filled]);
         face = end;
     }
@@ -19,7 +19,7 @@ fn tell_faces(table: &[i64], n: FigureCounts) {
 
 fn tell_refusal(answer: FigureAnswer) {
     let mut out = [0u8; 64];
-    let filled = report::first_line(&mut out, b"figure", answer.refusal, answer.place, 0);
+    let filled = report_lists::first_line(&mut out, b"figure", answer.refusal, answer.place, 0);
     io::write_all(STDOUT_FILENO, &out[..filled]);
 }
 

@@ -3,7 +3,7 @@ use mathlib.Core.List.{List}
 use Prim.Native.Nat.{ℕ}
 use lib.IntN.{ℤ, pos}
 use lib.ListN.{replicate}
-use Rattle.report.specs.Lists.{textOf}
+use Rattle.report_lists.specs.Lists.{textOf}
 use Rattle.tra4_text.specs.Answer.{movementAnswer, movementTable}
 use Rattle.tra4.specs.Answers.{answerOf}
 use Rattle.tra4_listing.specs.Movements.{movementLines}

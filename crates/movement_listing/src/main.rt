@@ -2,8 +2,8 @@
 ghost use mathlib.Core.Path.{_≡_};
 ghost use Prim.Native.Nat.{_≤_};
 ghost use lib.ListN.{length, take};
-ghost use Rattle.report.specs.Output.{output};
-ghost use Rattle.report.specs.Lists.{appendedEach};
+ghost use Rattle.report_text.specs.Output.{output};
+ghost use Rattle.report_lists.specs.Lists.{appendedEach};
 ghost use Rattle.movement_listing.specs.Listing.{textLines, textListing};
 use libc::STDIN_FILENO;
 use libc::STDOUT_FILENO;

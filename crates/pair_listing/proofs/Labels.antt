@@ -5,11 +5,11 @@ use Prim.Native.Nat.{ℕ, _+_, _≤_}
 use native.Mathlib.Omega.{arith}
 use lib.ListN.{length, length-append}
 use Rattle.text_bytes.specs.Bytes.{bytes}
-use Rattle.report.specs.Text.{numeral}
-use Rattle.report.specs.Output.{Output, output, appended}
-use Rattle.report.specs.Lists.{appendedEach, textOf, shown}
-use Rattle.report.proofs.Numerals.{numeral-most}
-use Rattle.report.proofs.Texts.{shown-fits}
+use Rattle.report_text.specs.Text.{numeral}
+use Rattle.report_text.specs.Output.{Output, output, appended}
+use Rattle.report_lists.specs.Lists.{appendedEach, textOf, shown}
+use Rattle.report_text.proofs.Numerals.{numeral-most}
+use Rattle.report_lists.proofs.Texts.{shown-fits}
 use Rattle.pair_listing.specs.Lines.{labelParts}
 
 module _ (bone : ℕ) (name : List ℕ) where

@@ -10,11 +10,11 @@ use lib.ListN.{length, take}
 use lib.Seq.{length-take-le}
 use Rattle.io.specs.Counts.{Counts}
 use Rattle.text_bytes.specs.Bytes.{bytes}
-use Rattle.report.specs.Text.{line}
-use Rattle.report.specs.Output.{output, appended}
-use Rattle.report.specs.Lists.{shown}
-use Rattle.report.proofs.Appending.{within, filled-then}
-use Rattle.report.proofs.Texts.{counts-most}
+use Rattle.report_text.specs.Text.{line}
+use Rattle.report_text.specs.Output.{output, appended}
+use Rattle.report_lists.specs.Lists.{shown}
+use Rattle.report_text.proofs.Appending.{within, filled-then}
+use Rattle.report_lists.proofs.Texts.{counts-most}
 use Rattle.pair_listing.specs.Lines.{replyLine}
 
 module _ (refusal place file figure movement : ℕ) where

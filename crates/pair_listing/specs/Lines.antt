@@ -4,8 +4,8 @@ use mathlib.Core.List.{List, [], _∷_, map}
 use Prim.Native.Nat.{ℕ}
 use lib.Dec.{eqb}
 use Rattle.text_bytes.specs.Bytes.{bytes}
-use Rattle.report.specs.Text.{numeral, line}
-use Rattle.report.specs.Lists.{shown}
+use Rattle.report_text.specs.Text.{numeral, line}
+use Rattle.report_lists.specs.Lists.{shown}
 
 -- the totals of the figure and of the movement; or a refusal's number, place and file
 unfoldable pub replyLine : ℕ → ℕ → ℕ → ℕ → ℕ → List ℕ

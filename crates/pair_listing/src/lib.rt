@@ -3,13 +3,13 @@ ghost use mathlib.Core.Path.{_≡_};
 ghost use Prim.Native.Nat.{_+_, _≤_};
 ghost use lib.ListN.{length, take};
 ghost use Rattle.io.specs.Counts.{Counts};
-ghost use Rattle.report.specs.Output.{output, appended};
-ghost use Rattle.report.specs.Lists.{appendedEach, textOf};
+ghost use Rattle.report_text.specs.Output.{output, appended};
+ghost use Rattle.report_lists.specs.Lists.{appendedEach, textOf};
 ghost use Rattle.pair_listing.specs.Lines.{replyLine, labelParts};
-use report::append;
-use report::append_number;
-use report::append_row;
-use report::shown;
+use report_lists::shown;
+use report_rows::append_row;
+use report_text::append;
+use report_text::append_number;
 
 // Puts a refusal's number, place and file, or the two totals where nothing is refused, at the start of buf. 71 bytes hold both.
 pub fn list_reply(

@@ -12,8 +12,8 @@ use lib.ListN.{length}
 use Rattle.text_bytes.specs.Bytes.{part}
 use Rattle.text_bytes.proofs.Parts.{part-length}
 use Rattle.text_numbers.proofs.Numerals.{and-true}
-use Rattle.report.specs.Output.{output}
-use Rattle.report.specs.Lists.{appendedEach, textOf}
+use Rattle.report_text.specs.Output.{output}
+use Rattle.report_lists.specs.Lists.{appendedEach, textOf}
 use Rattle.table_counts.specs.declared.counts.FigureCounts.{FigureCounts}
 use Rattle.table_counts.specs.declared.counts.MovementCounts.{MovementCounts}
 use Rattle.player.specs.Lookups.{onlyIf}

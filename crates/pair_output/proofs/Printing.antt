@@ -9,15 +9,15 @@ use lib.ListN.{length, take, replicate, length-append, length-replicate}
 use lib.Seq.{length-take-le}
 use Rattle.text_bytes.specs.Bytes.{part}
 use Rattle.io.specs.Counts.{Counts}
-use Rattle.report.specs.Output.{Output, output, appended}
-use Rattle.report.specs.Lists.{appendedEach, textOf}
-use Rattle.report.proofs.Texts.{each-within, each-whole}
+use Rattle.report_text.specs.Output.{Output, output, appended}
+use Rattle.report_lists.specs.Lists.{appendedEach, textOf}
+use Rattle.report_lists.proofs.Texts.{each-within, each-whole}
 use Rattle.bac6_text.specs.Figure.{Figure}
 use Rattle.bac6.specs.Answers as bac6
 use Rattle.tra4_text.specs.Movement.{Movement}
 use Rattle.player.proofs.Mosts.{figure-small}
 use Rattle.player_label.specs.Labels.{orEmpty}
-use Rattle.player_listing.specs.Parts.{linesFrom}
+use Rattle.report_lists.specs.Parts.{linesFrom}
 use Rattle.pair_text.specs.Answer.{Loaded, refused, loaded, pairAnswer, figureLeft, movementOf, movementLeft}
 use Rattle.pair_bridge.specs.Playing.{labelAsked}
 use Rattle.pair_bridge.proofs.Lookups.{figure-holds-read}

@@ -4,7 +4,7 @@ use Prim.Native.Nat.{ℕ}
 use lib.IntN.{ℤ}
 use lib.ListN.{length}
 use Rattle.text_bytes.specs.Bytes.{part}
-use Rattle.report.specs.Lists.{textOf}
+use Rattle.report_lists.specs.Lists.{textOf}
 use Rattle.bac6_text.specs.Figure.{Figure}
 use Rattle.bac6_text.specs.Layout as figures
 use Rattle.tra4_text.specs.Movement.{Movement}
@@ -12,7 +12,7 @@ use Rattle.tra4_text.specs.Layout as movements
 use Rattle.table_counts.specs.declared.counts.FigureCounts.{FigureCounts}
 use Rattle.table_counts.specs.declared.counts.MovementCounts.{MovementCounts}
 use Rattle.player_label.specs.Labels.{orEmpty, labelIn}
-use Rattle.player_listing.specs.Parts.{linesFrom}
+use Rattle.report_lists.specs.Parts.{linesFrom}
 use Rattle.pair_text.specs.Answer.{Loaded, refused, loaded, pairAnswer}
 use Rattle.pair_bridge.specs.Playing.{labelAsked}
 use Rattle.pair_input.specs.Division as input

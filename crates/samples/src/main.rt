@@ -10,7 +10,7 @@ fn tell_channel(table: &[i64], n: MovementCounts, bone: usize, channel: usize, t
     let mut at = 0;
     while at < total {
         let end = if 256 < total - at { at + 256 } else { total };
-        let filled = player_listing::list_samples(&mut out, table, n, bone, channel, at, end);
+        let filled = sample_listing::list_samples(&mut out, table, n, bone, channel, at, end);
         io::write_all(STDOUT_FILENO, &out[..filled]);
         at = end;
     }
@@ -30,7 +30,7 @@ fn tell_bones(table: &[i64], n: MovementCounts, total: usize) {
 
 fn tell_refusal(answer: MovementAnswer) {
     let mut out = [0u8; 64];
-    let filled = report::first_line(&mut out, b"movement", answer.refusal, answer.place, 0);
+    let filled = report_lists::first_line(&mut out, b"movement", answer.refusal, answer.place, 0);
     io::write_all(STDOUT_FILENO, &out[..filled]);
 }
 

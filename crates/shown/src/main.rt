@@ -19,7 +19,7 @@ fn tell_face(
     let mut at = 0;
     while at < total {
         let end = if 256 < total - at { at + 256 } else { total };
-        let filled = player_listing::list_shown(&mut out, table, n, moves, m, face, at, end);
+        let filled = shown_listing::list_shown(&mut out, table, n, moves, m, face, at, end);
         io::write_all(STDOUT_FILENO, &out[..filled]);
         at = end;
     }

@@ -6,8 +6,8 @@ use native.Mathlib.Omega.{arith}
 use lib.IntN.{ℤ}
 use lib.ListN.{length}
 use Rattle.text_bytes.specs.Bytes.{bytes}
-use Rattle.report.proofs.Texts.{AllFit, narrow}
-use Rattle.report.proofs.Listings.{listing-most}
+use Rattle.report_lists.proofs.Texts.{AllFit, narrow}
+use Rattle.report_lists.proofs.Listings.{listing-most}
 use Rattle.tra4.specs.declared.setting.MovementAnswer.{MovementAnswer}
 use Rattle.tra4_listing.specs.Movements.{movementLists, movementLines, movementText}
 

@@ -3,7 +3,7 @@ use mathlib.Core.List.{List, [], _∷_}
 use Prim.Native.Nat.{ℕ}
 use lib.IntN.{ℤ}
 use Rattle.text_bytes.specs.Bytes.{bytes}
-use Rattle.report.specs.Lists.{RowList, rowList, listingLines, textOf}
+use Rattle.report_lists.specs.Lists.{RowList, rowList, listingLines, textOf}
 use Rattle.tra4.specs.declared.setting.MovementAnswer.{MovementAnswer}
 use Rattle.table_counts.specs.declared.counts.MovementCounts.{MovementCounts}
 

@@ -2,12 +2,12 @@
 ghost use mathlib.Core.Path.{_≡_};
 ghost use Prim.Native.Nat.{_≤_};
 ghost use lib.ListN.{length, take};
-ghost use Rattle.report.specs.Output.{output};
-ghost use Rattle.report.specs.Lists.{appendedEach, listLines};
+ghost use Rattle.report_text.specs.Output.{output};
+ghost use Rattle.report_lists.specs.Lists.{appendedEach, listLines};
 ghost use Rattle.tra4_listing.specs.Movements.{movementLists, movementLines, movementText};
-use report::Progress;
-use report::append_list;
-use report::first_line;
+use report_lists::Progress;
+use report_lists::append_list;
+use report_lists::first_line;
 use table_counts::MovementCounts;
 use tra4::MovementAnswer;
 

@@ -66,7 +66,7 @@ fn movement_counts(m: &[i64; 4]) -> MovementCounts {
 fn tell_sample(moves: &[i64], m: MovementCounts, bone: usize, channel: usize, at: usize) {
     let answer = player::sample(moves, m, bone, channel, at);
     let mut out = [0u8; 64];
-    let filled = player_listing::list_fraction(&mut out, answer);
+    let filled = sample_listing::list_fraction(&mut out, answer);
     put(text_bytes::part(&out, 0, filled));
 }
 
@@ -74,7 +74,7 @@ fn tell_sample(moves: &[i64], m: MovementCounts, bone: usize, channel: usize, at
 fn tell_corner(table: &[i64], n: FigureCounts, face: usize, k: usize) {
     let answer = player::corner(table, n, face, k);
     let mut out = [0u8; 256];
-    let filled = player_listing::append_corner(&mut out, 0, face, k, answer);
+    let filled = corner_listing::append_corner(&mut out, 0, face, k, answer);
     if filled == 0 {
         put(b"refused\t21\t0\n");
         return;
@@ -92,7 +92,7 @@ fn tell_shown(
 ) {
     let answer = player::shown(table, n, moves, m, face, at);
     let mut out = [0u8; 128];
-    let filled = player_listing::append_shown(&mut out, 0, face, at, answer);
+    let filled = shown_listing::append_shown(&mut out, 0, face, at, answer);
     put(text_bytes::part(&out, 0, filled));
 }
 

@@ -17,7 +17,7 @@ use text_tokens::Kind;
 // A line of a word, and of numbers after tabs.
 fn put_row(word: &[u8], row: &[i64]) {
     let mut out = [0u8; 128];
-    let n = report::append_row(&mut out, 0, word, row);
+    let n = report_rows::append_row(&mut out, 0, word, row);
     put(text_bytes::part(&out, 0, n));
 }
 
@@ -25,7 +25,7 @@ fn tell_checked(answer: Checked) {
     match answer {
         Checked::Clear => put(b"clear\n"),
         Checked::Refused { number, place } => {
-            put_row(b"refused", &[number as i64, report::shown(place)])
+            put_row(b"refused", &[number as i64, report_lists::shown(place)])
         }
     }
 }
@@ -55,9 +55,9 @@ fn tell_tokens(text: &[u8]) {
     while i <= text.len() {
         let t = text_tokens::next(text, at);
         let row = [
-            report::shown(t.start),
-            report::shown(t.end),
-            report::shown(t.length),
+            report_lists::shown(t.start),
+            report_lists::shown(t.end),
+            report_lists::shown(t.length),
         ];
         let kind = t.kind;
         tell_token(kind, &row);

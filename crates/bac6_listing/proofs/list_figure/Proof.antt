@@ -2,7 +2,7 @@
 use denote.Ref.{now}
 use borrow.Author.Tests.{eq-eqb, ne-eqb}
 use Rattle.text_bytes.specs.Bytes.{bytes}
-use Rattle.report.proofs.Listings.{said-taken, said-refused}
+use Rattle.report_lists.proofs.Listings.{said-taken, said-refused}
 use Rattle.bac6_listing.specs.Figures.{figureLists, figureLines, figureText}
 use borrow.Author.Needs.{needs}
 use Rattle.bac6_listing.proofs.list_figure.Statement.{statement}

@@ -5,9 +5,9 @@ use mir.Syntax.{w64}
 use mir.Val.{toZ, ofZ}
 use borrow.Author.Needs.{needs}
 use Rattle.text_bytes.specs.Bytes.{bytes}
-use Rattle.report.specs.Output.{output, appended}
-use Rattle.report.specs.Text.{numeral}
-use Rattle.report.proofs.Texts.{held}
+use Rattle.report_text.specs.Output.{output, appended}
+use Rattle.report_text.specs.Text.{numeral}
+use Rattle.report_lists.proofs.Texts.{held}
 use Rattle.pair_listing.proofs.Labels.{label-put}
 use Rattle.pair_listing.proofs.append_label.Statement.{statement}
 use Rattle.pair_listing.proofs.append_label.Tie as tie

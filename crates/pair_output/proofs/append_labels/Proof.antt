@@ -8,13 +8,13 @@ use borrow.Author.Needs.{needs}
 use lib.IntN.{ℤ}
 use lib.ListN.{length}
 use denote.Ref.{now}
-use Rattle.report.specs.Output.{output}
-use Rattle.report.specs.Lists.{appendedEach}
+use Rattle.report_text.specs.Output.{output}
+use Rattle.report_lists.specs.Lists.{appendedEach}
 use Rattle.table_counts.specs.declared.counts.FigureCounts.{FigureCounts}
 use Rattle.table_counts.specs.declared.counts.MovementCounts.{MovementCounts}
 use Rattle.player_label.specs.Labels.{labelIn, orEmpty}
-use Rattle.player_listing.specs.Parts.{linesFrom}
-use Rattle.player_listing.proofs.Turns.{turn-put, turn-short, Short, all-lines, all-short}
+use Rattle.report_lists.specs.Parts.{linesFrom}
+use Rattle.report_lists.proofs.Turns.{turn-put, turn-short, Short, all-lines, all-short}
 use Rattle.pair_listing.specs.Lines.{labelParts}
 use Rattle.pair_output.specs.Printing.{labelsIn}
 use Rattle.pair_output.proofs.Labels.{label-most, label-put}

@@ -4,7 +4,7 @@ use Prim.Native.Nat.{_≤_}
 use native.Mathlib.Omega.{arith}
 use lib.ListN.{length}
 use lib.Seq.{length-take-le}
-use Rattle.report.proofs.Appending.{within}
+use Rattle.report_text.proofs.Appending.{within}
 use borrow.Author.Needs.{needs}
 use Rattle.samples.proofs.tell_refusal.Statement.{statement}
 use Rattle.samples.proofs.tell_refusal.Tie as tie

@@ -2,7 +2,7 @@
 use denote.Ref.{now}
 use borrow.Author.Tests.{eq-eqb, ne-eqb}
 use Rattle.text_bytes.specs.Bytes.{bytes}
-use Rattle.report.proofs.Listings.{said-taken, said-refused}
+use Rattle.report_lists.proofs.Listings.{said-taken, said-refused}
 use Rattle.tra4_listing.specs.Movements.{movementLists, movementLines, movementText}
 use borrow.Author.Needs.{needs}
 use Rattle.tra4_listing.proofs.list_movement.Statement.{statement}

@@ -1,4 +1,0 @@
-pub mod Parts
-pub mod Samples
-pub mod Corners
-pub mod Faces

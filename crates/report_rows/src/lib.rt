@@ -1,0 +1,4 @@
+// Lines of a word and numbers.
+mod row;
+
+pub use row::append_row;

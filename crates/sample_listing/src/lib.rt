@@ -1,0 +1,5 @@
+// Samples as text.
+mod samples;
+
+pub use samples::list_fraction;
+pub use samples::list_samples;

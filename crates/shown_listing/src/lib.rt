@@ -1,0 +1,5 @@
+// Whether faces are shown, as text.
+mod faces;
+
+pub use faces::append_shown;
+pub use faces::list_shown;
