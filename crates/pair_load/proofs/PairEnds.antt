@@ -27,7 +27,8 @@ use Rattle.pair_text.specs.Answer.{Loaded, refused, loaded, withMovement, withF
 use Rattle.pair_load.specs.declared.pair.PairAnswer.{PairAnswer}
 use Rattle.pair_bridge.specs.Names.{namesIn}
 use Rattle.pair_bridge.proofs.Names.{figure-names-in}
-use Rattle.pair_load.specs.Answers.{withNames, movedAnswer, movedReply, pairReply}
+use Rattle.pair_load.specs.Answers.{pairReply}
+use Rattle.pair_movement.specs.Moved.{withNames, movedAnswer, movedReply}
 use Rattle.bac6_text.specs.Rules.{figureCounts}
 use Rattle.tra4_text.specs.Rules.{movementCounts}
 

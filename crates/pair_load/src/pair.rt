@@ -2,7 +2,7 @@
 ghost use mathlib.Core.Path.{_≡_};
 ghost use Rattle.pair_text.specs.Answer.{refused as refusedAt, tableLeft, movesLeft};
 ghost use Rattle.pair_load.specs.Answers.{pairReply, reply};
-use crate::moving::load_movement;
+use pair_movement::load_movement;
 use table_counts::FigureCounts;
 use table_counts::MovementCounts;
 use table_counts::no_figure;

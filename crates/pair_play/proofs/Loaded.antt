@@ -27,7 +27,7 @@ use Rattle.pair_bridge.specs.Playing.{sampleAsked, cornerAsked, shownAsked, lab
 use Rattle.pair_bridge.proofs.Lookups.{sample-asked, corner-asked, shown-asked}
 use Rattle.pair_bridge.proofs.Labels.{label-read}
 use Rattle.pair_load.specs.Answers.{pairReply}
-use Rattle.pair_load.proofs.Standing.{figure-stands, movement-stands}
+use Rattle.pair_movement.proofs.Standing.{figure-stands, movement-stands}
 use Rattle.pair_load.specs.Answers.{reply}
 use Rattle.pair_text.specs.Answer.{tableLeft, movesLeft}
 use Rattle.pair_play.proofs.Parts.{figure-alone, movement-alone, parts-taken, figure-left, moves-left}

@@ -14,7 +14,8 @@ use Rattle.bac6.specs.Answers as bac6
 use Rattle.tra4.specs.Answers as tra4
 use Rattle.table_counts.specs.declared.counts.FigureCounts.{FigureCounts}
 use Rattle.pair_bridge.specs.Names.{namesIn}
-use Rattle.pair_load.specs.Answers.{withNames, movedAnswer, movedReply, pairReply}
+use Rattle.pair_load.specs.Answers.{pairReply}
+use Rattle.pair_movement.specs.Moved.{withNames, movedAnswer, movedReply}
 use Rattle.refusal_laws.specs.Numbers.{isAmong, Refusal, numbersOf, movedNumbersOf, IsTaken, IsLoaded}
 use Rattle.refusal_laws.proofs.Among.{number-not-zero, moved-not-zero}
 use Rattle.refusal_laws.proofs.Refusals.{figure-refusal, movement-refusal, Refuses, movement-refuses, pair-refusal}

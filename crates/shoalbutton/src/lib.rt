@@ -12,7 +12,8 @@ ghost use Rattle.player_label.specs.Labels.{labelIn, orEmpty};
 ghost use Rattle.pair_text.specs.Answer.{movementLeft, loading, tableLeft, movesLeft};
 ghost use Rattle.pair_bridge.specs.Playing.{sampleAsked, cornerAsked, shownAsked, labelAsked};
 ghost use Rattle.pair_play.specs.Playing.{played, sampleTold, cornerTold, shownTold, refusalOf, bytesOf};
-ghost use Rattle.pair_load.specs.Answers.{movedReply, reply, moving};
+ghost use Rattle.pair_load.specs.Answers.{reply};
+ghost use Rattle.pair_movement.specs.Moved.{movedReply, moving};
 use bac6::FigureAnswer;
 use pair_load::PairAnswer;
 use pair_play::PlayedCorner;
@@ -64,7 +65,7 @@ pub fn load_movement(
     ensures answer { λ r. ⌜ r ≡ movedReply (moving (now (figure .entry)) n (now (table .entry)) (now (movement .entry)) (now (moves .entry))) ⌝ }
     ensures content { λ r. ⌜ now (moves .exit) ≡ movementLeft (now (moves .entry)) (moving (now (figure .entry)) n (now (table .entry)) (now (movement .entry)) (now (moves .entry))) ⌝ }
 {
-    pair_load::load_movement(figure, table, n, movement, moves)
+    pair_movement::load_movement(figure, table, n, movement, moves)
 }
 
 // ---- playing, on any tables and counts

@@ -16,9 +16,10 @@ use Rattle.table_counts.specs.declared.counts.FigureCounts.{FigureCounts}
 use Rattle.pair_text.specs.Answer.{Loaded, loaded, withFigure, pairAnswer, figureLeft, movementOf, movementLeft}
 use Rattle.bac6_text.specs.Figure.{Figure}
 use Rattle.tra4_text.specs.Movement.{Movement}
-use Rattle.pair_load.specs.Answers.{movedAnswer, pairReply}
-use Rattle.pair_load.proofs.Rooms.{figure-held, figure-small, Read, read-refused, read-taken, total-is, read-whole, room-short, room-enough, left-is}
-use Rattle.pair_load.proofs.Standing.{figure-stands}
+use Rattle.pair_load.specs.Answers.{pairReply}
+use Rattle.pair_movement.specs.Moved.{movedAnswer}
+use Rattle.pair_movement.proofs.Rooms.{figure-held, figure-small, Read, read-refused, read-taken, total-is, read-whole, room-short, room-enough, left-is}
+use Rattle.pair_movement.proofs.Standing.{figure-stands}
 use Rattle.pair_load.proofs.PairEnds.{figure-refused, pair-is, half-is, moved-refused, moved-taken, refused-pair, refused-half, figure-kept, reply-is}
 use borrow.Author.Needs.{needs}
 use Rattle.pair_load.proofs.pair.load.Statement.{statement}

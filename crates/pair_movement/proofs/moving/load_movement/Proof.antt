@@ -20,15 +20,15 @@ use Rattle.movement_bridge.proofs.Tables.{countsRead, table-read, movement-hold
 use Rattle.pair_text.specs.Rules.{pairFault}
 use Rattle.pair_text.specs.Answer.{movementLeft}
 use Rattle.pair_bridge.specs.Names.{namesIn}
-use Rattle.pair_load.specs.Answers.{movedReply}
+use Rattle.pair_movement.specs.Moved.{movedReply}
 use Rattle.pair_rules.specs.Tables.{rowsFault, tablesFault}
 use Rattle.pair_rules.proofs.Faults.{held-tables}
-use Rattle.pair_load.proofs.Rooms.{movement-held, movement-small, Read, read-refused, read-taken, total-is, read-whole, room-short, room-enough, left-is}
-use Rattle.pair_load.proofs.Standing.{movement-stands}
-use Rattle.pair_load.proofs.MovementEnds.{names, names-some, tables-are, moved-unnamed, moved-rejected, moved-fault, moved-loaded, refused-both}
+use Rattle.pair_movement.proofs.Rooms.{movement-held, movement-small, Read, read-refused, read-taken, total-is, read-whole, room-short, room-enough, left-is}
+use Rattle.pair_movement.proofs.Standing.{movement-stands}
+use Rattle.pair_movement.proofs.MovementEnds.{names, names-some, tables-are, moved-unnamed, moved-rejected, moved-fault, moved-loaded, refused-both}
 use borrow.Author.Needs.{needs}
-use Rattle.pair_load.proofs.moving.load_movement.Statement.{statement}
-use Rattle.pair_load.proofs.moving.load_movement.Tie as tie
+use Rattle.pair_movement.proofs.moving.load_movement.Statement.{statement}
+use Rattle.pair_movement.proofs.moving.load_movement.Tie as tie
 
 named : (e : tie.Else1) → isSome (namesIn (now (e .before .before .before .before .args .figure)) (e .before .before .before .before .args .n) (now (e .before .before .before .before .args .table))) ≡ true
 named e = sym (e .before .has-names .ensures) ∙ not-false _ (e .if1 .left)

@@ -2,9 +2,9 @@
 use mathlib.Core.Path.{ap}
 use borrow.Author.Needs.{needs}
 use Rattle.table_counts.specs.declared.counts.MovementCounts.{MovementCounts}
-use Rattle.pair_load.specs.Answers.{movedReply}
-use Rattle.pair_load.proofs.moving.refused.Statement.{statement}
-use Rattle.pair_load.proofs.moving.refused.Tie as tie
+use Rattle.pair_movement.specs.Moved.{movedReply}
+use Rattle.pair_movement.proofs.moving.refused.Statement.{statement}
+use Rattle.pair_movement.proofs.moving.refused.Tie as tie
 
 no-movement-requires : tie.Need-no-movement-requires
 no-movement-requires c κs = search needs

@@ -24,7 +24,7 @@ use Rattle.pair_text.specs.Rules.{pairFault}
 use Rattle.pair_text.specs.Answer.{Loaded, refused, loaded, ifPaired, withMovement, movementLeft}
 use Rattle.pair_bridge.specs.Names.{namesFrom, allNamed, namesIn}
 use Rattle.pair_bridge.proofs.Names.{names-length, movement-names-in}
-use Rattle.pair_load.specs.Answers.{withNames, movedAnswer, movedReply}
+use Rattle.pair_movement.specs.Moved.{withNames, movedAnswer, movedReply}
 use Rattle.pair_rules.specs.Tables.{rowsFault}
 use Rattle.tra4_text.specs.Rules.{movementCounts}
 

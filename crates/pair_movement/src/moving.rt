@@ -1,7 +1,7 @@
 // Loads a movement with a figure that already stands in a table.
 ghost use mathlib.Core.Path.{_≡_};
 ghost use Rattle.pair_text.specs.Answer.{refused as refusedAt, movementLeft};
-ghost use Rattle.pair_load.specs.Answers.{movedReply, moving};
+ghost use Rattle.pair_movement.specs.Moved.{movedReply, moving};
 use pair_rules::has_names;
 use pair_rules::pair_fault;
 use refusal::Checked;

@@ -1,0 +1,4 @@
+-- Laws that belong to no one function.
+pub mod MovementEnds
+pub mod Rooms
+pub mod Standing
