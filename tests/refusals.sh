@@ -17,7 +17,7 @@ while read -r name; do
     case $name in
         *.antt) [ -f "crates/$name" ] || tell "no file $name" ;;
         *::*) grep -qE "fn ${name##*::}\b" crates/"${name%%::*}"/src/*.rt || tell "no function $name" ;;
-        */*) [ -f "crates/${name%%/*}/must-fail/${name##*/}.edit" ] || [ -f "edits/$name.edit" ] || tell "no edit $name" ;;
+        */*) [ -f "crates/${name%%/*}/must-fail/${name##*/}.edit" ] || tell "no edit $name" ;;
     esac
 done <<<"$named"
 
