@@ -6,7 +6,7 @@ use mathlib.Core.Option.{Option, none}
 use Prim.Native.Nat.{ℕ, suc, _-_}
 use native.Mathlib.Omega.{arith}
 use lib.IntN.{ℤ, pos}
-use lib.ListN.{getD, replicate}
+use lib.ListN.{length, getD, replicate}
 use mir.Syntax.{w64}
 use mir.Val.{SFits, toZ, ofZ}
 use mir.Facts.{toZ-ofZ}
@@ -24,9 +24,9 @@ use Rattle.parse_cursor.proofs.Behind.{given}
 use Rattle.parse_cursor.proofs.FieldSteps.{complete-seen, turn-ended, turn-full, turn-other, turn-chunk}
 use Rattle.bac6_text.specs.Figure.{Bone}
 use Rattle.bac6_text.specs.Grammar.{BoneField, numbersIn, boneOf, boneKinds}
-use Rattle.bac6_text.specs.Layout.{boneRow}
+use Rattle.bac6_text.specs.Layout.{nameNumbers, boneRow}
 use Rattle.bac6_rules.specs.Claims.{claimed}
-use Rattle.bac6_bone.specs.Into.{Yields, boneNumbers, boneState, boneTail, boneInto}
+use Rattle.bac6_bone.specs.Into.{Yields, three, boneNumbers, boneState, boneTail, boneInto}
 use Rattle.bac6_text.proofs.Whole.{WholeBone, fields-whole}
 use Rattle.bac6_bone.proofs.Values.{three-all}
 use Rattle.bac6_bone.proofs.Fields.{unread-state}
@@ -84,6 +84,10 @@ state-bits text r g n b s state f y = record { value = y .value; read = y .read;
 pub row-whole : (gs : List (Option BoneField)) → WholeBone (boneOf gs) → boneNumbers gs ≡ boneRow (boneOf gs) (pos 0)
 unfolding boneNumbers boneRow boneOf
 row-whole gs w = rw (three-all (numbersIn (getD gs 3 none)) (w .translate), three-all (numbersIn (getD gs 4 none)) (w .rotate), three-all (numbersIn (getD gs 5 none)) (w .handle))
+
+pub state-wide : (n : ℕ) (b : ℤ) (s : Bool × List ℤ) (fs : List (Option BoneField)) (seen : List Bool) (row : List ℤ) (c : Bool × List ℤ) → boneState n b s fs ≡ (seen, row, c) → length row ≡ 14
+unfolding boneState boneNumbers three nameNumbers
+state-wide n b s fs seen row c e = sym (ap (λ (p : List Bool × List ℤ × (Bool × List ℤ)). length (p .1)) e)
 
 -- ---- a whole bone
 

@@ -15,8 +15,7 @@ use parse_cursor::Cursor;
 use parse_numbers::Form;
 
 // The name's place and length, to the row.
-fn bone_name(text: &[u8], at: usize, row: &mut [i64]) -> Cursor
-    requires { ⌜ length (now row) ≡ 14 ⌝ }
+fn bone_name(text: &[u8], at: usize, row: &mut [i64; 14]) -> Cursor
     ensures { λ r. ⌜ Yields (now (text .entry)) r (insideAt boneKinds 0 (lexAt (now (text .entry)) at)) (putRow 0 (now (row .entry))) (now (row .exit)) ⌝ }
 {
     let inside = Cursor { refusal: 0, at };
@@ -33,8 +32,8 @@ fn bone_name(text: &[u8], at: usize, row: &mut [i64]) -> Cursor
 }
 
 // A flag, to the row.
-fn bone_flag(text: &[u8], at: usize, k: usize, row: &mut [i64]) -> Cursor
-    requires { ⌜ (length (now row) ≡ 14) × (0 < k) × (k < 3) ⌝ }
+fn bone_flag(text: &[u8], at: usize, k: usize, row: &mut [i64; 14]) -> Cursor
+    requires { ⌜ (0 < k) × (k < 3) ⌝ }
     ensures { λ r. ⌜ Yields (now (text .entry)) r (insideAt boneKinds k (lexAt (now (text .entry)) at)) (putRow k (now (row .entry))) (now (row .exit)) ⌝ }
 {
     let inside = Cursor { refusal: 0, at };
@@ -46,7 +45,7 @@ fn bone_flag(text: &[u8], at: usize, k: usize, row: &mut [i64]) -> Cursor
 }
 
 // Three numbers, to the row.
-fn bone_vector(text: &[u8], at: usize, k: usize, row: &mut [i64]) -> Cursor
+fn bone_vector(text: &[u8], at: usize, k: usize, row: &mut [i64; 14]) -> Cursor
     requires { ⌜ (3 ≤ k) × (k < 6) ⌝ }
     ensures { λ r. ⌜ Yields (now (text .entry)) r (insideAt boneKinds k (lexAt (now (text .entry)) at)) (putRow k (now (row .entry))) (now (row .exit)) ⌝ }
 {
@@ -57,8 +56,8 @@ fn bone_vector(text: &[u8], at: usize, k: usize, row: &mut [i64]) -> Cursor
 }
 
 // What stands in the chunk of kind k, to the row.
-fn bone_numbers(text: &[u8], at: usize, k: usize, row: &mut [i64]) -> Cursor
-    requires { ⌜ (length (now row) ≡ 14) × (k < 6) ⌝ }
+fn bone_numbers(text: &[u8], at: usize, k: usize, row: &mut [i64; 14]) -> Cursor
+    requires { ⌜ k < 6 ⌝ }
     ensures { λ r. ⌜ Yields (now (text .entry)) r (insideAt boneKinds k (lexAt (now (text .entry)) at)) (putRow k (now (row .entry))) (now (row .exit)) ⌝ }
 {
     if k == 0 {
@@ -76,12 +75,12 @@ fn bone_chunk(
     at: usize,
     points: usize,
     bone: i64,
-    row: &mut [i64],
+    row: &mut [i64; 14],
     seen: &mut [bool],
     owners: &mut [i64],
     fine: bool,
 ) -> Claims
-    requires { ⌜ (length (now row) ≡ 14) × (length (now seen) ≡ 7) ⌝ }
+    requires { ⌜ length (now seen) ≡ 7 ⌝ }
     ensures { λ r. ⌜ ChunkRead (now (text .entry)) at points bone (now (seen .entry), now (row .entry), (fine, now (owners .entry))) (r .cursor) (now (seen .exit), now (row .exit), (r .fine, now (owners .exit))) ⌝ }
 {
     let t = text_tokens::next(text, at);
@@ -119,7 +118,7 @@ fn bone_fields(
     at: usize,
     points: usize,
     bone: i64,
-    row: &mut [i64],
+    row: &mut [i64; 14],
     seen: &mut [bool],
     owners: &mut [i64],
     fine: bool,
@@ -187,6 +186,10 @@ pub fn bone_tail(
     let mut row = [0i64; 14];
     let mut seen = [false; 7];
     let r = bone_fields(text, d.at, points, bone, &mut row, &mut seen, owners, fine);
+    let e = r.cursor;
+    if e.refusal != 0 {
+        return r;
+    }
     table_rows::store(out, to, &row);
     r
 }

@@ -40,26 +40,23 @@ bone-numbers-requires c κs = search needs
 same-length : tie.Need-same-length
 same-length c = search needs
 
-same-length-2 : tie.Need-same-length-2
-same-length-2 c = search needs
-
 returns-3 : tie.Need-returns-3
 unfolding bytes
 returns-3 c =
-    let f = c .before .before .before in
+    let f = c .before .before in
     let u = f .before in
     let w = u .before .before .before in
-    λ fs s e. bone-took _ _ _ (w .before .before .next .ensures) _ (w .word-index .ensures) _ _ _ _ _ _ _ e (u .before .before .if1 .left) (w .before .before .before .before .before .pre .1) (u .if2 .left) _ _ _
-    (row-read _ _ _ _ _ _ _ _ _ (f .if3 .taken) (c .before .bone-numbers .ensures))
+    λ fs s e. bone-took _ _ _ (w .before .before .next .ensures) _ (w .word-index .ensures) _ _ _ _ _ _ _ e (u .before .before .if1 .left) (w .before .before .before .before .before .pre) (u .if2 .left) _ _ _
+    (row-read _ _ _ _ _ _ _ _ _ (f .if3 .taken) (c .bone-numbers .ensures))
 
 entries-requires : tie.Need-entries-requires
 entries-requires c κs = search needs
 
+same-length-2 : tie.Need-same-length-2
+same-length-2 c = search needs
+
 same-length-3 : tie.Need-same-length-3
 same-length-3 c = search needs
-
-same-length-4 : tie.Need-same-length-4
-same-length-4 c = search needs
 
 returns-4 : tie.Need-returns-4
 unfolding bytes
@@ -69,7 +66,7 @@ returns-4 c =
     let w = u .before .before .before in
     let a = w .before .before .before .before .before in
     let six : w .word-index .result ≡ 6 = omega (arith, f .if3 .left, u .before .before .if1 .left) in
-    λ fs s e. bone-took _ _ _ (w .before .before .next .ensures) _ (w .word-index .ensures) _ _ _ _ _ _ _ e (u .before .before .if1 .left) (a .pre .1) (u .if2 .left) _ _ _
+    λ fs s e. bone-took _ _ _ (w .before .before .next .ensures) _ (w .word-index .ensures) _ _ _ _ _ _ _ e (u .before .before .if1 .left) (w .before .before .before .before .before .pre) (u .if2 .left) _ _ _
     (entries-read-at _ _ _ _ _ _ _ _ _ six (c .before .entries .ensures ∙ entries-bits _ _ _ _ (a .fits .bone)))
 
 pub bone-chunk-spec : {M : Type 1} → statement M
@@ -85,9 +82,8 @@ bone-chunk-spec =
     slice-write-seen
     bone-numbers-requires
     same-length
-    same-length-2
     returns-3
     entries-requires
+    same-length-2
     same-length-3
-    same-length-4
     returns-4)

@@ -15,7 +15,6 @@ use Rattle.bac6_bone.proofs.bone.bone_fields.Tie as tie
 abbrev Inv-loop : tie.InvT-loop
 Inv-loop text at points bone row₀ seen₀ owners₀ fine from₀ left₀ free₀ needed row seen owners from left free =
     Midway text at left from points (toZ w64 bone) (fine, owners₀) (seen, row, (free, owners))
-    × (length row ≡ length row₀)
     × (length seen ≡ length seen₀)
     × (length owners ≡ length owners₀)
 
@@ -24,7 +23,7 @@ abbrev μ-loop : tie.MeasureT-loop
     left
 
 loop-holds : tie.Need-loop-holds Inv-loop μ-loop
-loop-holds c = let p = c .before .before .pre in (midway-start _ _ _ _ _ _ _ (p .0) (p .1), refl, refl, refl)
+loop-holds c = let p = c .before .before .pre in (midway-start _ _ _ _ _ _ _ (p .0) (p .1), refl, refl)
 
 next-requires : tie.Need-next-requires Inv-loop μ-loop
 next-requires c κs = search needs
@@ -44,9 +43,6 @@ same-length c = search needs
 same-length-2 : tie.Need-same-length-2 Inv-loop μ-loop
 same-length-2 c = search needs
 
-same-length-3 : tie.Need-same-length-3 Inv-loop μ-loop
-same-length-3 c = search needs
-
 returns : tie.Need-returns Inv-loop μ-loop
 unfolding lexemeOf lexeme
 returns c =
@@ -56,14 +52,11 @@ returns c =
     (state-bits _ _ _ _ _ _ _ (l .before .before .before .fits .bone)
     (turn-ends _ _ _ _ _ _ _ _ _ _ (l .loop .inv .0) _ (k .before .next .ensures) (sym (k .is-closing .ensures _) ∙ c .before .before .before .if1 .taken)))
 
+same-length-3 : tie.Need-same-length-3 Inv-loop μ-loop
+same-length-3 c = search needs
+
 same-length-4 : tie.Need-same-length-4 Inv-loop μ-loop
 same-length-4 c = search needs
-
-same-length-5 : tie.Need-same-length-5 Inv-loop μ-loop
-same-length-5 c = search needs
-
-same-length-6 : tie.Need-same-length-6 Inv-loop μ-loop
-same-length-6 c = search needs
 
 returns-2 : tie.Need-returns-2 Inv-loop μ-loop
 unfolding lexemeOf lexeme
@@ -76,14 +69,11 @@ returns-2 c =
 is-opening-requires : tie.Need-is-opening-requires Inv-loop μ-loop
 is-opening-requires c κs = search needs
 
-same-length-7 : tie.Need-same-length-7 Inv-loop μ-loop
-same-length-7 c = search needs
+same-length-5 : tie.Need-same-length-5 Inv-loop μ-loop
+same-length-5 c = search needs
 
-same-length-8 : tie.Need-same-length-8 Inv-loop μ-loop
-same-length-8 c = search needs
-
-same-length-9 : tie.Need-same-length-9 Inv-loop μ-loop
-same-length-9 c = search needs
+same-length-6 : tie.Need-same-length-6 Inv-loop μ-loop
+same-length-6 c = search needs
 
 returns-3 : tie.Need-returns-3 Inv-loop μ-loop
 unfolding lexemeOf lexeme
@@ -95,24 +85,18 @@ returns-3 c =
     (turn-stray _ _ _ _ _ _ _ _ _ _ (l .loop .inv .0) _ (k .before .next .ensures) (sym (k .is-closing .ensures _) ∙ o .before .before .if1 .left) (sym (o .is-opening .ensures _) ∙ not-true _ (c .if3 .taken)) _)
 
 bone-chunk-requires : tie.Need-bone-chunk-requires Inv-loop μ-loop
-bone-chunk-requires c κs =
-    let l = c .before .before .before .before .before .before .before .before .before in
-    let p = l .before .before .before .pre in
-    (l .loop .inv .1 ∙ ap length (p .0), l .loop .inv .2 ∙ ap length (p .1))
+bone-chunk-requires c κs = let l = c .before .before .before .before .before .before .before .before .before in l .loop .inv .1 ∙ ap length (l .before .before .before .pre .1)
 
-same-length-10 : tie.Need-same-length-10 Inv-loop μ-loop
-same-length-10 c = search needs
+same-length-7 : tie.Need-same-length-7 Inv-loop μ-loop
+same-length-7 c = search needs
 
-same-length-11 : tie.Need-same-length-11 Inv-loop μ-loop
-same-length-11 c = search needs
-
-same-length-12 : tie.Need-same-length-12 Inv-loop μ-loop
-same-length-12 c = search needs
+same-length-8 : tie.Need-same-length-8 Inv-loop μ-loop
+same-length-8 c = search needs
 
 returns-4 : tie.Need-returns-4 Inv-loop μ-loop
 unfolding lexemeOf lexeme
 returns-4 c =
-    let m = c .before .before .before .before .before .before .before in
+    let m = c .before .before .before .before .before .before in
     let o = m .before .before .before .before .before in
     let k = o .before .before .before in
     let l = k .before .before in
@@ -129,15 +113,14 @@ loop-less c = search needs
 loop-again : tie.Need-loop-again Inv-loop μ-loop
 unfolding lexemeOf lexeme
 loop-again c =
-    let m = c .before .before .before .before .before .before .before in
+    let m = c .before .before .before .before .before .before in
     let o = m .before .before .before .before .before in
     let k = o .before .before .before in
     let l = k .before .before in
     let w = l .loop .inv .0 in (
       turn-on _ _ _ _ _ _ _ _ _ _ w _ (k .before .next .ensures) _ _ (m .bone-chunk .ensures (w .fs) _ (w .stands)) (o .before .if2 .left) (sym (k .is-closing .ensures _) ∙ o .before .before .if1 .left) (sym (o .is-opening .ensures _) ∙ not-false _ (m .before .before .before .before .if3 .left)) (c .if4 .left),
-      m .bone-chunk .kept .1 .1 .1 .1 .0 ∙ l .loop .inv .1,
-      m .bone-chunk .kept .1 .1 .1 .1 .1 .0 ∙ l .loop .inv .2,
-      m .bone-chunk .kept .1 .1 .1 .1 .1 .1 .0 ∙ l .loop .inv .3,
+      m .bone-chunk .kept .1 .1 .1 .1 .1 .0 ∙ l .loop .inv .1,
+      m .bone-chunk .kept .1 .1 .1 .1 .1 .1 .0 ∙ l .loop .inv .2,
     )
 
 pub bone-fields-spec : {M : Type 1} → statement M
@@ -153,21 +136,17 @@ bone-fields-spec =
     closed-at-requires
     same-length
     same-length-2
-    same-length-3
     returns
+    same-length-3
     same-length-4
-    same-length-5
-    same-length-6
     returns-2
     is-opening-requires
-    same-length-7
-    same-length-8
-    same-length-9
+    same-length-5
+    same-length-6
     returns-3
     bone-chunk-requires
-    same-length-10
-    same-length-11
-    same-length-12
+    same-length-7
+    same-length-8
     returns-4
     sub-left
     loop-less

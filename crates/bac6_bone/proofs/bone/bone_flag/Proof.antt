@@ -19,14 +19,11 @@ add-value c = search needs
 mul-value : tie.Need-mul-value
 mul-value c = search needs
 
-slice-set-from-value : tie.Need-slice-set-from-value
-slice-set-from-value c = search needs
+element-set-from-value : tie.Need-element-set-from-value
+element-set-from-value c = search needs
 
 closing-requires : tie.Need-closing-requires
 closing-requires c κs = search needs
-
-same-length : tie.Need-same-length
-same-length c = search needs
 
 returns : tie.Need-returns
 unfolding bytes
@@ -34,7 +31,7 @@ returns c =
     let o = c .before .before .before in
     let p = o .before .before .before .pre in
     rw (toZ-ofZ {w = w64} {z = o .one-of .result .value} (record { sfits = c .before .struct-told .given .1 .0 .1 }))
-    (flag-read _ _ _ _ _ _ (o .one-of .ensures) (c .closing .ensures) _ (p .1) (p .2))
+    (flag-read _ _ _ _ _ _ (o .one-of .ensures) (c .closing .ensures) _ (p .0) (p .1))
 
 pub bone-flag-spec : {M : Type 1} → statement M
 bone-flag-spec =
@@ -44,7 +41,6 @@ bone-flag-spec =
     one-of-requires
     add-value
     mul-value
-    slice-set-from-value
+    element-set-from-value
     closing-requires
-    same-length
     returns)

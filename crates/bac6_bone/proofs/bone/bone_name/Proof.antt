@@ -25,14 +25,11 @@ cast-size c =
     let h = name-bounds _ _ _ _ (c .before .before .before .before .before .name .ensures) (c .before .before .if1 .left) in
     record { sfits = omega arith }
 
-slice-set-from-place : tie.Need-slice-set-from-place
-slice-set-from-place c = search needs
+element-set-from-place : tie.Need-element-set-from-place
+element-set-from-place c = search needs
 
-slice-set-from-size : tie.Need-slice-set-from-size
-slice-set-from-size c = search needs
-
-same-length : tie.Need-same-length
-same-length c = search needs
+element-set-from-size : tie.Need-element-set-from-size
+element-set-from-size c = search needs
 
 returns-2 : tie.Need-returns-2
 returns-2 c =
@@ -50,7 +47,6 @@ bone-name-spec =
     returns
     cast-place
     cast-size
-    slice-set-from-place
-    slice-set-from-size
-    same-length
+    element-set-from-place
+    element-set-from-size
     returns-2)

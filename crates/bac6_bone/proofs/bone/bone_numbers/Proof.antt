@@ -6,26 +6,17 @@ use Rattle.bac6_bone.proofs.bone.bone_numbers.Tie as tie
 bone-name-requires : tie.Need-bone-name-requires
 bone-name-requires c κs = search needs
 
-same-length : tie.Need-same-length
-same-length c = search needs
-
 returns : tie.Need-returns
-returns c = rw (c .before .before .before .if1 .taken) (c .before .bone-name .ensures)
+returns c = rw (c .before .before .if1 .taken) (c .bone-name .ensures)
 
 bone-flag-requires : tie.Need-bone-flag-requires
 bone-flag-requires c κs = search needs
-
-same-length-2 : tie.Need-same-length-2
-same-length-2 c = search needs
 
 returns-2 : tie.Need-returns-2
 returns-2 c = search needs
 
 bone-vector-requires : tie.Need-bone-vector-requires
 bone-vector-requires c κs = search needs
-
-same-length-3 : tie.Need-same-length-3
-same-length-3 c = search needs
 
 returns-3 : tie.Need-returns-3
 returns-3 c = search needs
@@ -35,11 +26,8 @@ bone-numbers-spec =
     tie.close
     (tie.spec
     bone-name-requires
-    same-length
     returns
     bone-flag-requires
-    same-length-2
     returns-2
     bone-vector-requires
-    same-length-3
     returns-3)

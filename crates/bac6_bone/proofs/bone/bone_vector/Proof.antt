@@ -17,16 +17,12 @@ numbers-requires c κs = search needs
 closing-requires : tie.Need-closing-requires
 closing-requires c κs = search needs
 
-same-length : tie.Need-same-length
-same-length c = search needs
-
 returns : tie.Need-returns
 unfolding formNamed
 returns c =
-    let n = c .before .before in
+    let n = c .before in
     let p = n .before .before .before .pre in
     vector-read _ _ _ _ _ _ (c .closing .ensures) _ (p .0) (p .1) (n .numbers .ensures .0)
 
 pub bone-vector-spec : {M : Type 1} → statement M
-bone-vector-spec =
-    tie.close (tie.spec sub-to mul-to numbers-requires closing-requires same-length returns)
+bone-vector-spec = tie.close (tie.spec sub-to mul-to numbers-requires closing-requires returns)
