@@ -1,5 +1,5 @@
 -- `read_into` refuses a text that its shape or a rule refuses, and sets it down else.
-use mathlib.Core.Path.{_≡_, refl, sym, _∙_}
+use mathlib.Core.Path.{_≡_, _∙_}
 use mir.Syntax.{w64}
 use mir.Facts.{toZ-ofZ}
 use lib.ListN.{length}
