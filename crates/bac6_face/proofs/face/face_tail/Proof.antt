@@ -3,10 +3,10 @@ use mir.Syntax.{w64}
 use mir.Val.{SFits}
 use Rattle.text_bytes.specs.Bytes.{bytes}
 use Rattle.parse_numbers.specs.Answers.{formNamed}
-use Rattle.bac6_faces.proofs.Faces.{zero-bits, other-bits, by-first, by-second, face-joined}
+use Rattle.bac6_face.proofs.Faces.{zero-bits, other-bits, by-first, by-second, face-joined}
 use borrow.Author.Needs.{needs}
-use Rattle.bac6_faces.proofs.face.face_tail.Statement.{statement}
-use Rattle.bac6_faces.proofs.face.face_tail.Tie as tie
+use Rattle.bac6_face.proofs.face.face_tail.Statement.{statement}
+use Rattle.bac6_face.proofs.face.face_tail.Tie as tie
 
 slice-aggregate-keyword : tie.Need-slice-aggregate-keyword
 slice-aggregate-keyword c = search needs

@@ -25,7 +25,7 @@ use Rattle.parse_cursor.proofs.Ranges.{numbers-give, row-of-gives}
 use Rattle.parse_words.proofs.Vocabulary.{wordList, one-word}
 use Rattle.bac6_text.specs.Grammar.{face, faceOf, faceBy}
 use Rattle.bac6_text.specs.Layout.{faceRow, corners}
-use Rattle.bac6_faces.specs.Into.{cornersOf, cornersInto, faceTail, faceInto}
+use Rattle.bac6_face.specs.Into.{cornersOf, cornersInto, faceTail, faceInto}
 
 -- ---- the row of eleven
 

@@ -18,11 +18,12 @@ use Rattle.parse_cursor.proofs.Counts.{alive, falls}
 use Rattle.parse_rows.proofs.Folds.{folded-end, folded-more, folded-fall}
 use Rattle.bac6_text.specs.Grammar.{face}
 use Rattle.bac6_faces.specs.Bounds.{Bounded, Fewer}
-use Rattle.bac6_faces.specs.Into.{faceTail, faceStep}
-use Rattle.bac6_faces.proofs.Faces.{face-opens}
+use Rattle.bac6_faces.specs.Into.{faceStep}
+use Rattle.bac6_face.specs.Into.{faceTail}
+use Rattle.bac6_face.proofs.Faces.{face-opens}
 use Rattle.bac6_faces.proofs.FaceLists.{face-keeps, face-takes, face-stepped}
-use Rattle.bac6_faces.proofs.face.face_list.Statement.{statement}
-use Rattle.bac6_faces.proofs.face.face_list.Tie as tie
+use Rattle.bac6_faces.proofs.list.face_list.Statement.{statement}
+use Rattle.bac6_faces.proofs.list.face_list.Tie as tie
 
 abbrev Inv-loop : tie.InvT-loop
 Inv-loop text group out₀ count d₀ n₀ out d n =

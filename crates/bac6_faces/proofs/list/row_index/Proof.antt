@@ -3,8 +3,8 @@ use Prim.Native.Nat.{_*_, _≤_, _<_}
 use native.Mathlib.Nat.{div-lt-iff-lt-mul, le-div-iff-mul-le, min-eq-right, le-of-lt, le-refl}
 use native.Mathlib.Omega.{arith}
 use borrow.Author.Needs.{needs}
-use Rattle.bac6_faces.proofs.face.row_index.Statement.{statement}
-use Rattle.bac6_faces.proofs.face.row_index.Tie as tie
+use Rattle.bac6_faces.proofs.list.row_index.Statement.{statement}
+use Rattle.bac6_faces.proofs.list.row_index.Tie as tie
 
 div-if1 : tie.Need-div-if1
 div-if1 c = search needs

@@ -1,9 +1,9 @@
 -- `corners` fills a row of eleven and sets it down in the table.
 use Rattle.parse_numbers.specs.Answers.{formNamed}
-use Rattle.bac6_faces.proofs.Faces.{blank-bits, corners-joined}
+use Rattle.bac6_face.proofs.Faces.{blank-bits, corners-joined}
 use borrow.Author.Needs.{needs}
-use Rattle.bac6_faces.proofs.face.corners.Statement.{statement}
-use Rattle.bac6_faces.proofs.face.corners.Tie as tie
+use Rattle.bac6_face.proofs.face.corners.Statement.{statement}
+use Rattle.bac6_face.proofs.face.corners.Tie as tie
 
 array-set-from-row : tie.Need-array-set-from-row
 array-set-from-row c = search needs
