@@ -1,6 +1,4 @@
 // Reads the bones of a figure: their rows, and the claims of their vertex entries.
-mod bone;
-mod entry;
 mod list;
 
 pub use list::Boned;

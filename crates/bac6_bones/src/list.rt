@@ -5,8 +5,10 @@ ghost use lib.ListN.{length};
 ghost use Rattle.parse_cursor.specs.Cursors.{reads, from};
 ghost use Rattle.parse_rows.specs.Folds.{folded, stepped};
 ghost use Rattle.bac6_text.specs.Grammar.{bone as boneRead};
-ghost use Rattle.bac6_bones.specs.Into.{faultOf, boneTail, boneStep, bonesInto};
-use crate::bone::bone_tail;
+ghost use Rattle.bac6_bones.specs.Into.{faultOf, boneStep, bonesInto};
+ghost use Rattle.bac6_bone.specs.Into.{boneTail};
+use bac6_bone::bone_tail;
+use bac6_entries::Claims;
 use parse_cursor::Cursor;
 
 // How many bones were read, a cursor past them, and the row of the first whose claims are at fault, if there is one (rule 11);
@@ -34,7 +36,7 @@ fn next_bone(
     ensures { λ r. ⌜ reads (now (text .entry)) (r .cursor) (r .count, now (table .exit), (faultOf (r .faulty) (r .fault), now (owners .exit))) ≡ from (now (text .entry)) c (stepped (boneStep points) boneTail (count, now (table .entry), (faultOf faulty fault, now (owners .entry)))) ⌝ }
     ensures { λ r. ⌜ r .count ≡ count + 1 ⌝ }
 {
-    let m = bone_tail(text, c, points, count as i64, table, to, owners, !faulty);
+    let m: Claims = bone_tail(text, c, points, count as i64, table, to, owners, !faulty);
     let d = m.cursor;
     if faulty {
         return Boned {

@@ -1,14 +1,13 @@
 -- Faces one after the other, each a row more in the table.
-use mathlib.Core.Path.{_≡_, refl, ap, sym, _∙_}
+use mathlib.Core.Path.{_≡_, refl, ap, _∙_}
 use mathlib.Core.List.{List, [], _∷_}
-use mathlib.Core.Bool.{Bool, true, false}
 use Prim.Native.Nat.{ℕ, zero, suc, _+_, _*_, min}
 use lib.IntN.{ℤ}
 use lib.ListN.{length}
 use Rattle.text_numbers.specs.Numbers.{INT}
 use Rattle.text_tokens.specs.Tokens.{Lexeme}
 use Rattle.parse_cursor.specs.declared.cursor.Cursor.{Cursor}
-use Rattle.parse_cursor.specs.Readers.{got, Reader, after, _>>=_, _>>_, pure, open-bracket, oneOf, row}
+use Rattle.parse_cursor.specs.Readers.{got, after, _>>=_, _>>_, pure, open-bracket, oneOf}
 use Rattle.parse_cursor.specs.Cursors.{reads, from}
 use Rattle.table_rows.specs.Overlay.{overlayAt}
 use Rattle.parse_rows.specs.Folds.{stepped, rowStep}
@@ -18,7 +17,8 @@ use Rattle.table_rows.proofs.Tables.{overlayAt-same}
 use Rattle.parse_cursor.proofs.Many.{Keeps, Takes, takes-keeps, pure-keeps, bind-keeps, bind-takes, then-keeps, then-takes, keyword-takes, opened-takes, open-takes, close-takes, closed-keeps, number-takes, numbers-keeps, one-of-takes, row-takes}
 use Rattle.bac6_text.specs.Grammar.{face, faceOf, faceBy}
 use Rattle.bac6_text.specs.Layout.{faceRow}
-use Rattle.bac6_faces.specs.Into.{faceTail, faceInto, faceStep}
+use Rattle.bac6_faces.specs.Into.{faceStep}
+use Rattle.bac6_face.specs.Into.{faceTail, faceInto}
 
 -- ---- a face takes a token
 

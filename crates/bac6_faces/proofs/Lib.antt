@@ -1,6 +1,5 @@
 -- Laws that belong to no one function.
 pub mod FaceLists
-pub mod Faces
 pub mod Groups
 pub mod PolygonSteps
 pub mod Rows

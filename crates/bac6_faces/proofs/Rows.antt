@@ -2,7 +2,7 @@
 use mathlib.Core.Path.{_≡_, refl, ap, sym, _∙_}
 use mathlib.Core.List.{List, [], _∷_, _++_, map}
 use Prim.Native.Nat.{ℕ, zero, suc, _+_, _*_}
-use native.Mathlib.Nat.{add-zero, zero-add}
+use native.Mathlib.Nat.{zero-add}
 use native.Mathlib.Numerals.{add-one}
 use native.Mathlib.Omega.{arith}
 use lib.IntN.{ℤ, pos, negsuc}
@@ -12,7 +12,6 @@ use Rattle.table_rows.specs.Flat.{flat}
 use Rattle.parse_rows.specs.Folds.{fold, rowStep}
 use Rattle.parse_rows.proofs.Folds.{fold-rows}
 use Rattle.parse_rows.proofs.Widths.{Wide, wide-append}
-use Rattle.table_rows.proofs.Tables.{overlayAt-none, overlayAt-append}
 use Rattle.bac6_text.specs.Figure.{Face, Group}
 use Rattle.bac6_text.specs.Layout.{corners, faceRow, groupRows, groupNames, nameNumbers}
 use Rattle.bac6_faces.specs.Into.{faceStep, groupStep, allRows, tablesOf}

@@ -2,9 +2,9 @@
 ghost use mathlib.Core.Path.{_≡_};
 ghost use Rattle.parse_cursor.specs.Cursors.{reads, from};
 ghost use Rattle.bac6_faces.specs.Into.{polygonsInto};
-use crate::face::face_list;
 use crate::group::Polygons;
 use crate::group::group_list;
+use crate::list::face_list;
 use parse_cursor::Cursor;
 
 // The faces of `Polygons`, and those of the groups of `DynamicPolygons` after them; the rest of a table is left as it is, and rows past its end are dropped.

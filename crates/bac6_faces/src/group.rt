@@ -7,8 +7,8 @@ ghost use Rattle.parse_rows.specs.Folds.{stepped, folded};
 ghost use Rattle.bac6_text.specs.Grammar.{group as groupRead};
 ghost use Rattle.bac6_faces.specs.Into.{groupTail, groupStep};
 ghost use Rattle.bac6_faces.specs.Bounds.{Bounded, Fewer};
-use crate::face::face_list;
-use crate::face::row_index;
+use crate::list::face_list;
+use crate::list::row_index;
 use parse_cursor::Cursor;
 use parse_rows::Counted;
 

@@ -17,7 +17,8 @@ use Rattle.table_rows.proofs.Tables.{overlayAt-none, overlayAt-append}
 use Rattle.tra4_text.specs.Movement.{Bone}
 use Rattle.tra4_text.specs.Rules.{allKeys, channelsOf}
 use Rattle.tra4_text.specs.Layout.{boneRow, boneRows}
-use Rattle.tra4_bones.specs.Into.{Kept, keyCount, boneKept, boneStep}
+use Rattle.tra4_bones.specs.Into.{boneStep}
+use Rattle.tra4_bone.specs.Into.{Kept, keyCount, boneKept}
 use Rattle.parse_rows.proofs.Widths.{Wide, flat-append, flat-length}
 use Rattle.tra4_text.proofs.Whole.{WholeBone}
 use Rattle.tra4_text.proofs.Layouts.{keys-append, keys-wide, row-length}

@@ -27,7 +27,8 @@ use Rattle.tra4_text.specs.Movement.{Bone, Movement}
 use Rattle.tra4_text.specs.Grammar.{movement}
 use Rattle.tra4_text.specs.Rules.{allKeys, channelsOf, keyRows, countsOf, movementCounts, movementFault}
 use Rattle.tra4_text.specs.Layout.{nameNumbers, boneRows, layoutOf}
-use Rattle.tra4_bones.specs.Into.{Kept, kept, boneStep}
+use Rattle.tra4_bones.specs.Into.{boneStep}
+use Rattle.tra4_bone.specs.Into.{Kept, kept}
 use Rattle.tra4_parse.specs.declared.shape.Parsed.{Parsed}
 use Rattle.tra4_parse.specs.Parse.{MovementValue, movementValue, movementInto}
 use Rattle.tra4_rules.specs.Order.{tablesFault}

@@ -1,5 +1,5 @@
 -- What parsing leaves in the tables is what the grammar's movement has: both sequences of readers are walked side by side.
-use mathlib.Core.Path.{_≡_, refl, ap, sym, _∙_}
+use mathlib.Core.Path.{_≡_, refl, sym, _∙_}
 use mathlib.Core.List.{List, []}
 use mathlib.Core.Option.{some}
 use Prim.Native.Nat.{ℕ}
@@ -10,17 +10,18 @@ use Rattle.text_tokens.specs.Tokens.{Lexeme, lex, lexAt}
 use Rattle.parse_cursor.specs.declared.cursor.Cursor.{Cursor}
 use Rattle.parse_cursor.specs.Readers.{Name, absent, Got, got, refused, Reader, after, _>>=_, _>>_, pure, head, opened, closed, string, number, optional, trailing, many, close-bracket, text-end}
 use Rattle.parse_cursor.specs.Places.{placeOf, optionalName}
-use Rattle.parse_cursor.specs.Cursors.{reads, from}
+use Rattle.parse_cursor.specs.Cursors.{reads}
 use Rattle.table_rows.specs.Overlay.{overlayAt}
 use Rattle.table_rows.specs.Flat.{flat}
 use Rattle.parse_rows.specs.Folds.{fold}
 use Rattle.parse_cursor.proofs.Steps.{from-on, from-off}
 use Rattle.parse_cursor.proofs.Many.{not-got, got-value}
 use Rattle.parse_cursor.proofs.Given.{before}
-use Rattle.parse_cursor.proofs.Sequences.{into-then, into-bind, into-end}
+use Rattle.parse_cursor.proofs.Sequences.{into-then, into-bind}
 use Rattle.tra4_text.specs.Movement.{Bone, Pattern, Movement}
 use Rattle.tra4_text.specs.Grammar.{bone, pattern, repeated⁺, movement}
-use Rattle.tra4_bones.specs.Into.{Kept, boneStep, bonesInto}
+use Rattle.tra4_bones.specs.Into.{boneStep, bonesInto}
+use Rattle.tra4_bone.specs.Into.{Kept}
 use Rattle.tra4_parse.specs.Patterns.{patternsInto}
 use Rattle.tra4_parse.specs.Parse.{MovementValue, movementValue, movementInto}
 use Rattle.tra4.specs.Parse.{valueOf}

@@ -6,7 +6,7 @@ use Prim.Native.Nat.{ℕ, _+_, _*_, _≤_}
 use lib.Dec.{leb}
 use lib.IntN.{ℤ, pos}
 use lib.ListN.{length, take}
-use Rattle.refusal.specs.Faults.{Fault, clear, fault}
+use Rattle.refusal.specs.Faults.{Fault}
 use Rattle.table_rows.specs.Overlay.{overlayAt}
 use Rattle.refusal.specs.Outcomes.{Outcome, rejected, accepted}
 use Rattle.tra4_text.specs.Movement.{Movement}

@@ -57,9 +57,9 @@ fn key_count(over: bool, keys: usize) -> usize
 fn read_into(
     text: &[u8],
     table: &mut [i64],
-    bone_rows: &mut [i64],
-    key_rows: &mut [i64],
-    pattern_rows: &mut [i64],
+    bone_rows: &mut [i64; 2816],
+    key_rows: &mut [i64; 8192],
+    pattern_rows: &mut [i64; 768],
 ) -> MovementAnswer
     requires { ⌜ Blank (now text) (now «bone_rows») (now «key_rows») (now «pattern_rows») ⌝ }
     ensures answer { λ r. ⌜ r ≡ answerOf (fitted layoutOf (length (now (table .entry))) (shaped movementFault (movement (lex (now (text .entry)))))) ⌝ }

@@ -4,27 +4,28 @@ use mathlib.Core.List.{List, [], _∷_, map}
 use mathlib.Core.Bool.{Bool, true, false}
 use Prim.Native.Nat.{ℕ, _+_, _*_, min}
 use Prim.Native.String.{String}
-use mathlib.Core.Option.{none, some}
+use mathlib.Core.Option.{some}
 use lib.Dec.{leb}
 use lib.IntN.{ℤ}
 use lib.ListN.{length}
 use Rattle.text_bytes.specs.Bytes.{bytes}
 use Rattle.text_numbers.specs.Numbers.{FLOAT}
-use Rattle.text_tokens.specs.Tokens.{Lexeme, lexAt}
+use Rattle.text_tokens.specs.Tokens.{Lexeme}
 use Rattle.parse_cursor.specs.declared.cursor.Cursor.{Cursor}
-use Rattle.parse_cursor.specs.Readers.{Got, got, Reader, after, _>>=_, _>>_, pure, opened, openedOf, many⁺, rowOf, absent, closed, string, optional}
+use Rattle.parse_cursor.specs.Readers.{Got, got, Reader, after, _>>=_, _>>_, pure, opened, openedOf, absent}
 use Rattle.parse_cursor.specs.Cursors.{from, reads}
 use Rattle.parse_rows.specs.Folds.{fold, stepped}
-use Rattle.parse_cursor.specs.Fields.{kind, fields}
+use Rattle.parse_cursor.specs.Fields.{kind}
 use Rattle.parse_cursor.proofs.Steps.{join, seq, from-same}
-use Rattle.parse_cursor.proofs.Binds.{after-after, after-same, then-bind}
+use Rattle.parse_cursor.proofs.Binds.{after-after, after-same}
 use Rattle.table_rows.proofs.Tables.{overlayAt-same}
 use Rattle.parse_cursor.proofs.Many.{Keeps, takes-keeps, pure-keeps, bind-keeps, closed-keeps, string-takes, optional-keeps, many⁺-takes, row-of-takes}
 use Rattle.parse_cursor.proofs.FieldKeeps.{AllKeep, fields-keeps}
 use Rattle.tra4_text.specs.Movement.{Bone}
 use Rattle.tra4_text.specs.Grammar.{key, channel, channelNames, channelKinds, keysIn, bone, repeated, repeated⁺}
 use Rattle.tra4_text.specs.Layout.{boneRow}
-use Rattle.tra4_bones.specs.Into.{Kept, kept, keyCount, boneKept, boneStep, boneInto, moreInto, bonesInto}
+use Rattle.tra4_bones.specs.Into.{boneStep, moreInto, bonesInto}
+use Rattle.tra4_bone.specs.Into.{Kept, kept, keyCount, boneKept, boneInto}
 
 -- ---- a bone takes no token back
 

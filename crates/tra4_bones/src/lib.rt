@@ -1,7 +1,4 @@
 // The bones of a movement, their keys laid by channel number.
-mod bone;
-mod channel;
-mod laying;
 mod list;
 
 pub use list::Boned;

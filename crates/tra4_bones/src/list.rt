@@ -1,13 +1,15 @@
 // The bones of a movement: one or more, their rows and their keys.
 ghost use mathlib.Core.Path.{_≡_};
-ghost use Prim.Native.Nat.{_+_, _*_, _^_, _<_, _≤_, min};
+ghost use Prim.Native.Nat.{_+_, _*_, _^_, _<_, min};
 ghost use lib.ListN.{length};
 ghost use Rattle.parse_cursor.specs.Cursors.{reads, from};
 ghost use Rattle.parse_rows.specs.Folds.{stepped};
 ghost use Rattle.tra4_text.specs.Grammar.{bone as boneRead};
-ghost use Rattle.tra4_bones.specs.Into.{kept, boneStep, moreInto, bonesInto};
-use crate::bone::bone_tail;
+ghost use Rattle.tra4_bones.specs.Into.{boneStep, moreInto, bonesInto};
+ghost use Rattle.tra4_bone.specs.Into.{kept};
 use parse_cursor::Cursor;
+use tra4_bone::bone_tail;
+use tra4_channels::Keyed;
 
 // How many bones were read, how many keys they have, whether those are more than 4,096, and a cursor past the bones; where there are
 // too many keys, how many is free, and where the cursor has refused, all but the cursor is.
@@ -28,13 +30,12 @@ fn next_bone(
     key_rows: &mut [i64],
     keys: usize,
     over: bool,
-    scratch: &mut [i64],
 ) -> Boned
-    requires { ⌜ (min to (length (now «bone_rows»)) ≡ min (count * 22) (length (now «bone_rows»))) × (count < 2 ^ 63) × (keys ≤ 4096) × (length (now scratch) ≡ 8192) ⌝ }
+    requires { ⌜ (min to (length (now «bone_rows»)) ≡ min (count * 22) (length (now «bone_rows»))) × (count < 2 ^ 63) ⌝ }
     ensures { λ r. ⌜ reads (now (text .entry)) (r .cursor) (r .count, kept (r .over) (now («bone_rows» .exit)) (r .keys) (now («key_rows» .exit))) ≡ from (now (text .entry)) c (stepped boneStep boneRead (count, kept over (now («bone_rows» .entry)) keys (now («key_rows» .entry)))) ⌝ }
-    ensures { λ r. ⌜ (r .count ≡ count + 1) × (r .keys ≤ 4096) ⌝ }
+    ensures { λ r. ⌜ r .count ≡ count + 1 ⌝ }
 {
-    let b = bone_tail(text, c, bone_rows, to, key_rows, keys, over, scratch);
+    let b: Keyed = bone_tail(text, c, bone_rows, to, key_rows, keys, over);
     let d = b.cursor;
     Boned {
         cursor: d,
@@ -45,14 +46,8 @@ fn next_bone(
 }
 
 // The bones after the first.
-fn more_bones(
-    text: &[u8],
-    first: Boned,
-    bone_rows: &mut [i64],
-    key_rows: &mut [i64],
-    scratch: &mut [i64],
-) -> Boned
-    requires { ⌜ (first .count ≡ 1) × (first .keys ≤ 4096) × (length (now scratch) ≡ 8192) ⌝ }
+fn more_bones(text: &[u8], first: Boned, bone_rows: &mut [i64], key_rows: &mut [i64]) -> Boned
+    requires { ⌜ first .count ≡ 1 ⌝ }
     ensures { λ r. ⌜ reads (now (text .entry)) (r .cursor) (r .count, kept (r .over) (now («bone_rows» .exit)) (r .keys) (now («key_rows» .exit))) ≡ from (now (text .entry)) (first .cursor) (moreInto (first .count, kept (first .over) (now («bone_rows» .entry)) (first .keys) (now («key_rows» .entry)))) ⌝ }
 {
     let mut d = first.cursor;
@@ -75,17 +70,7 @@ fn more_bones(
         if start.refusal != 0 {
             return so_far;
         }
-        let b = next_bone(
-            text,
-            start,
-            count,
-            bone_rows,
-            i,
-            key_rows,
-            keys,
-            over,
-            scratch,
-        );
+        let b = next_bone(text, start, count, bone_rows, i, key_rows, keys, over);
         d = b.cursor;
         if d.refusal != 0 {
             return b;
@@ -102,18 +87,7 @@ fn more_bones(
 pub fn bones(text: &[u8], c: Cursor, bone_rows: &mut [i64], key_rows: &mut [i64]) -> Boned
     ensures { λ r. ⌜ reads (now (text .entry)) (r .cursor) (r .count, kept (r .over) (now («bone_rows» .exit)) (r .keys) (now («key_rows» .exit))) ≡ from (now (text .entry)) c (bonesInto (now («bone_rows» .entry)) (now («key_rows» .entry))) ⌝ }
 {
-    let mut scratch = [0i64; 8192];
     let start = parse_cursor::opened(text, c, b"bone");
-    let first = next_bone(
-        text,
-        start,
-        0,
-        bone_rows,
-        0,
-        key_rows,
-        0,
-        false,
-        &mut scratch,
-    );
-    more_bones(text, first, bone_rows, key_rows, &mut scratch)
+    let first = next_bone(text, start, 0, bone_rows, 0, key_rows, 0, false);
+    more_bones(text, first, bone_rows, key_rows)
 }

@@ -5,7 +5,8 @@ use lib.IntN.{ℤ}
 use Rattle.text_numbers.specs.Numbers.{INT}
 use Rattle.parse_cursor.specs.Readers.{Reader, _>>=_, _>>_, pure, head, opened, closed, number, close-bracket, text-end}
 use Rattle.parse_cursor.specs.Places.{optionalName}
-use Rattle.tra4_bones.specs.Into.{Kept, bonesInto}
+use Rattle.tra4_bones.specs.Into.{bonesInto}
+use Rattle.tra4_bone.specs.Into.{Kept}
 use Rattle.tra4_parse.specs.Patterns.{patternsInto}
 
 -- the total of frames; the name's place and length; how many bones there are and what is kept of them; how many pattern lines, and their table

@@ -2,7 +2,7 @@
 ghost use mathlib.Core.Path.{_≡_};
 ghost use Rattle.text_tokens.specs.Tokens.{lex};
 ghost use Rattle.parse_cursor.specs.Cursors.{reads};
-ghost use Rattle.tra4_bones.specs.Into.{kept};
+ghost use Rattle.tra4_bone.specs.Into.{kept};
 ghost use Rattle.tra4_parse.specs.Parse.{movementValue, movementInto};
 use crate::pattern::patterns;
 use parse_cursor::Cursor;

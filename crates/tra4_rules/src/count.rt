@@ -8,7 +8,7 @@ ghost use Rattle.table_counts.specs.Counts.{movementMosts};
 use refusal::Checked;
 
 // The first list with more rows than it may have.
-pub fn counts_fault(bones: usize, keys: usize, patterns: usize) -> Checked
+pub(crate) fn counts_fault(bones: usize, keys: usize, patterns: usize) -> Checked
     ensures { λ r. ⌜ refusal r ≡ tooMany 0 (bones ∷ keys ∷ patterns ∷ []) movementMosts ⌝ }
 {
     if 128 < bones {
@@ -33,7 +33,7 @@ pub fn counts_fault(bones: usize, keys: usize, patterns: usize) -> Checked
 }
 
 // Whether the total is 1 to 32,767.
-pub fn total_fault(total: i64) -> Checked
+pub(crate) fn total_fault(total: i64) -> Checked
     ensures { λ r. ⌜ refusal r ≡ totalFault total ⌝ }
 {
     if total < 1 {

@@ -10,13 +10,13 @@ ghost use Rattle.tra4_rules.specs.Frames.{widthOf, numberOf, rowFine, be
 use refusal::Checked;
 
 // The rows that have a frame, in column 0.
-pub enum Timed {
+pub(crate) enum Timed {
     Key,
     Pattern,
 }
 
 // The first of `count` rows of 3 that breaks rule 16; a row that is not whole is not looked at.
-pub fn patterns_fault(total: i64, patterns: &[i64], count: usize) -> Checked
+pub(crate) fn patterns_fault(total: i64, patterns: &[i64], count: usize) -> Checked
     ensures { λ r. ⌜ refusal r ≡ patternsFault total (rowsOf 3 count (now (patterns .entry))) ⌝ }
 {
     frames_fault(Timed::Pattern, total, patterns, 0, count)
@@ -24,7 +24,13 @@ pub fn patterns_fault(total: i64, patterns: &[i64], count: usize) -> Checked
 
 // The first of the rows from `row` up to `end` that breaks its rule, where the table begins with them.
 // A row that is not whole is not looked at.
-pub fn frames_fault(kind: Timed, total: i64, table: &[i64], row: usize, end: usize) -> Checked
+pub(crate) fn frames_fault(
+    kind: Timed,
+    total: i64,
+    table: &[i64],
+    row: usize,
+    end: usize,
+) -> Checked
     ensures { λ r. ⌜ refusal r ≡ framesFault (numberOf kind) (rowFine kind total) none row (rowsOf (widthOf kind) (end - row) (now (table .entry))) ⌝ }
 {
     let width = width_of(kind);

@@ -16,7 +16,7 @@ enum Walk {
 }
 
 // The first key of the channels of `bone_count` rows of 22 that breaks the rule; a row that is not whole is not looked at.
-pub fn keys_fault(total: i64, bones: &[i64], bone_count: usize, keys: &[i64]) -> Checked
+pub(crate) fn keys_fault(total: i64, bones: &[i64], bone_count: usize, keys: &[i64]) -> Checked
     ensures { λ r. ⌜ refusal r ≡ keysFault total 0 (channelsIn «bone_count» (now (bones .entry)) (now (keys .entry))) ⌝ }
 {
     let mut row = 0;

@@ -4,8 +4,4 @@ mod frame;
 mod key;
 mod order;
 
-pub use count::counts_fault;
-pub use count::total_fault;
-pub use frame::patterns_fault;
-pub use key::keys_fault;
 pub use order::first_fault;

@@ -12,7 +12,8 @@ use Rattle.parse_cursor.proofs.Steps.{passed}
 use Rattle.parse_cursor.proofs.Counts.{lexAt-count}
 use Rattle.parse_rows.proofs.Folds.{folded-end, folded-more, folded-fall}
 use Rattle.bac6_text.specs.Grammar.{bone}
-use Rattle.bac6_bones.specs.Into.{faultOf, boneTail, boneStep}
+use Rattle.bac6_bones.specs.Into.{faultOf, boneStep}
+use Rattle.bac6_bone.specs.Into.{boneTail}
 use Rattle.bac6_bones.proofs.Lists.{bone-opens, bone-keeps, bone-takes, item-falls, folded-refused}
 use Rattle.bac6_bones.proofs.list.more_bones.Statement.{statement}
 use Rattle.bac6_bones.proofs.list.more_bones.Tie as tie

@@ -1,5 +1,5 @@
 -- `read` refuses a text that its check refuses, and answers as its shape else.
-use mathlib.Core.Path.{refl, ap, sym, _∙_}
+use mathlib.Core.Path.{ap, sym, _∙_}
 use lib.ListN.{length}
 use denote.Ref.{now}
 use Rattle.text_check.specs.Answers.{formatNamed}

@@ -1,5 +1,5 @@
 -- `read_into` refuses a text that its shape or a rule refuses, and sets it down else.
-use mathlib.Core.Path.{_≡_, refl, sym, _∙_}
+use mathlib.Core.Path.{_≡_, _∙_}
 use mir.Syntax.{w64}
 use mir.Facts.{toZ-ofZ}
 use lib.ListN.{length}
@@ -13,6 +13,13 @@ use borrow.Author.Needs.{needs}
 use Rattle.tra4.proofs.reader.read_into.Statement.{statement}
 use Rattle.tra4.proofs.reader.read_into.Tie as tie
 
+-- the rules' answer is that of the rules over what was parsed
+ruled : (f : tie.After-first-fault) → refusal (f .first-fault .result) ≡ rulesFault (f .before .before .before .before .before .before .before .before .before .before .before .before .parse .result) (f .before .before .before .before .before .before .before .before .before .before .before .before .parse .last .1 .0) (f .before .before .before .before .before .before .before .before .before .before .before .before .parse .last .1 .1 .0) (f .before .before .before .before .before .before .before .before .before .before .before .before .parse .last .1 .1 .1 .0)
+unfolding rulesFault
+ruled f =
+    let s = f .before .before .before .before .before .before .before .before .before .before .before .before in
+    rw (toZ-ofZ {w = w64} {z = s .parse .result .total} (record { sfits = f .before .before .before .before .before .before .before .before .struct-told .given .1 .0 .1 }), f .before .before .before .before .before .before .before .key-count .ensures) at (f .first-fault .ensures)
+
 parse-requires : tie.Need-parse-requires
 parse-requires c κs = search needs
 
@@ -22,26 +29,10 @@ cast-refused c = search needs
 refused-requires : tie.Need-refused-requires
 refused-requires c κs = search needs
 
-same-length : tie.Need-same-length
-same-length c = search needs
-
-same-length-2 : tie.Need-same-length-2
-same-length-2 c = search needs
-
-same-length-3 : tie.Need-same-length-3
-same-length-3 c = search needs
-
--- the rules' answer is that of the rules over what was parsed
-ruled : (f : tie.After-first-fault) → refusal (f .first-fault .result) ≡ rulesFault (f .before .before .before .before .before .before .before .before .before .before .before .before .parse .result) (f .before .before .before .before .before .before .before .before .before .before .before .before .parse .last .1 .0) (f .before .before .before .before .before .before .before .before .before .before .before .before .parse .last .1 .1 .0) (f .before .before .before .before .before .before .before .before .before .before .before .before .parse .last .1 .1 .1 .0)
-unfolding rulesFault
-ruled f =
-    let s = f .before .before .before .before .before .before .before .before .before .before .before .before in
-    rw (toZ-ofZ {w = w64} {z = s .parse .result .total} (record { sfits = f .before .before .before .before .before .struct-told .given .1 .0 .1 }), f .before .before .before .before .key-count .ensures) at (f .first-fault .ensures)
-
 returns : tie.Need-returns
 unfolding parsedAs
 returns c =
-    let s = c .before .before .before .before .before .before .before .before in
+    let s = c .before .before .before .before .before in
     let a = s .before .before .before .before .before in
     let e = shape-refused _ _ _ _ (a .pre) _ _ _ _ (s .parse .ensures) (c .before .before .if1 .taken) in
     (c .refused .ensures ∙ refused-answer e (length (now (a .args .table))), refused-table e (now (a .args .table)))
@@ -67,18 +58,9 @@ enum-told c = search needs
 set-down-requires : tie.Need-set-down-requires
 unfolding parsedAs
 set-down-requires c κs =
-    let f = c .before .before .before .before .before .before in
+    let f = c .before .before .before .before .before .before .before .before .before in
     let s = f .before .before .before .before .before .before .before .before .before .before .before .before in
-    rows-fit _ _ _ _ (s .before .before .before .before .before .pre) _ _ _ _ (s .parse .ensures) (f .before .before .before .before .before .before .if1 .left) (clear-by (ruled f) (c .before .before .before .before .enum-told .given .1))
-
-same-length-4 : tie.Need-same-length-4
-same-length-4 c = search needs
-
-same-length-5 : tie.Need-same-length-5
-same-length-5 c = search needs
-
-same-length-6 : tie.Need-same-length-6
-same-length-6 c = search needs
+    rows-fit _ _ _ _ (s .before .before .before .before .before .pre) _ _ _ _ (s .parse .ensures) (f .before .before .before .before .before .before .before .before .before .if1 .left) (clear-by (ruled f) (c .before .before .before .before .before .before .before .enum-told .given .1))
 
 returns-2 : tie.Need-returns-2
 unfolding parsedAs
@@ -86,30 +68,21 @@ returns-2 c =
     let f = c .before .before .before .before in
     let s = f .before .before .before .before .before .before .before .before .before .before .before .before in
     let a = s .before .before .before .before .before in
-    let e = rule-refused _ _ _ _ (a .pre) _ _ _ _ (s .parse .ensures) (f .before .before .before .before .before .before .if1 .left) (refused-by (ruled f) (c .before .before .number .given .1)) in
+    let e = rule-refused _ _ _ _ (a .pre) _ _ _ _ (s .parse .ensures) (f .before .before .before .before .before .before .before .before .before .if1 .left) (refused-by (ruled f) (c .before .before .number .given .1)) in
     (c .refused2 .ensures ∙ refused-answer e (length (now (a .args .table))), refused-table e (now (a .args .table)))
 
-same-length-7 : tie.Need-same-length-7
-same-length-7 c = search needs
-
-same-length-8 : tie.Need-same-length-8
-same-length-8 c = search needs
-
-same-length-9 : tie.Need-same-length-9
-same-length-9 c = search needs
-
-same-length-10 : tie.Need-same-length-10
-same-length-10 c = search needs
+same-length : tie.Need-same-length
+same-length c = search needs
 
 returns-3 : tie.Need-returns-3
 unfolding parsedAs
 returns-3 c =
-    let f = c .before .before .before .before .before .before .before .before in
+    let f = c .before .before .before .before .before .before .before .before .before .before .before in
     let s = f .before .before .before .before .before .before .before .before .before .before .before .before in
     let a = s .before .before .before .before .before in
-    let h = clear-by (ruled f) (c .before .before .before .before .before .before .enum-told .given .1) in
+    let h = clear-by (ruled f) (c .before .before .before .before .before .before .before .before .before .enum-told .given .1) in
     let d = c .before .set-down .ensures in
-    (d .0 ∙ down-answer _ _ _ _ (a .pre) _ _ _ _ (s .parse .ensures) (f .before .before .before .before .before .before .if1 .left) h (length (now (a .args .table))), d .1 ∙ down-table _ _ _ _ (a .pre) _ _ _ _ (s .parse .ensures) (f .before .before .before .before .before .before .if1 .left) h (now (a .args .table)))
+    (d .0 ∙ down-answer _ _ _ _ (a .pre) _ _ _ _ (s .parse .ensures) (f .before .before .before .before .before .before .before .before .before .if1 .left) h (length (now (a .args .table))), d .1 ∙ down-table _ _ _ _ (a .pre) _ _ _ _ (s .parse .ensures) (f .before .before .before .before .before .before .before .before .before .if1 .left) h (now (a .args .table)))
 
 pub read-into-spec : {M : Type 1} → statement M
 read-into-spec =
@@ -118,9 +91,6 @@ read-into-spec =
     parse-requires
     cast-refused
     refused-requires
-    same-length
-    same-length-2
-    same-length-3
     returns
     key-count-requires
     first-fault-requires
@@ -129,12 +99,6 @@ read-into-spec =
     refused-requires-2
     enum-told
     set-down-requires
-    same-length-4
-    same-length-5
-    same-length-6
     returns-2
-    same-length-7
-    same-length-8
-    same-length-9
-    same-length-10
+    same-length
     returns-3)

@@ -1,5 +1,5 @@
 -- `set_down` lays the parts where they fit, and refuses where not.
-use mathlib.Core.Path.{refl, ap, sym, _∙_}
+use mathlib.Core.Path.{ap, sym, _∙_}
 use mathlib.Core.List.{List, [], _∷_}
 use lib.IntN.{ℤ, pos}
 use native.Mathlib.Omega.{arith}

@@ -11,14 +11,8 @@ slice-aggregate-opened c = search needs
 opened-requires : tie.Need-opened-requires
 opened-requires c κs = search needs
 
-slice-aggregate-next-bone : tie.Need-slice-aggregate-next-bone
-slice-aggregate-next-bone c = search needs
-
 next-bone-requires : tie.Need-next-bone-requires
 next-bone-requires c κs = search needs
-
-slice-aggregate-more-bones : tie.Need-slice-aggregate-more-bones
-slice-aggregate-more-bones c = search needs
 
 more-bones-requires : tie.Need-more-bones-requires
 more-bones-requires c κs = search needs
@@ -32,9 +26,9 @@ same-length-2 c = search needs
 returns : tie.Need-returns
 unfolding bytes
 returns c =
-    let m = c .before .before .before in
-    let n = m .before .before .before .before .before .before .before in
-    bones-from _ _ _ _ _ _ _ _ _ (n .before .before .before .before .opened .ensures) (n .next-bone .ensures .0) (m .more-bones .ensures)
+    let m = c .before .before in
+    let n = m .before .before .before .before .before in
+    bones-from _ _ _ _ _ _ _ _ _ (n .before .before .before .opened .ensures) (n .next-bone .ensures .0) (m .more-bones .ensures)
 
 pub bones-spec : {M : Type 1} → statement M
 bones-spec =
@@ -42,9 +36,7 @@ bones-spec =
     (tie.spec
     slice-aggregate-opened
     opened-requires
-    slice-aggregate-next-bone
     next-bone-requires
-    slice-aggregate-more-bones
     more-bones-requires
     same-length
     same-length-2

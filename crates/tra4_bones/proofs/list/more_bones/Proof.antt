@@ -12,24 +12,23 @@ use Rattle.parse_cursor.specs.Cursors.{from}
 use Rattle.parse_cursor.proofs.Steps.{passed}
 use Rattle.parse_cursor.proofs.Counts.{lexAt-count, lexAt-some}
 use Rattle.tra4_text.specs.Grammar.{bone}
-use Rattle.tra4_bones.specs.Into.{kept, boneStep, moreInto}
+use Rattle.tra4_bones.specs.Into.{boneStep, moreInto}
+use Rattle.tra4_bone.specs.Into.{kept}
 use Rattle.tra4_bones.proofs.Repeats.{repeats-end, repeats-more, repeats-refused, repeats-fall, start-falls}
 use Rattle.tra4_bones.proofs.Lists.{bone-keeps}
 use Rattle.tra4_bones.proofs.list.more_bones.Statement.{statement}
 use Rattle.tra4_bones.proofs.list.more_bones.Tie as tie
 
 abbrev Inv-loop : tie.InvT-loop
-Inv-loop text bone-rows₀ key-rows₀ scratch₀ d₀ count₀ keys₀ over₀ i₀ t15 bone-rows key-rows scratch d count keys over i =
+Inv-loop text bone-rows₀ key-rows₀ d₀ count₀ keys₀ over₀ i₀ t14 bone-rows key-rows d count keys over i =
     (from text d₀ (moreInto (count₀, kept over₀ bone-rows₀ keys₀ key-rows₀)) ≡ from text d (moreInto (count, kept over bone-rows keys key-rows)))
     × (length bone-rows ≡ length bone-rows₀)
     × (length key-rows ≡ length key-rows₀)
-    × (length scratch ≡ 8192)
     × (min i (length bone-rows) ≡ min (count * 22) (length bone-rows))
     × (count + length (lexAt text (d .at)) ≤ 2 + length text)
-    × (keys ≤ 4096)
 
 abbrev μ-loop : tie.MeasureT-loop
-μ-loop text bone-rows₀ key-rows₀ scratch₀ d₀ count₀ keys₀ over₀ i₀ t15 bone-rows key-rows scratch d count keys over i =
+μ-loop text bone-rows₀ key-rows₀ d₀ count₀ keys₀ over₀ i₀ t14 bone-rows key-rows d count keys over i =
     length (lexAt text (d .at))
 
 not-present : (v : Bool) → not v ≡ true → v ≡ false
@@ -47,16 +46,16 @@ abbrev After : Type 0
 After = tie.After-next-bone Inv-loop μ-loop
 
 -- a turn: the bones left are one fewer
-turn : (m : After) → from (now (m .before .before .before .before .before .before .before .before .before .before .before .before .before .before .args .text)) (m .before .before .before .before .before .before .before .before .before .before .before .loop .d) (moreInto (m .before .before .before .before .before .before .before .before .before .before .before .loop .count, kept (m .before .before .before .before .before .before .before .before .before .before .before .loop .over) (m .before .before .before .before .before .before .before .before .before .before .before .loop .bone-rows) (m .before .before .before .before .before .before .before .before .before .before .before .loop .keys) (m .before .before .before .before .before .before .before .before .before .before .before .loop .key-rows))) ≡ from (now (m .before .before .before .before .before .before .before .before .before .before .before .before .before .before .args .text)) (m .next-bone .result .cursor) (moreInto (m .next-bone .result .count, kept (m .next-bone .result .over) (m .next-bone .last .1 .1 .1 .0) (m .next-bone .result .keys) (m .next-bone .last .1 .1 .1 .1 .1 .0)))
+turn : (m : After) → from (now (m .before .before .before .before .before .before .before .before .before .before .before .before .before .args .text)) (m .before .before .before .before .before .before .before .before .before .before .loop .d) (moreInto (m .before .before .before .before .before .before .before .before .before .before .loop .count, kept (m .before .before .before .before .before .before .before .before .before .before .loop .over) (m .before .before .before .before .before .before .before .before .before .before .loop .bone-rows) (m .before .before .before .before .before .before .before .before .before .before .loop .keys) (m .before .before .before .before .before .before .before .before .before .before .loop .key-rows))) ≡ from (now (m .before .before .before .before .before .before .before .before .before .before .before .before .before .args .text)) (m .next-bone .result .cursor) (moreInto (m .next-bone .result .count, kept (m .next-bone .result .over) (m .next-bone .last .1 .1 .1 .0) (m .next-bone .result .keys) (m .next-bone .last .1 .1 .1 .1 .1 .0)))
 unfolding moreInto bytes
-turn m = repeats-more "bone" boneStep bone bone-keeps _ _ _ _ (m .before .before .before .before .before .before .before .before .before .optional .ensures) _ _ _ (m .next-bone .ensures .0) (present _ (m .before .before .before .before .before .before .if1 .left))
+turn m = repeats-more "bone" boneStep bone bone-keeps _ _ _ _ (m .before .before .before .before .before .before .before .before .optional .ensures) _ _ _ (m .next-bone .ensures .0) (present _ (m .before .before .before .before .before .if1 .left))
 
-falling : (m : After) → m .next-bone .result .cursor .refusal ≡ 0 → length (lexAt (now (m .before .before .before .before .before .before .before .before .before .before .before .before .before .before .args .text)) (m .next-bone .result .cursor .at)) < length (lexAt (now (m .before .before .before .before .before .before .before .before .before .before .before .before .before .before .args .text)) (m .before .before .before .before .before .before .before .before .before .before .before .loop .d .at))
+falling : (m : After) → m .next-bone .result .cursor .refusal ≡ 0 → length (lexAt (now (m .before .before .before .before .before .before .before .before .before .before .before .before .before .args .text)) (m .next-bone .result .cursor .at)) < length (lexAt (now (m .before .before .before .before .before .before .before .before .before .before .before .before .before .args .text)) (m .before .before .before .before .before .before .before .before .before .before .loop .d .at))
 unfolding bytes
-falling m o = repeats-fall "bone" boneStep bone bone-keeps _ _ _ _ (m .before .before .before .before .before .before .before .before .before .optional .ensures) _ (present _ (m .before .before .before .before .before .before .if1 .left)) _ _ (m .next-bone .ensures .0) o
+falling m o = repeats-fall "bone" boneStep bone bone-keeps _ _ _ _ (m .before .before .before .before .before .before .before .before .optional .ensures) _ (present _ (m .before .before .before .before .before .if1 .left)) _ _ (m .next-bone .ensures .0) o
 
 loop-holds : tie.Need-loop-holds Inv-loop μ-loop
-loop-holds c = let p = c .before .before .pre in (refl, refl, refl, p .2, rw (p .0), rw (p .0) (omega (arith, lexAt-count (now (c .before .before .args .text)) (c .before .before .args .first .cursor .at))), p .1)
+loop-holds c = let p = c .before .before .pre in (refl, refl, refl, rw p, rw p (omega (arith, lexAt-count (now (c .before .before .args .text)) (c .before .before .args .first .cursor .at))))
 
 slice-aggregate-optional : tie.Need-slice-aggregate-optional Inv-loop μ-loop
 slice-aggregate-optional c = search needs
@@ -70,23 +69,17 @@ same-length c = search needs
 same-length-2 : tie.Need-same-length-2 Inv-loop μ-loop
 same-length-2 c = search needs
 
-same-length-3 : tie.Need-same-length-3 Inv-loop μ-loop
-same-length-3 c = search needs
-
 returns : tie.Need-returns Inv-loop μ-loop
 unfolding bytes moreInto
 returns c =
     let n = c .before .before .before in
     sym (n .before .before .loop .inv .0 ∙ (repeats-end "bone" boneStep bone bone-keeps _ _ _ _ (n .optional .ensures) _ (not-present _ (c .if1 .taken))))
 
+same-length-3 : tie.Need-same-length-3 Inv-loop μ-loop
+same-length-3 c = search needs
+
 same-length-4 : tie.Need-same-length-4 Inv-loop μ-loop
 same-length-4 c = search needs
-
-same-length-5 : tie.Need-same-length-5 Inv-loop μ-loop
-same-length-5 c = search needs
-
-same-length-6 : tie.Need-same-length-6 Inv-loop μ-loop
-same-length-6 c = search needs
 
 returns-2 : tie.Need-returns-2 Inv-loop μ-loop
 unfolding bytes moreInto
@@ -97,45 +90,40 @@ returns-2 c =
 next-bone-requires : tie.Need-next-bone-requires Inv-loop μ-loop
 unfolding bytes
 next-bone-requires c κs =
-    let n = c .before .before .before .before .before .before .before .before in
+    let n = c .before .before .before .before .before .before .before in
     let l = n .before .before .loop in
-    let two = start-falls "bone" boneStep bone bone-keeps (now (n .before .before .before .before .before .args .text)) (l .d) (n .optional .result .cursor) (n .optional .result .present) (n .optional .ensures) (l .count, kept (l .over) (l .bone-rows) (l .keys) (l .key-rows)) (present _ (c .before .before .before .before .before .if1 .left)) (c .before .before .before .if2 .left) in
+    let two = start-falls "bone" boneStep bone bone-keeps (now (n .before .before .before .before .before .args .text)) (l .d) (n .optional .result .cursor) (n .optional .result .present) (n .optional .ensures) (l .count, kept (l .over) (l .bone-rows) (l .keys) (l .key-rows)) (present _ (c .before .before .before .before .if1 .left)) (c .before .before .if2 .left) in
     let some = lexAt-some (now (n .before .before .before .before .before .args .text)) (n .optional .result .cursor .at) in
-    (l .inv .4, omega arith, l .inv .6, l .inv .3)
+    (l .inv .3, omega arith)
 
-same-length-7 : tie.Need-same-length-7 Inv-loop μ-loop
-same-length-7 c = search needs
+same-length-5 : tie.Need-same-length-5 Inv-loop μ-loop
+same-length-5 c = search needs
 
-same-length-8 : tie.Need-same-length-8 Inv-loop μ-loop
-same-length-8 c = search needs
-
-same-length-9 : tie.Need-same-length-9 Inv-loop μ-loop
-same-length-9 c = search needs
+same-length-6 : tie.Need-same-length-6 Inv-loop μ-loop
+same-length-6 c = search needs
 
 returns-3 : tie.Need-returns-3 Inv-loop μ-loop
 returns-3 c =
-    let m = c .before .before .before .before .before .before in
-    passed _ _ _ _ (c .if3 .taken) ∙ sym (m .before .before .before .before .before .before .before .before .before .before .before .loop .inv .0 ∙ turn m)
+    let m = c .before .before .before .before .before in
+    passed _ _ _ _ (c .if3 .taken) ∙ sym (m .before .before .before .before .before .before .before .before .before .before .loop .inv .0 ∙ turn m)
 
 advance-requires : tie.Need-advance-requires Inv-loop μ-loop
 advance-requires c κs = search needs
 
 loop-less : tie.Need-loop-less Inv-loop μ-loop
-loop-less c = falling (c .before .before .before .before .before .before .before) (c .before .if3 .left)
+loop-less c = falling (c .before .before .before .before .before .before) (c .before .if3 .left)
 
 loop-again : tie.Need-loop-again Inv-loop μ-loop
 loop-again c =
-    let m = c .before .before .before .before .before .before .before in
-    let l = m .before .before .before .before .before .before .before .before .before .before .before .loop in
+    let m = c .before .before .before .before .before .before in
+    let l = m .before .before .before .before .before .before .before .before .before .before .loop in
     let fewer = falling m (c .before .if3 .left) in
-    let one = m .next-bone .ensures .1 .0 in (
+    let one = m .next-bone .ensures .1 in (
       l .inv .0 ∙ turn m,
       m .next-bone .kept .1 .1 .1 .0 ∙ l .inv .1,
       m .next-bone .kept .1 .1 .1 .1 .1 .0 ∙ l .inv .2,
-      m .next-bone .kept .1 .1 .1 .1 .1 .1 .1 .1 .0 ∙ l .inv .3,
-      rows-on (c .advance .result) (l .i) (l .count) _ _ _ (m .next-bone .kept .1 .1 .1 .0) one (l .inv .4) (c .advance .ensures),
+      rows-on (c .advance .result) (l .i) (l .count) _ _ _ (m .next-bone .kept .1 .1 .1 .0) one (l .inv .3) (c .advance .ensures),
       omega arith,
-      m .next-bone .ensures .1 .1,
     )
 
 pub more-bones-spec : {M : Type 1} → statement M
@@ -149,16 +137,13 @@ more-bones-spec =
     optional-requires
     same-length
     same-length-2
-    same-length-3
     returns
+    same-length-3
     same-length-4
-    same-length-5
-    same-length-6
     returns-2
     next-bone-requires
-    same-length-7
-    same-length-8
-    same-length-9
+    same-length-5
+    same-length-6
     returns-3
     advance-requires
     loop-less

@@ -8,8 +8,8 @@ use Rattle.tra4_bones.proofs.list.next_bone.Tie as tie
 bone-tail-requires : tie.Need-bone-tail-requires
 bone-tail-requires c κs = search needs
 
-add-t18 : tie.Need-add-t18
-add-t18 c = search needs
+add-t15 : tie.Need-add-t15
+add-t15 c = search needs
 
 same-length : tie.Need-same-length
 same-length c = search needs
@@ -17,14 +17,10 @@ same-length c = search needs
 same-length-2 : tie.Need-same-length-2
 same-length-2 c = search needs
 
-same-length-3 : tie.Need-same-length-3
-same-length-3 c = search needs
-
 returns : tie.Need-returns
 returns c =
-    let b = c .before .before .before .before in
-    (next-step _ _ _ _ _ _ _ _ _ _ (b .before .before .before .before .before .pre .0) (b .bone-tail .ensures .0), (refl, b .bone-tail .ensures .1))
+    let b = c .before .before .before in
+    (next-step _ _ _ _ _ _ _ _ _ _ (b .before .before .before .before .pre .0) (b .bone-tail .ensures), refl)
 
 pub next-bone-spec : {M : Type 1} → statement M
-next-bone-spec =
-    tie.close (tie.spec bone-tail-requires add-t18 same-length same-length-2 same-length-3 returns)
+next-bone-spec = tie.close (tie.spec bone-tail-requires add-t15 same-length same-length-2 returns)

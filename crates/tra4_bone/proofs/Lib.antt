@@ -1,0 +1,5 @@
+-- Laws that belong to no one function.
+pub mod Gathered
+pub mod Keeping
+pub mod Ranges
+pub mod Whole
