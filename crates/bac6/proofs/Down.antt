@@ -13,9 +13,9 @@ use Rattle.bac6_text.specs.Figure.{Bone, Figure}
 use Rattle.refusal.specs.Rules.{tooMany}
 use Rattle.bac6_text.specs.Rules.{facesOf, flagsOf, wholeList, parentsIn, verticesFault, bonesFault, figureFault, countsOf}
 use Rattle.bac6_text.specs.Layout.{nameNumbers, boneRow, boneRows, ownersFrom, faceRows, groupNames, layoutOf}
-use Rattle.bac6_rules.specs.Claims.{claimedBones}
+use Rattle.bac6_bone_rules.specs.Claims.{claimedBones}
 use Rattle.bac6_rules.specs.Order.{BonesLeft}
-use Rattle.bac6_rules.proofs.Claims.{owners-length, claims-owners}
+use Rattle.bac6_bone_rules.proofs.Claims.{owners-length, claims-owners}
 use Rattle.bac6_text.proofs.Rows.{face-rows-wide, face-rows-length, bones-wide, bones-count, flags-count}
 use Rattle.bac6_text.proofs.Parents.{whole-length}
 use Rattle.refusal.proofs.Rules.{or-first, or-second}

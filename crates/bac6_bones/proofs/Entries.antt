@@ -19,7 +19,7 @@ use Rattle.parse_cursor.proofs.Counts.{falls}
 use mir.Syntax.{w64}
 use mir.Val.{SFits, toZ, ofZ}
 use mir.Facts.{toZ-ofZ}
-use Rattle.bac6_rules.specs.Claims.{isFree, afterClaim, claimedOne, claimed}
+use Rattle.bac6_bone_rules.specs.Claims.{isFree, afterClaim, claimedOne, claimed}
 use Rattle.bac6_bones.specs.Into.{entriesInto}
 
 -- an entry, by whether every entry before it was free

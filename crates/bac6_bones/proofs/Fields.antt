@@ -21,7 +21,7 @@ use Rattle.parse_cursor.proofs.FieldFlags.{flags-length, flag-unread, flag-read
 use Rattle.parse_words.proofs.Vocabulary.{chunk-other, chunk-again, chunk-took}
 use Rattle.bac6_text.specs.Grammar.{BoneField, nameIn, flagIn, numbersIn, boneKinds}
 use Rattle.bac6_text.specs.Layout.{nameNumbers}
-use Rattle.bac6_rules.specs.Claims.{claimed}
+use Rattle.bac6_bone_rules.specs.Claims.{claimed}
 use Rattle.bac6_bones.specs.Into.{Yields, three, boneNumbers, boneState, putRow}
 
 -- the keywords as one text, and no two are the same

@@ -25,7 +25,7 @@ use Rattle.parse_cursor.proofs.FieldSteps.{complete-seen, turn-ended, turn-full
 use Rattle.bac6_text.specs.Figure.{Bone}
 use Rattle.bac6_text.specs.Grammar.{BoneField, numbersIn, boneOf, boneKinds}
 use Rattle.bac6_text.specs.Layout.{boneRow}
-use Rattle.bac6_rules.specs.Claims.{claimed}
+use Rattle.bac6_bone_rules.specs.Claims.{claimed}
 use Rattle.bac6_bones.specs.Into.{Yields, boneNumbers, boneState, boneTail, boneInto}
 use Rattle.bac6_text.proofs.Whole.{WholeBone, fields-whole}
 use Rattle.bac6_bones.proofs.Values.{three-all}

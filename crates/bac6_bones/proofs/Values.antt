@@ -25,7 +25,7 @@ use Rattle.table_rows.proofs.Tables.{overlayAt-cons, overlayAt-none}
 use Rattle.parse_cursor.proofs.Ranges.{numbers-give}
 use Rattle.bac6_text.specs.Grammar.{BoneField, named, flag, several, nameIn, flagIn, numbersIn, boneKinds, truth, word}
 use Rattle.bac6_text.specs.Layout.{nameNumbers}
-use Rattle.bac6_rules.specs.Claims.{claimed}
+use Rattle.bac6_bone_rules.specs.Claims.{claimed}
 use Rattle.bac6_bones.specs.Into.{Yields, entriesInto, three, putRow}
 use Rattle.parse_cursor.proofs.Counts.{alive}
 use Rattle.parse_cursor.proofs.Behind.{given}

@@ -19,7 +19,7 @@ use Rattle.bac6_text.specs.Grammar.{BoneField, nameIn, flagIn, numbersIn, boneO
 use Rattle.bac6_text.specs.Layout.{nameNumbers, boneRow}
 use Rattle.table_rows.specs.Flat.{flat}
 use Rattle.refusal.specs.Faults.{Fault, clear, fault}
-use Rattle.bac6_rules.specs.Claims.{claimed, claimedBone, claimedBones}
+use Rattle.bac6_bone_rules.specs.Claims.{claimed, claimedBone, claimedBones}
 
 -- where a reader leaves a cursor: the value that it read, and what the code keeps of that where the cursor has not refused
 pub record Yields {A S : Type 0} (text : List ℕ) (r : Cursor) (g : Got A) (f : A → S) (s : S) : Type 0 where

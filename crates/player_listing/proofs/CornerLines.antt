@@ -13,10 +13,10 @@ use Rattle.report.specs.Text.{line}
 use Rattle.report.specs.Output.{output, appended}
 use Rattle.report.specs.Lists.{appendedEach, textOf, shown}
 use Rattle.report.proofs.Texts.{AllFit, line-most, shown-fits}
-use Rattle.player.specs.Faces.{CornerOf}
-use Rattle.player.specs.Answers.{cornered}
-use Rattle.player.specs.declared.corners.Cornered.{Cornered}
-use Rattle.player.specs.declared.corners.Cornered.the-variants.{Refused, Plain, Textured}
+use Rattle.player_spec.specs.Faces.{CornerOf}
+use Rattle.player_corners.specs.Answers.{cornered}
+use Rattle.player_corners.specs.declared.corners.Cornered.{Cornered}
+use Rattle.player_corners.specs.declared.corners.Cornered.the-variants.{Refused, Plain, Textured}
 use Rattle.player_listing.specs.Corners.{uvNumbers, cornerNumbers, cornerLines}
 use Rattle.player_listing.proofs.Turns.{one-line}
 

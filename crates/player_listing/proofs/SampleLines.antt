@@ -13,10 +13,10 @@ use Rattle.report.specs.Text.{numeral, line}
 use Rattle.report.specs.Output.{Output, output, appended}
 use Rattle.report.specs.Lists.{appendedEach, textOf, shown}
 use Rattle.report.proofs.Texts.{AllFit, line-most, shown-fits, each-within, each-whole}
-use Rattle.player.specs.Fractions.{Fraction}
-use Rattle.player.specs.Answers.{sampled}
-use Rattle.player.specs.declared.sampling.Sampled.{Sampled}
-use Rattle.player.specs.declared.sampling.Sampled.the-variants.{Refused, Value}
+use Rattle.player_spec.specs.Fractions.{Fraction}
+use Rattle.player_samples.specs.Answers.{sampled}
+use Rattle.player_samples.specs.declared.sampling.Sampled.{Sampled}
+use Rattle.player_samples.specs.declared.sampling.Sampled.the-variants.{Refused, Value}
 use Rattle.player_listing.proofs.Turns.{one-line}
 use Rattle.player_listing.specs.Samples.{refusedLine, sampleLine, fractionParts, fractionText}
 

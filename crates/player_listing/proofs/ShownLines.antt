@@ -14,9 +14,9 @@ use Rattle.report.specs.Text.{line}
 use Rattle.report.specs.Output.{output, appended}
 use Rattle.report.specs.Lists.{appendedEach, textOf, shown}
 use Rattle.report.proofs.Texts.{AllFit, line-most, shown-fits}
-use Rattle.player.specs.Answers.{showed}
-use Rattle.player.specs.declared.flags.Visibility.{Visibility}
-use Rattle.player.specs.declared.flags.Visibility.the-variants.{Refused, Shown, Hidden}
+use Rattle.player_shown.specs.Answers.{showed}
+use Rattle.player_shown.specs.declared.flags.Visibility.{Visibility}
+use Rattle.player_shown.specs.declared.flags.Visibility.the-variants.{Refused, Shown, Hidden}
 use Rattle.player_listing.specs.Samples.{refusedLine}
 use Rattle.player_listing.specs.Faces.{flagNumber, shownLine}
 use Rattle.player_listing.proofs.Turns.{one-line}

@@ -6,9 +6,9 @@ use lib.IntN.{ℤ}
 use Rattle.text_bytes.specs.Bytes.{bytes}
 use Rattle.report.specs.Text.{line}
 use Rattle.report.specs.Lists.{shown, textOf}
-use Rattle.player.specs.Faces.{CornerOf}
-use Rattle.player.specs.Lookups.{cornerIn}
-use Rattle.player.specs.Answers.{numbered}
+use Rattle.player_spec.specs.Faces.{CornerOf}
+use Rattle.player_spec.specs.Lookups.{cornerIn}
+use Rattle.player_spec.specs.Answers.{numbered}
 use Rattle.table_counts.specs.declared.counts.FigureCounts.{FigureCounts}
 use Rattle.player_listing.specs.Parts.{linesFrom}
 

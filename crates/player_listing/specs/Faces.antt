@@ -7,8 +7,8 @@ use lib.IntN.{ℤ, pos}
 use Rattle.text_bytes.specs.Bytes.{bytes}
 use Rattle.report.specs.Text.{line}
 use Rattle.report.specs.Lists.{shown, textOf}
-use Rattle.player.specs.Lookups.{shownIn}
-use Rattle.player.specs.Answers.{numbered}
+use Rattle.player_spec.specs.Lookups.{shownIn}
+use Rattle.player_spec.specs.Answers.{numbered}
 use Rattle.table_counts.specs.declared.counts.FigureCounts.{FigureCounts}
 use Rattle.table_counts.specs.declared.counts.MovementCounts.{MovementCounts}
 use Rattle.player_listing.specs.Parts.{linesFrom}

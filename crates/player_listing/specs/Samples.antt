@@ -6,9 +6,9 @@ use lib.IntN.{ℤ}
 use Rattle.text_bytes.specs.Bytes.{bytes}
 use Rattle.report.specs.Text.{numeral, line}
 use Rattle.report.specs.Lists.{shown, textOf}
-use Rattle.player.specs.Fractions.{Fraction}
-use Rattle.player.specs.Lookups.{sampleIn}
-use Rattle.player.specs.Answers.{numbered}
+use Rattle.player_spec.specs.Fractions.{Fraction}
+use Rattle.player_spec.specs.Lookups.{sampleIn}
+use Rattle.player_spec.specs.Answers.{numbered}
 use Rattle.table_counts.specs.declared.counts.MovementCounts.{MovementCounts}
 use Rattle.player_listing.specs.Parts.{linesFrom}
 

@@ -4,9 +4,9 @@ ghost use Prim.Native.Nat.{_-_, _*_, _≤_};
 ghost use lib.ListN.{length, take};
 ghost use Rattle.report.specs.Output.{output, appended};
 ghost use Rattle.report.specs.Lists.{appendedEach};
-ghost use Rattle.player.specs.Answers.{showed};
+ghost use Rattle.player_shown.specs.Answers.{showed};
 ghost use Rattle.player_listing.specs.Faces.{shownLine, shownLines, shownText};
-use player::Visibility;
+use player_shown::Visibility;
 use report::append_row;
 use report::shown;
 use table_counts::FigureCounts;
@@ -44,7 +44,7 @@ pub fn list_shown(
     let mut filled = 0;
     let mut at = first;
     while at < end {
-        let answer = player::shown(table, n, moves, m, face, at);
+        let answer = player_shown::shown(table, n, moves, m, face, at);
         filled = append_shown(buf, filled, face, at, answer);
         at += 1;
     }

@@ -10,8 +10,8 @@ use lib.ListN.{length}
 use denote.Ref.{now}
 use Rattle.report.specs.Output.{output}
 use Rattle.report.specs.Lists.{appendedEach}
-use Rattle.player.specs.Lookups.{cornerIn}
-use Rattle.player.specs.Answers.{numbered}
+use Rattle.player_spec.specs.Lookups.{cornerIn}
+use Rattle.player_spec.specs.Answers.{numbered}
 use Rattle.table_counts.specs.declared.counts.FigureCounts.{FigureCounts}
 use Rattle.player_listing.specs.Parts.{linesFrom}
 use Rattle.player_listing.specs.Corners.{cornerLines, faceLines}

@@ -10,8 +10,9 @@ use lib.ListN.{length}
 use denote.Ref.{now}
 use Rattle.report.specs.Output.{output}
 use Rattle.report.specs.Lists.{appendedEach}
-use Rattle.player.specs.Lookups.{shownIn}
-use Rattle.player.specs.Answers.{numbered, showed}
+use Rattle.player_spec.specs.Lookups.{shownIn}
+use Rattle.player_spec.specs.Answers.{numbered}
+use Rattle.player_shown.specs.Answers.{showed}
 use Rattle.table_counts.specs.declared.counts.FigureCounts.{FigureCounts}
 use Rattle.table_counts.specs.declared.counts.MovementCounts.{MovementCounts}
 use Rattle.player_listing.specs.Parts.{linesFrom}
