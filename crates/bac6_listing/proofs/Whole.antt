@@ -14,4 +14,4 @@ use Rattle.bac6_listing.specs.Figures.{figureLists, figureLines, figureT
 -- 28 bytes for each number and for two more: 229,432 bytes with a table of 8,192 numbers
 pub figure-most : (a : FigureAnswer) (zs : List ℤ) → AllFit zs → length (figureText a zs) ≤ 28 * (length zs + 2)
 unfolding figureText figureLines figureLists bytes narrow
-figure-most a zs fit = listing-most (bytes "figure") (a .refusal) (a .place) (a .total) (figureLists a) zs (omega arith) refl fit
+figure-most a zs fit = listing-most (bytes "figure") (a .refusal) (a .place) (a .total) (figureLists (a .counts)) zs (omega arith) refl fit

@@ -93,6 +93,6 @@ pub figure-kept : (f : Figure) (l : Loaded Movement) (k p file : ℕ) → l ≡ 
 unfolding withFigure
 figure-kept f l k p file e = rw e
 
-pub reply-is : (a : FigureAnswer) (n : FigureCounts) (b : MovementAnswer) (f : Figure) (m : Movement) → a ≡ bac6.answerOf (accepted f) → n ≡ countsIn a → b ≡ tra4.answerOf (accepted m) → _≡_ {A = PairAnswer} (record { refusal = 0; place = 0; file = 0; «figure_total» = a .total; figure = n; «movement_total» = b .total; movement = record { bones = b .bones; keys = b .keys; patterns = b .patterns } }) (pairReply (loaded (f, m)))
+pub reply-is : (a : FigureAnswer) (b : MovementAnswer) (f : Figure) (m : Movement) → a ≡ bac6.answerOf (accepted f) → b ≡ tra4.answerOf (accepted m) → _≡_ {A = PairAnswer} (record { refusal = 0; place = 0; file = 0; «figure_total» = a .total; figure = a .counts; «movement_total» = b .total; movement = b .counts }) (pairReply (loaded (f, m)))
 unfolding pairReply bac6.answerOf tra4.answerOf
-reply-is a n b f m e h g = rw (h, e, g)
+reply-is a b f m e g = rw (e, g)

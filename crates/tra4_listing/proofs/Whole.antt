@@ -14,4 +14,4 @@ use Rattle.tra4_listing.specs.Movements.{movementLists, movementLines, m
 -- 28 bytes for each number and for two more: 329,868 bytes with a table of 11,779 numbers
 pub movement-most : (a : MovementAnswer) (zs : List ℤ) → AllFit zs → length (movementText a zs) ≤ 28 * (length zs + 2)
 unfolding movementText movementLines movementLists bytes narrow
-movement-most a zs fit = listing-most (bytes "movement") (a .refusal) (a .place) (a .total) (movementLists a) zs (omega arith) refl fit
+movement-most a zs fit = listing-most (bytes "movement") (a .refusal) (a .place) (a .total) (movementLists (a .counts)) zs (omega arith) refl fit

@@ -22,7 +22,7 @@ unfolding bytes movementLines movementText
 returns c =
     let k = c .before .before .before .before in
     let a = k .before .before .before .before .args in
-    said-refused (bytes "movement") (a .answer .refusal) (a .answer .place) (a .answer .total) (movementLists (a .answer)) (now (a .table)) _ (now (a .buf)) _ (ne-eqb (a .answer .refusal) 0 (c .if1 .taken)) (k .first-line .ensures)
+    said-refused (bytes "movement") (a .answer .refusal) (a .answer .place) (a .answer .total) (movementLists (a .answer .counts)) (now (a .table)) _ (now (a .buf)) _ (ne-eqb (a .answer .refusal) 0 (c .if1 .taken)) (k .first-line .ensures)
 
 append-lists-requires : tie.Need-append-lists-requires
 append-lists-requires c κs = search needs
@@ -34,10 +34,10 @@ returns-2 : tie.Need-returns-2
 unfolding bytes movementLines movementText
 returns-2 c =
     let l = c .before .before in
-    let t = l .before .before in
+    let t = l .before .before .before in
     let k = t .before .before .before .before in
     let a = k .before .before .before .before .args in
-    said-taken (bytes "movement") (a .answer .refusal) (a .answer .place) (a .answer .total) (movementLists (a .answer)) (now (a .table)) _ _ (now (a .buf)) _ _ (eq-eqb (a .answer .refusal) 0 (t .if1 .left)) (k .first-line .ensures) (l .append-lists .ensures)
+    said-taken (bytes "movement") (a .answer .refusal) (a .answer .place) (a .answer .total) (movementLists (a .answer .counts)) (now (a .table)) _ _ (now (a .buf)) _ _ (eq-eqb (a .answer .refusal) 0 (t .if1 .left)) (k .first-line .ensures) (l .append-lists .ensures)
 
 pub list-movement-spec : {M : Type 1} → statement M
 list-movement-spec =

@@ -15,7 +15,7 @@ use Rattle.tra4_text.specs.Layout.{layoutOf}
 use Rattle.tra4_text.specs.Answer.{movementOutcome, movementAnswer, movementTable}
 use Rattle.tra4.specs.Answers.{answerOf}
 use Rattle.table_sections.specs.Sections.{holdsMovement}
-use Rattle.movement_bridge.specs.Counts.{countsIn}
+use Rattle.tra4.specs.declared.setting.MovementAnswer.{MovementAnswer}
 use Rattle.movement_bridge.proofs.Tables.{countsRead, table-read, movement-holds}
 use Rattle.pair_text.specs.Rules.{pairFault}
 use Rattle.pair_text.specs.Answer.{movementLeft}
@@ -61,16 +61,17 @@ module _ (e : tie.Else2) where
   laid-down : last ≡ layoutOf (took .value) ++ drop (length (layoutOf (took .value))) zeros
   laid-down = left ∙ table-read text zeros (took .value) taken
 
-  counted : countsIn (e .before .before .read .result) ≡ countsRead (took .value)
-  counted = ap countsIn (took .answer)
+  counted : e .before .before .read .result .counts ≡ countsRead (took .value)
+  unfolding answerOf
+  counted = ap (λ (a : MovementAnswer). a .counts) (took .answer)
 
-  holds : holdsMovement (countsIn (e .before .before .read .result)) last ≡ true
+  holds : holdsMovement (e .before .before .read .result .counts) last ≡ true
   holds = ap₂ holdsMovement counted left ∙ movement-holds text zeros (took .value) taken
 
   long : e .before .before .read .result .total ≤ length last
   long = let a = ap length laid-down ∙ length-append (layoutOf (took .value)) _ in let b = total-is movement-held 11779 _ _ took in omega arith
 
-  ruled : tablesFault (now (e .before .before .before .before .before .before .before .before .args .figure)) (e .before .before .before .before .before .before .before .before .args .n) (now (e .before .before .before .before .before .before .before .before .args .table)) text (countsIn (e .before .before .read .result)) last ≡ pairFault (names (now (e .before .before .before .before .before .before .before .before .args .figure)) (e .before .before .before .before .before .before .before .before .args .n) (now (e .before .before .before .before .before .before .before .before .args .table))) (e .before .before .before .before .before .before .before .before .args .n .groups) (took .value)
+  ruled : tablesFault (now (e .before .before .before .before .before .before .before .before .args .figure)) (e .before .before .before .before .before .before .before .before .args .n) (now (e .before .before .before .before .before .before .before .before .args .table)) text (e .before .before .read .result .counts) last ≡ pairFault (names (now (e .before .before .before .before .before .before .before .before .args .figure)) (e .before .before .before .before .before .before .before .before .args .n) (now (e .before .before .before .before .before .before .before .before .args .table))) (e .before .before .before .before .before .before .before .before .args .n .groups) (took .value)
   ruled = held-tables _ _ _ _ _ _ (names-some _ _ _ (named (e .before .before .before .before)) .1) holds ∙ ap₂ (rowsFault _ _ _ text) counted left ∙ (tables-are text zeros (took .value) taken (movement-stands text (took .value) (took .alone)) _ _ _)
 
 has-names-requires : tie.Need-has-names-requires
@@ -121,28 +122,28 @@ enum-told : tie.Need-enum-told
 enum-told c = search needs
 
 array-share-prefix-rows : tie.Need-array-share-prefix-rows
-array-share-prefix-rows c = long (c .before .before .before .before .before .before)
+array-share-prefix-rows c = long (c .before .before .before .before .before .before .before)
 
 slice-aggregate-put : tie.Need-slice-aggregate-put
-slice-aggregate-put c = let h = long (c .before .before .before .before .before .before .before) in simp length-take (omega arith)
+slice-aggregate-put c = let h = long (c .before .before .before .before .before .before .before .before) in simp length-take (omega arith)
 
 put-requires : tie.Need-put-requires
 put-requires c κs = search needs
 
 returns-4 : tie.Need-returns-4
-unfolding movementAnswer countsIn
-returns-4 c = let e = c .before .before .before .before .before .before .before in
-    let b = refused-both _ _ _ _ (moved-fault _ _ _ _ _ (named (e .before .before .before .before)) (took e .value) _ _ (room-enough movement-held 11779 _ _ (took e) _ (c .before .before .before .before .before .before .if3 .left)) (sym (ruled e) ∙ refused-by (c .before .before .before .before .pair-fault .ensures) (c .before .before .number .given .1))) _ in
+unfolding movementAnswer
+returns-4 c = let e = c .before .before .before .before .before .before .before .before in
+    let b = refused-both _ _ _ _ (moved-fault _ _ _ _ _ (named (e .before .before .before .before)) (took e .value) _ _ (room-enough movement-held 11779 _ _ (took e) _ (c .before .before .before .before .before .before .before .if3 .left)) (sym (ruled e) ∙ refused-by (c .before .before .before .before .pair-fault .ensures) (c .before .before .number .given .1))) _ in
     (c .refused4 .ensures ∙ b .0, b .1)
 
 same-length : tie.Need-same-length
 same-length c = search needs
 
 returns-5 : tie.Need-returns-5
-unfolding movementAnswer countsIn movedReply movementLeft laid
-returns-5 c = let e = c .before .before .before .before .before .before .before .before .before in
-    let l = moved-loaded _ _ _ _ _ (named (e .before .before .before .before)) (took e .value) (room-enough movement-held 11779 _ _ (took e) _ (c .before .before .before .before .before .before .before .before .if3 .left)) (sym (ruled e) ∙ clear-by (c .before .before .before .before .before .before .pair-fault .ensures) (c .before .before .before .before .enum-told .given .1)) in
-    (took e .answer ∙ ap movedReply (sym l), c .before .put .ensures .0 ∙ rw (laid-down e, l) (left-is movement-held 11779 _ _ (took e) _ _ (c .before .before .before .before .before .before .before .before .if3 .left)))
+unfolding movementAnswer movedReply movementLeft laid
+returns-5 c = let e = c .before .before .before .before .before .before .before .before .before .before in
+    let l = moved-loaded _ _ _ _ _ (named (e .before .before .before .before)) (took e .value) (room-enough movement-held 11779 _ _ (took e) _ (c .before .before .before .before .before .before .before .before .before .if3 .left)) (sym (ruled e) ∙ clear-by (c .before .before .before .before .before .before .pair-fault .ensures) (c .before .before .before .before .enum-told .given .1)) in
+    (took e .answer ∙ ap movedReply (sym l), c .before .put .ensures .0 ∙ rw (laid-down e, l) (left-is movement-held 11779 _ _ (took e) _ _ (c .before .before .before .before .before .before .before .before .before .if3 .left)))
 
 pub load-movement-spec : {M : Type 1} → statement M
 load-movement-spec =

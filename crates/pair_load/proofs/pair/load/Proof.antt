@@ -10,7 +10,7 @@ use Rattle.refusal.specs.Outcomes.{accepted, fitted, laid}
 use Rattle.bac6_text.specs.Layout.{layoutOf}
 use Rattle.bac6_text.specs.Answer.{figureOutcome, figureAnswer, tableAfter}
 use Rattle.bac6.specs.Answers.{answerOf}
-use Rattle.figure_bridge.specs.Rows.{countsIn}
+use Rattle.bac6.specs.declared.setting.FigureAnswer.{FigureAnswer}
 use Rattle.figure_bridge.proofs.Texts.{figure-table}
 use Rattle.table_counts.specs.declared.counts.FigureCounts.{FigureCounts}
 use Rattle.pair_text.specs.Answer.{Loaded, loaded, withFigure, pairAnswer, figureLeft, movementOf, movementLeft}
@@ -67,16 +67,16 @@ module _ (l : tie.After-load-movement) where
   space = length (now (before-it .before .before .before .before .before .before .args .moves))
 
   abbrev half : Loaded Movement
-  half = movedAnswer (text before-it) (l .before .before .before .counts-of .result) (last before-it) movement space
+  half = movedAnswer (text before-it) (before-it .before .before .read .result .counts) (last before-it) movement space
 
   abbrev whole : Loaded (Figure × Movement)
   whole = pairAnswer (text before-it) (length (now (before-it .before .before .before .before .before .before .args .table))) movement space
 
   paired : whole ≡ withFigure (took before-it .value) half
-  unfolding figureAnswer
+  unfolding figureAnswer answerOf
   paired =
       pair-is _ _ _ _ (replicate 37026 (pos 0)) (took before-it .value) (taken before-it) (figure-stands _ _ (took before-it .alone)) (room-enough figure-held 37026 _ _ (took before-it) _ (l .before .before .before .before .if2 .left))
-      ∙ ap (withFigure (took before-it .value)) (sym (ap₂ (λ (n : FigureCounts) (t : List ℤ). movedAnswer (text before-it) n t movement space) (l .before .before .before .counts-of .ensures ∙ ap countsIn (took before-it .answer)) (left before-it)))
+      ∙ ap (withFigure (took before-it .value)) (sym (ap₂ (λ (n : FigureCounts) (t : List ℤ). movedAnswer (text before-it) n t movement space) (ap (λ (a : FigureAnswer). a .counts) (took before-it .answer)) (left before-it)))
 
   halved : half ≡ movementOf whole
   halved = sym (ap movementOf paired ∙ half-is _ _)
@@ -109,9 +109,6 @@ returns-2 c = let e = c .before .before in
     let p = figure-refused _ _ _ _ _ _ (room-short figure-held 37026 _ _ (took e) _ (c .before .if2 .taken)) in
     let b = refused-pair _ _ _ _ p _ in
     (c .refused2 .ensures ∙ b .0, (b .1, refused-half _ _ _ _ p _))
-
-counts-of-requires : tie.Need-counts-of-requires
-counts-of-requires c κs = search needs
 
 slice-aggregate-load-movement : tie.Need-slice-aggregate-load-movement
 slice-aggregate-load-movement c = search needs
@@ -149,13 +146,13 @@ same-length-3 c = search needs
 
 returns-4 : tie.Need-returns-4
 unfolding figureLeft laid
-returns-4 c = let l = c .before .before .before .before .before .before .before in
+returns-4 c = let l = c .before .before .before .before .before .before .before .before in
     let e = l .before .before .before .before .before in
-    let d = moved-taken _ _ (l .load-movement .ensures .0) (c .before .before .before .before .if3 .left) in
+    let d = moved-taken _ _ (l .load-movement .ensures .0) (c .before .before .before .before .before .if3 .left) in
     let p = loaded-is l (d .movement) (d .is) in (
-      reply-is _ _ _ _ _ (took e .answer) (l .before .before .before .counts-of .ensures) (d .answer) ∙ ap pairReply (sym p),
+      reply-is _ _ _ _ (took e .answer) (d .answer) ∙ ap pairReply (sym p),
       (
-        c .before .put .ensures .0 ∙ rw (laid-down e, p) (left-is figure-held 37026 _ _ (took e) _ _ (l .before .before .before .before .if2 .left)),
+        c .before .before .put .ensures .0 ∙ rw (laid-down e, p) (left-is figure-held 37026 _ _ (took e) _ _ (l .before .before .before .before .if2 .left)),
         l .load-movement .ensures .1 ∙ ap (movementLeft _) (halved l),
       ),
     )
@@ -170,7 +167,6 @@ load-spec =
     returns
     refused-requires-2
     returns-2
-    counts-of-requires
     slice-aggregate-load-movement
     load-movement-requires
     refused-requires-3
