@@ -17,7 +17,7 @@ use Rattle.bac6_text.specs.Layout.{layoutOf, nameNumbers, boneRow, boneRows, ow
 use Rattle.refusal.proofs.Rules.{count-clear}
 use Rattle.table_rows.proofs.Chains.{overlay-whole}
 use Rattle.bac6_layout.proofs.Layouts.{layout-lists}
-use Rattle.bac6_rules.proofs.Claims.{owners-length}
+use Rattle.bac6_bone_rules.proofs.Claims.{owners-length}
 use Rattle.parse_rows.proofs.Widths.{Wide, flat-length}
 use Rattle.bac6_text.proofs.Rows.{face-rows-wide, face-rows-length, bones-wide, bones-count}
 use Rattle.bac6_text.proofs.Whole.{WholeFigure}

@@ -13,9 +13,9 @@ use Rattle.bac6_text.specs.Figure.{Bone, Figure}
 use Rattle.refusal.specs.Rules.{tooMany}
 use Rattle.bac6_text.specs.Rules.{facesOf, flagsOf, wholeList, parentsIn, verticesFault, bonesFault, figureFault, countsOf}
 use Rattle.bac6_text.specs.Layout.{nameNumbers, boneRow, boneRows, ownersFrom, faceRows, groupNames, layoutOf}
-use Rattle.bac6_rules.specs.Claims.{claimedBones}
+use Rattle.bac6_bone_rules.specs.Claims.{claimedBones}
 use Rattle.bac6_rules.specs.Order.{BonesLeft}
-use Rattle.bac6_rules.proofs.Claims.{owners-length, claims-owners}
+use Rattle.bac6_bone_rules.proofs.Claims.{owners-length, claims-owners}
 use Rattle.bac6_text.proofs.Rows.{face-rows-wide, face-rows-length, bones-wide, bones-count, flags-count}
 use Rattle.bac6_text.proofs.Parents.{whole-length}
 use Rattle.refusal.proofs.Rules.{or-first, or-second}
@@ -25,7 +25,8 @@ use Rattle.bac6.specs.declared.shape.Parsed.{Parsed}
 use Rattle.bac6.specs.Answers.{Fits, totalOf, partsOf, parsedCounts}
 use Rattle.bac6.proofs.Parses.{values}
 use Rattle.bac6_text.proofs.Whole.{WholeFigure, faces-whole}
-use Rattle.bac6.proofs.Bounds.{Within, bounds, groups-wide, groups-count, total}
+use Rattle.bac6.proofs.Bounds.{Within, bounds, groups-wide, groups-count}
+use Rattle.bac6.proofs.Ends.{total}
 use Rattle.bac6.proofs.Rules.{unclaimed-parts, bones-held}
 use Rattle.parse_rows.proofs.Widths.{rows-part, rows-room, part-is, room-is}
 use Rattle.bac6.proofs.Taken.{parsedAs, name-is, textures-are, colours-are, materials-are, points-are, normals-are, bones-are, claims-are, uvs-are, faces-are, groups-are, counts-are}

@@ -12,9 +12,9 @@ use Rattle.bac6_text.specs.Figure.{Bone, Figure}
 use Rattle.refusal.specs.Rules.{tooMany}
 use Rattle.bac6_text.specs.Rules.{facesOf, countsOf, verticesFault, figureFault, flagsOf, parentsIn, wholeList}
 use Rattle.bac6_text.specs.Layout.{boneRow, boneRows, faceRows, ownersFrom}
-use Rattle.bac6_rules.specs.Claims.{claimedBones}
+use Rattle.bac6_bone_rules.specs.Claims.{claimedBones}
 use Rattle.bac6_rules.specs.Order.{tablesFault, BonesLeft}
-use Rattle.bac6_rules.proofs.Claims.{unclaimed, claims-fault, claims-owners}
+use Rattle.bac6_bone_rules.proofs.Claims.{unclaimed, claims-fault, claims-owners}
 use Rattle.parse_rows.proofs.Widths.{Wide}
 use Rattle.bac6_text.proofs.Rows.{face-rows-wide, face-rows-length, bones-wide, bones-count}
 use Rattle.bac6_rules.proofs.Orders.{tables-within, tables-laid, bones-left}

@@ -15,7 +15,7 @@ use Rattle.bac6_text.specs.Rules.{facesOf, figureFault}
 use Rattle.bac6_text.specs.Layout.{boneRow, faceRows, groupNames}
 use Rattle.bac6_parse.specs.Lists.{laidRows}
 use Rattle.bac6_parse.specs.Front.{FrontValue, frontValue}
-use Rattle.bac6_rules.specs.Claims.{claimedBones}
+use Rattle.bac6_bone_rules.specs.Claims.{claimedBones}
 use Rattle.bac6_rules.specs.Order.{tablesFault}
 use Rattle.bac6_text.proofs.Rows.{face-rows-length}
 use Rattle.bac6_bones.specs.Into.{faultOf}

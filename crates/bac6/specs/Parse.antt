@@ -14,7 +14,7 @@ use Rattle.bac6_text.specs.Figure.{Bone, Figure}
 use Rattle.bac6_text.specs.Layout.{boneRow}
 use Rattle.bac6_parse.specs.Lists.{laidRows, sectionInto}
 use Rattle.bac6_parse.specs.Front.{FrontValue, frontValue, frontInto}
-use Rattle.bac6_rules.specs.Claims.{claimedBones}
+use Rattle.bac6_bone_rules.specs.Claims.{claimedBones}
 use Rattle.bac6_bones.specs.Into.{bonesInto}
 use Rattle.bac6_faces.specs.Into.{tablesOf, polygonsInto}
 

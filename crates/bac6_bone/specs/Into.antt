@@ -15,7 +15,7 @@ use Rattle.parse_cursor.specs.Fields.{isSome, kindFrom, fields}
 use Rattle.bac6_text.specs.Figure.{Bone}
 use Rattle.bac6_text.specs.Grammar.{BoneField, nameIn, flagIn, numbersIn, boneOf, boneKinds, bone}
 use Rattle.bac6_text.specs.Layout.{nameNumbers, boneRow}
-use Rattle.bac6_rules.specs.Claims.{claimed}
+use Rattle.bac6_bone_rules.specs.Claims.{claimed}
 
 -- where a reader leaves a cursor: the value that it read, and what the code keeps of that where the cursor has not refused
 pub record Yields {A S : Type 0} (text : List ℕ) (r : Cursor) (g : Got A) (f : A → S) (s : S) : Type 0 where

@@ -2,8 +2,13 @@
 ghost use mathlib.Core.Path.{_≡_};
 ghost use Rattle.text_tokens.specs.Tokens.{lexAt};
 ghost use Rattle.parse_cursor.specs.Cursors.{reads};
-ghost use Rattle.bac6_rules.specs.Claims.{claimedOne};
+<<<<<<< HEAD:crates/bac6_entries/src/entry.rt
+ghost use Rattle.bac6_bone_rules.specs.Claims.{claimedOne};
 ghost use Rattle.bac6_entries.specs.Into.{entriesInto};
+=======
+ghost use Rattle.bac6_bone_rules.specs.Claims.{claimedOne};
+ghost use Rattle.bac6_entries.specs.Into.{entriesInto};
+>>>>>>> playing:crates/bac6_bones/src/entry.rt
 use parse_cursor::Cursor;
 use parse_numbers::Form;
 
@@ -18,7 +23,7 @@ fn tried(owners: &mut [i64], points: usize, z: i64, bone: i64, fine: bool) -> bo
     ensures { λ r. ⌜ (r, now (owners .exit)) ≡ claimedOne points bone (fine, now (owners .entry)) z ⌝ }
 {
     if fine {
-        return bac6_rules::claim(owners, points, z, bone);
+        return bac6_bone_rules::claim(owners, points, z, bone);
     }
     false
 }

@@ -19,11 +19,13 @@ use Rattle.refusal.specs.FirstBad.{firstBad}
 use Rattle.bac6_text.proofs.Whole.{WholeFaces, WholeBone, WholeBones}
 use Rattle.bac6_text.proofs.Rows.{nine, nine-length, bone-wide, bones-wide, bones-count, flags-count, face-rows-wide, face-rows-length}
 use Rattle.bac6_text.proofs.Parents.{whole-length}
-use Rattle.bac6_rules.specs.Rows.{rowsOf, faceRowFine}
-use Rattle.bac6_rules.specs.Bones.{rowFlags, flagsIn, parentsFrom, withParents, Settled}
-use Rattle.bac6_rules.proofs.Tables.{rows-more, bad-passed, bad-found}
-use Rattle.bac6_rules.proofs.Faces.{face-row-fine}
-use Rattle.bac6_rules.proofs.Whole.{settled-clear}
+use Rattle.bac6_row_rules.specs.Rows.{faceRowFine}
+use Rattle.table_columns.specs.Parts.{rowsOf}
+use Rattle.bac6_bone_rules.specs.Bones.{rowFlags, flagsIn, parentsFrom, withParents, Settled}
+use Rattle.bac6_row_rules.proofs.Tables.{bad-passed, bad-found}
+use Rattle.table_columns.proofs.Rows.{rows-more}
+use Rattle.bac6_row_rules.proofs.Faces.{face-row-fine}
+use Rattle.bac6_bone_rules.proofs.Whole.{settled-clear}
 
 -- ---- rows of one width
 

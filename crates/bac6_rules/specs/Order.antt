@@ -10,8 +10,9 @@ use Rattle.refusal.specs.Rules.{orElse, tooMany}
 use Rattle.bac6_text.specs.Rules.{facesOf, normalsFault, bonesFault, materialFine, wholeList}
 use Rattle.refusal.specs.FirstBad.{firstBad}
 use Rattle.table_counts.specs.declared.counts.FigureCounts.{FigureCounts}
-use Rattle.bac6_rules.specs.Rows.{rowsOf, faceRowFine}
-use Rattle.bac6_rules.specs.Bones.{flagsIn, Settled}
+use Rattle.bac6_row_rules.specs.Rows.{faceRowFine}
+use Rattle.table_columns.specs.Parts.{rowsOf}
+use Rattle.bac6_bone_rules.specs.Bones.{flagsIn, Settled}
 use Rattle.table_counts.specs.Counts.{figureMosts}
 use Rattle.table_counts.specs.Counts.{figureLists}
 

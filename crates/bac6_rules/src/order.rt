@@ -2,10 +2,10 @@
 ghost use mathlib.Core.Path.{_≡_};
 ghost use Rattle.refusal.specs.Answers.{refusal};
 ghost use Rattle.bac6_rules.specs.Order.{countsFault, laterFault, tablesFault, BonesLeft};
-use crate::bone::place_bones;
 use crate::count::normals_fault;
-use crate::face::face_fault;
-use crate::material::material_fault;
+use bac6_bone_rules::place_bones;
+use bac6_row_rules::face_fault;
+use bac6_row_rules::material_fault;
 use refusal::Checked;
 use table_counts::FigureCounts;
 

@@ -22,10 +22,10 @@ use Rattle.parse_cursor.proofs.Ranges.{AllIn}
 use Rattle.bac6_text.proofs.Whole.{WholeFace, WholeFigure, faces-whole}
 use Rattle.bac6_text.proofs.Rows.{face-rows-wide, face-rows-length}
 use Rattle.table_counts.specs.declared.counts.FigureCounts.{FigureCounts}
-use Rattle.player.specs.Faces.{rowAt, uvAt, cornerOf}
-use Rattle.player.specs.Columns.{isClear, figureEnd, holdsFigure}
+use Rattle.player_spec.specs.Faces.{rowAt, uvAt, cornerOf}
+use Rattle.table_sections.specs.Sections.{isClear, figureEnd, fewInFigure, holdsFigure}
 use Rattle.table_rows.specs.Index.{isIndex}
-use Rattle.player.specs.Lookups.{onlyIf, allFloat, faceAt, ownerAt, faceFine, pointAt, uvRow, uvFine, uvIn, canCorner, cornerIn}
+use Rattle.player_spec.specs.Lookups.{onlyIf, allFloat, faceAt, ownerAt, faceSound, pointAt, uvRow, uvFine, uvIn, canCorner, cornerIn}
 use Rattle.movement_bridge.proofs.Laid.{row-laid}
 use Rattle.figure_bridge.specs.Rows.{noFace, faceOf, groupedFaceOf}
 use Rattle.figure_bridge.proofs.Sound.{every-at, counts-sound, parents-sound, faces-sound}
@@ -38,7 +38,7 @@ use Rattle.table_counts.specs.Counts.{figureLists}
 -- ---- a corner, where every test passes
 
 module _ (n : FigureCounts) (t : List ℤ) (face k : ℕ) (g : ℤ) (f : Face) where
-  corner-by : faceAt n t face ≡ faceRow g f → holdsFigure n t ≡ true → face < n .faces → faceFine n (faceRow g f) ≡ true → k < f .size → k < 4 → allFloat (pointAt n t (cornerAt (f .vertices) k)) ≡ true → isIndex (n .bones) (ownerAt n t (cornerAt (f .vertices) k)) ≡ true → uvFine n t (cornerAt (f .uvs) k) ≡ true → cornerIn n t face k ≡ some (record { position = pointAt n t (cornerAt (f .vertices) k); owner = ownerAt n t (cornerAt (f .vertices) k); uv = uvIn n t (cornerAt (f .uvs) k); material = f .material })
+  corner-by : faceAt n t face ≡ faceRow g f → holdsFigure n t ≡ true → face < n .faces → faceSound n (faceRow g f) ≡ true → k < f .size → k < 4 → allFloat (pointAt n t (cornerAt (f .vertices) k)) ≡ true → isIndex (n .bones) (ownerAt n t (cornerAt (f .vertices) k)) ≡ true → uvFine n t (cornerAt (f .uvs) k) ≡ true → cornerIn n t face k ≡ some (record { position = pointAt n t (cornerAt (f .vertices) k); owner = ownerAt n t (cornerAt (f .vertices) k); uv = uvIn n t (cornerAt (f .uvs) k); material = f .material })
   unfolding cornerIn canCorner onlyIf
   corner-by row held below fine used four float owner uv =
       rw (row, row-vertex g f k four, row-uv g f k four, row-material g f, row-size g f, held, lt-ltb face (n .faces) below, fine, lt-ltb k (f .size) used, float, owner, uv)
@@ -54,7 +54,7 @@ module _ (f : Figure) (w : WholeFigure f) (c : figureFault f ≡ clear) (rest : 
   table = layoutOf f ++ rest
 
   pub figure-holds : holdsFigure (counts f) table ≡ true
-  unfolding holdsFigure isClear countsOf figureCounts figureLists
+  unfolding fewInFigure holdsFigure isClear countsOf figureCounts figureLists
   figure-holds =
       let e = figure-long f w (parents-sound f c) in
       rw (counts-sound f c, le-leb (figureEnd (counts f)) (length table) (rw (length-append (layoutOf f) rest) (omega arith)))

@@ -16,7 +16,7 @@ use Rattle.bac6_text.specs.Layout.{corners, faceRow}
 use Rattle.bac6_text.proofs.Whole.{WholeFace}
 use Rattle.table_counts.specs.declared.counts.FigureCounts.{FigureCounts}
 use Rattle.table_rows.specs.Index.{isIndex}
-use Rattle.player.specs.Lookups.{sizeFine, cornersFine, allNone, faceFine}
+use Rattle.player_spec.specs.Lookups.{sizeFine, cornersFine, allNone, faceSound}
 
 -- a corner's number, -1 where there is none
 abbrev pub cornerAt : List ℤ → ℕ → ℤ
@@ -151,7 +151,7 @@ module _ (m p u : ℕ) (f : Face) (h : bac6.faceFine m p u f ≡ true) where
   uvs-sound = front-sound .1
 
 -- the row passes the lookup's test
-pub face-fine : (n : FigureCounts) (g : ℤ) (f : Face) → WholeFace f → bac6.faceFine (n .materials) (n .points) (n .uvs) f ≡ true → isIndex (n .groups) g ≡ true → faceFine n (faceRow g f) ≡ true
-unfolding faceFine
+pub face-fine : (n : FigureCounts) (g : ℤ) (f : Face) → WholeFace f → bac6.faceFine (n .materials) (n .points) (n .uvs) f ≡ true → isIndex (n .groups) g ≡ true → faceSound n (faceRow g f) ≡ true
+unfolding faceSound
 face-fine n g f w h k =
     rw (row-material g f, row-size g f, row-vertices g f, row-uvs g f, row-group g f, k, size-fine f w, vertices-fine f w (n .points), uvs-fine f w (n .uvs), none-used (f .uvs) (uv-corners f w), material-sound (n .materials) (n .points) (n .uvs) f h, vertices-sound (n .materials) (n .points) (n .uvs) f h, uvs-sound (n .materials) (n .points) (n .uvs) f h)

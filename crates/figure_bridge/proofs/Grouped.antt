@@ -13,7 +13,7 @@ use Rattle.bac6_text.specs.Figure.{Face, Group, Figure}
 use Rattle.bac6_text.specs.Rules.{groupFaces, facesOf}
 use Rattle.table_rows.specs.References.{isRow, isNone}
 use Rattle.bac6_text.specs.Layout.{faceRow, groupRows, faceRows}
-use Rattle.player.specs.Faces.{inGroup, inGroups, groupedFaces}
+use Rattle.player_spec.specs.Faces.{inGroup, inGroups, groupedFaces}
 use Rattle.table_rows.specs.Index.{isIndex}
 use Rattle.figure_bridge.specs.Rows.{noFace, faceOf, groupedFaceOf}
 use Rattle.figure_bridge.proofs.Sound.{every-at}

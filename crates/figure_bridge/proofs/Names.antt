@@ -13,7 +13,8 @@ use Rattle.bac6_text.specs.Rules.{figureFault, flagsOf, wholeList, parentsIn}
 use Rattle.bac6_text.specs.Layout.{nameNumbers, boneRow, boneRows, layoutOf}
 use Rattle.bac6_text.proofs.Whole.{WholeBone, WholeBones, WholeFigure}
 use Rattle.bac6_text.proofs.Rows.{nine, nine-length, bones-wide, bones-count}
-use Rattle.player.specs.Columns.{numberAt, bonesBegin}
+use Rattle.table_sections.specs.Sections.{bonesBegin}
+use Rattle.table_columns.specs.Parts.{numberAt}
 use Rattle.movement_bridge.proofs.Laid.{number-laid}
 use Rattle.figure_bridge.proofs.Sound.{parents-sound}
 use Rattle.figure_bridge.proofs.Parts.{counts, bones-stand}

@@ -15,7 +15,8 @@ use Rattle.bac6_text.specs.Layout.{layoutOf, nameNumbers, boneRows, ownersFrom,
 use Rattle.bac6_text.proofs.Whole.{WholeFigure}
 use Rattle.bac6_text.proofs.Rows.{bones-wide, bones-count, face-rows-wide, face-rows-length}
 use Rattle.table_counts.specs.declared.counts.FigureCounts.{FigureCounts}
-use Rattle.player.specs.Columns.{numberAt, pointsBegin, bonesBegin, ownersBegin, uvsBegin, facesBegin, figureEnd}
+use Rattle.table_sections.specs.Sections.{pointsBegin, bonesBegin, ownersBegin, uvsBegin, facesBegin, groupsBegin, figureEnd}
+use Rattle.table_columns.specs.Parts.{numberAt}
 use Rattle.movement_bridge.proofs.Laid.{Laid}
 
 -- a figure's counts
@@ -137,7 +138,7 @@ module _ (f : Figure) (w : WholeFigure f) (parents : length (parentsIn (wholeLis
       rw (length-append to-uvs (flat (f .uvs))) (omega arith)
 
   pub figure-long : figureEnd (counts f) ≡ length (layoutOf f)
-  unfolding figureEnd layoutOf
+  unfolding figureEnd groupsBegin layoutOf
   figure-long =
       let b = faces-front in
       let r = faces-long in

@@ -20,10 +20,11 @@ use Rattle.tra4_text.specs.Movement.{Pattern, groupOf, Movement}
 use Rattle.tra4_text.specs.Rules.{patternsFault}
 use Rattle.table_counts.specs.declared.counts.FigureCounts.{FigureCounts}
 use Rattle.table_counts.specs.declared.counts.MovementCounts.{MovementCounts}
-use Rattle.player.specs.Faces.{allOwned, groupShown, shownOf}
-use Rattle.player.specs.Columns.{numberAt, isClear, holdsFigure, holdsMovement}
+use Rattle.player_spec.specs.Faces.{allOwned, groupShown, shownOf}
+use Rattle.table_sections.specs.Sections.{isClear, holdsFigure, holdsMovement}
+use Rattle.table_columns.specs.Parts.{numberAt}
 use Rattle.table_rows.specs.Index.{isIndex}
-use Rattle.player.specs.Lookups.{onlyIf, isAsked, sizeFine, cornersFine, faceAt, ownerAt, ownersFine, ownedCorners, patternRows, linesFine, patternsFine, canShow, groupFlag, shownIn}
+use Rattle.player_spec.specs.Lookups.{onlyIf, isAsked, sizeFine, cornersFine, faceAt, ownerAt, ownersFine, ownedCorners, patternRows, linesFine, patternsFine, canShow, groupFlag, shownIn}
 use Rattle.pair_text.specs.Rules.{groupsFault}
 use Rattle.figure_bridge.specs.Rows.{groupedFaceOf, hasNoGroup}
 use Rattle.figure_bridge.proofs.Tests.{owner-known, first-bad-clear}

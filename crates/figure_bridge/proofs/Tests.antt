@@ -16,8 +16,8 @@ use Rattle.refusal.specs.FirstBad.{all, firstBad}
 use Rattle.table_rows.specs.References.{isRow, isNone, member}
 use Rattle.parse_cursor.proofs.Ranges.{AllIn}
 use Rattle.table_rows.specs.Index.{isIndex}
-use Rattle.player.specs.Columns.{isClear}
-use Rattle.player.specs.Lookups.{allFloat}
+use Rattle.table_sections.specs.Sections.{isClear}
+use Rattle.player_spec.specs.Lookups.{allFloat}
 use Rattle.movement_bridge.proofs.Faultless.{float-in-form}
 
 pub row-natural : (n : ℕ) (z : ℤ) → isRow n z ≡ true → pos (natAbs z) ≡ z

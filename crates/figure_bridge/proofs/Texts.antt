@@ -20,9 +20,9 @@ use Rattle.bac6.specs.Answers.{answerOf}
 use Rattle.tra4.specs.Answers as tra4
 use Rattle.tra4_text.specs.Movement.{Movement}
 use Rattle.tra4_text.specs.Answer.{movementAnswer, movementTable}
-use Rattle.player.specs.Faces.{cornerOf, shownOf}
-use Rattle.player.specs.Columns.{isClear}
-use Rattle.player.specs.Lookups.{onlyIf, patternRows, cornerIn, shownIn}
+use Rattle.player_spec.specs.Faces.{cornerOf, shownOf}
+use Rattle.table_sections.specs.Sections.{isClear}
+use Rattle.player_spec.specs.Lookups.{onlyIf, patternRows, cornerIn, shownIn}
 use Rattle.movement_bridge.specs.Counts as movement
 use Rattle.movement_bridge.proofs.Taken.{Taken, taken}
 use Rattle.movement_bridge.proofs.Tables.{movement-holds, total-stands, frame-asked, patterns-stand, patterns-clear, flags-fine}

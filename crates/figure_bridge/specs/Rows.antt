@@ -7,7 +7,7 @@ use lib.IntN.{negsuc}
 use lib.ListN.{getD}
 use Rattle.bac6_text.specs.Figure.{Face, Figure}
 use Rattle.bac6_text.specs.Rules.{facesOf}
-use Rattle.player.specs.Faces.{groupedFaces}
+use Rattle.player_spec.specs.Faces.{groupedFaces}
 
 -- past the last row
 unfoldable pub noFace : Face

@@ -16,8 +16,8 @@ use Rattle.table_rows.specs.References.{isRow}
 use Rattle.tra4_text.specs.Movement.{Key, Channel, Pattern, frameOf}
 use Rattle.tra4_text.specs.Rules.{totalFault, framesFault, keyFine, keysFault}
 use Rattle.tra4_text.proofs.Whole.{FloatValue, Flagged}
-use Rattle.player.specs.Columns.{isClear}
-use Rattle.player.specs.Lookups.{isFloat, isAsked, isRange, valuesFine}
+use Rattle.table_sections.specs.Sections.{isClear}
+use Rattle.player_spec.specs.Lookups.{isFloat, isAsked, isRange, valuesFine}
 
 -- ---- frames
 
@@ -50,9 +50,8 @@ range-within n f zero h l = absurd (omega arith)
 range-within n f (suc c) h l = le-leb (f + suc c) n l
 
 pub float-in-form : (z : ℤ) → inForm FLOAT z ≡ true → isFloat z ≡ true
-unfolding inForm isFloat
-float-in-form (pos n) e = e
-float-in-form (negsuc n) e = le-leb (suc n) 9999999999999 (let h = leb-true n 9999999999998 e in omega arith)
+unfolding isFloat
+float-in-form z e = e
 
 pub values-fine : (c : List Key) → Every FloatValue c → valuesFine c ≡ true
 unfolding valuesFine

@@ -9,7 +9,7 @@ use lib.ListN.{length, getD, drop, length-append}
 use lib.Seq.{take-at, drop-at, getD-take, getD-drop}
 use Rattle.table_rows.specs.Flat.{flat}
 use Rattle.parse_rows.proofs.Widths.{Wide, flat-append, flat-length}
-use Rattle.player.specs.Columns.{numberAt, numbersAt, rowsAt}
+use Rattle.table_columns.specs.Parts.{numberAt, numbersAt, rowsAt}
 
 -- rows stand in a table from an index on
 pub record Laid (rs : List (List ℤ)) (i : ℕ) (table : List ℤ) : Type 0 where

@@ -10,7 +10,7 @@ use Rattle.tra4_text.specs.Movement.{Bone, Movement}
 use Rattle.tra4_text.specs.Rules.{allKeys}
 use Rattle.tra4_text.specs.Layout.{nameNumbers, boneRow, boneRows, layoutOf}
 use Rattle.tra4_text.proofs.Whole.{WholeMovement}
-use Rattle.player.specs.Columns.{numberAt}
+use Rattle.table_columns.specs.Parts.{numberAt}
 use Rattle.movement_bridge.proofs.Tables.{bone-number}
 
 -- the name of a bone's row

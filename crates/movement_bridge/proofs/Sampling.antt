@@ -20,9 +20,10 @@ use Rattle.tra4_text.proofs.Whole.{WholeChannel, WholeBone, WholeMovement, wide
 use Rattle.tra4_text.proofs.Layouts.{keys-append, keys-wide}
 use Rattle.tra4.specs.Answers.{answerOf}
 use Rattle.table_counts.specs.declared.counts.MovementCounts.{MovementCounts}
-use Rattle.player.specs.Samples.{sampleOf}
-use Rattle.player.specs.Columns.{numberAt, rowsAt, isClear, keysBegin, holdsMovement}
-use Rattle.player.specs.Lookups.{onlyIf, isAsked, isRange, valuesFine, pairAt, channelKeys, canSample, sampleIn}
+use Rattle.player_spec.specs.Samples.{sampleOf}
+use Rattle.table_sections.specs.Sections.{isClear, keysBegin, holdsMovement}
+use Rattle.table_columns.specs.Parts.{numberAt, rowsAt}
+use Rattle.player_spec.specs.Lookups.{onlyIf, isAsked, isRange, valuesFine, pairAt, channelKeys, canSample, sampleIn}
 use Rattle.movement_bridge.specs.Counts.{channelOf}
 use Rattle.movement_bridge.proofs.Laid.{Laid, laid-part, rows-laid}
 use Rattle.movement_bridge.proofs.Channels.{Found, in-rows}

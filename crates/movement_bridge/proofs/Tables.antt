@@ -26,8 +26,9 @@ use Rattle.tra4_text.proofs.Whole.{WholeMovement, movement-whole}
 use Rattle.tra4_text.proofs.Layouts.{all-wide, rows-wide, rows-count, layout-length}
 use Rattle.tra4.specs.Answers.{answerOf}
 use Rattle.table_counts.specs.declared.counts.MovementCounts.{MovementCounts}
-use Rattle.player.specs.Columns.{numberAt, rowsAt, isClear, keysBegin, patternsBegin, movementEnd, holdsMovement}
-use Rattle.player.specs.Lookups.{isAsked}
+use Rattle.table_sections.specs.Sections.{isClear, keysBegin, patternsBegin, movementEnd, fewInMovement, holdsMovement}
+use Rattle.table_columns.specs.Parts.{numberAt, rowsAt}
+use Rattle.player_spec.specs.Lookups.{isAsked}
 use Rattle.movement_bridge.proofs.Laid.{Laid, rows-laid, number-laid}
 use Rattle.movement_bridge.proofs.Taken.{Taken, taken}
 use Rattle.movement_bridge.proofs.Faultless.{asked-below, flags-in-row}
@@ -131,7 +132,7 @@ module _ (m : Movement) (clean : movementFault m ≡ clear) where
   lines-clear = or-second _ _ keys-on
 
 holds-read : (m : Movement) (t : List ℤ) → tooMany 0 (countsOf m) movementMosts ≡ clear → 3 + length (m .bones) * 22 + length (keyRows m) * 2 + length (m .patterns) * 3 ≤ length t → holdsMovement (countsRead m) t ≡ true
-unfolding holdsMovement movementEnd patternsBegin keysBegin isClear countsOf movementCounts movementLists
+unfolding fewInMovement holdsMovement movementEnd patternsBegin keysBegin isClear countsOf movementCounts movementLists
 holds-read m t e h = rw (e, le-leb _ _ h)
 
 -- ---- a text that is taken

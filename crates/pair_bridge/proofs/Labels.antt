@@ -17,8 +17,8 @@ use Rattle.tra4_text.specs.Movement.{Movement}
 use Rattle.tra4_text.specs.Layout as movements
 use Rattle.tra4_text.proofs.Whole.{WholeMovement}
 use Rattle.tra4.specs.Answers.{answerOf}
-use Rattle.player.specs.Columns.{holdsMovement}
-use Rattle.player.specs.Lookups.{onlyIf}
+use Rattle.table_sections.specs.Sections.{holdsMovement}
+use Rattle.player_spec.specs.Lookups.{onlyIf}
 use Rattle.player_label.specs.Names.{ifTrue}
 use Rattle.player_label.specs.Labels.{labelFrom, labelIn}
 use Rattle.movement_bridge.proofs.Tables.{countsRead}

@@ -20,14 +20,15 @@ use Rattle.tra4_text.specs.Answer.{movementAnswer, movementTable}
 use Rattle.pair_text.specs.Rules.{groupsFault}
 use Rattle.bac6.specs.Answers as bac6
 use Rattle.tra4.specs.Answers as tra4
-use Rattle.player.specs.Fractions.{Fraction}
-use Rattle.player.specs.Columns.{isClear, numberAt, holdsFigure}
-use Rattle.player.specs.Faces.{CornerOf}
-use Rattle.player.specs.Rows.{rowCorner}
-use Rattle.player.specs.Lookups.{onlyIf, isAsked, faceFine, faceAt, sampleIn, cornerIn, shownIn}
-use Rattle.player.proofs.Sampled as samples
-use Rattle.player.proofs.CornerTests as corners
-use Rattle.player.proofs.ShownTests as shown
+use Rattle.player_spec.specs.Fractions.{Fraction}
+use Rattle.table_sections.specs.Sections.{isClear, holdsFigure}
+use Rattle.table_columns.specs.Parts.{numberAt}
+use Rattle.player_spec.specs.Faces.{CornerOf}
+use Rattle.player_corners.specs.CornerRow.{rowCorner}
+use Rattle.player_spec.specs.Lookups.{onlyIf, isAsked, faceSound, faceAt, sampleIn, cornerIn, shownIn}
+use Rattle.player_samples.proofs.Sampled as samples
+use Rattle.player_corners.proofs.CornerTests as corners
+use Rattle.player_shown.proofs.ShownTests as shown
 use Rattle.movement_bridge.specs.Counts as movement
 use Rattle.movement_bridge.proofs.Tables.{movement-holds, total-stands}
 use Rattle.movement_bridge.proofs.Sampling.{sample-from-text}
@@ -90,9 +91,9 @@ module _ (text : List ℕ) (table : List ℤ) (f : Figure) (e : figureAnswer tex
       ∙ ap (λ (x : Face). x .size) (face-grouped f face)
 
   no-corner : (face k : ℕ) → face < length (facesOf f) → faceOf f face .size ≤ k → none ≡ cornerIn (counts f) (tableAfter text table) face k
-  no-corner face k h l = go (faceFine (counts f) (faceAt (counts f) (tableAfter text table) face)) refl ∙ corners.by-row _ _ face k (rw (counts-are f) at figure-holds-read) h
+  no-corner face k h l = go (faceSound (counts f) (faceAt (counts f) (tableAfter text table) face)) refl ∙ corners.by-row _ _ face k (rw (counts-are f) at figure-holds-read) h
     where
-      go : (b : Bool) → faceFine (counts f) (faceAt (counts f) (tableAfter text table) face) ≡ b → none ≡ rowCorner (counts f) (tableAfter text table) (faceAt (counts f) (tableAfter text table) face) k
+      go : (b : Bool) → faceSound (counts f) (faceAt (counts f) (tableAfter text table) face) ≡ b → none ≡ rowCorner (counts f) (tableAfter text table) (faceAt (counts f) (tableAfter text table) face) k
       go true p = corners.no-corner _ _ _ k p (rw (row-sized face h) l)
       go false p = corners.row-broken _ _ _ k p
 

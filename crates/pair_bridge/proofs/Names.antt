@@ -20,8 +20,9 @@ use Rattle.tra4_text.specs.Movement as tra4
 use Rattle.tra4_text.specs.Layout as movements
 use Rattle.tra4_text.proofs.Whole.{WholeMovement}
 use Rattle.pair_text.specs.Rules.{figureNames, movementNames}
-use Rattle.player.specs.Columns.{numberAt, bonesBegin}
-use Rattle.player.specs.Lookups.{onlyIf}
+use Rattle.table_sections.specs.Sections.{bonesBegin}
+use Rattle.table_columns.specs.Parts.{numberAt}
+use Rattle.player_spec.specs.Lookups.{onlyIf}
 use Rattle.player_label.specs.Names.{isName, nameSpan, partAt, figureSpan, figureName, movementSpan, movementName}
 use Rattle.player_label.specs.Labels.{orEmpty}
 use Rattle.movement_bridge.proofs.Names as movement

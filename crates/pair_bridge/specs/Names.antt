@@ -6,8 +6,8 @@ use Prim.Native.Nat.{ℕ, zero, suc}
 use lib.IntN.{ℤ}
 use Rattle.parse_cursor.specs.Fields.{isSome}
 use Rattle.table_counts.specs.declared.counts.FigureCounts.{FigureCounts}
-use Rattle.player.specs.Columns.{holdsFigure}
-use Rattle.player.specs.Lookups.{onlyIf}
+use Rattle.table_sections.specs.Sections.{holdsFigure}
+use Rattle.player_spec.specs.Lookups.{onlyIf}
 use Rattle.player_label.specs.Names.{figureName}
 use Rattle.player_label.specs.Labels.{orEmpty}
 

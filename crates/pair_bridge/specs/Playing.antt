@@ -9,10 +9,10 @@ use lib.ListN.{length, getD}
 use Rattle.bac6_text.specs.Figure.{Figure}
 use Rattle.bac6_text.specs.Rules.{facesOf}
 use Rattle.tra4_text.specs.Movement.{Movement}
-use Rattle.player.specs.Fractions.{Fraction}
-use Rattle.player.specs.Samples.{sampleOf}
-use Rattle.player.specs.Faces.{CornerOf, cornerOf, shownOf}
-use Rattle.player.specs.Lookups.{onlyIf}
+use Rattle.player_spec.specs.Fractions.{Fraction}
+use Rattle.player_spec.specs.Samples.{sampleOf}
+use Rattle.player_spec.specs.Faces.{CornerOf, cornerOf, shownOf}
+use Rattle.player_spec.specs.Lookups.{onlyIf}
 use Rattle.pair_text.specs.Rules.{figureNames, movementNames}
 use Rattle.player_label.specs.Labels.{labelOf}
 use Rattle.movement_bridge.specs.Counts.{channelOf}

@@ -15,8 +15,8 @@ use Rattle.tra4_text.specs.Movement.{Movement}
 use Rattle.tra4_text.specs.Answer.{movementAnswer, movementTable}
 use Rattle.tra4.specs.Answers.{answerOf}
 use Rattle.table_counts.specs.declared.counts.FigureCounts.{FigureCounts}
-use Rattle.player.specs.Columns.{holdsFigure}
-use Rattle.player.specs.Lookups.{onlyIf}
+use Rattle.table_sections.specs.Sections.{holdsFigure}
+use Rattle.player_spec.specs.Lookups.{onlyIf}
 use Rattle.player_label.specs.Names.{figureName}
 use Rattle.movement_bridge.proofs.Tables.{countsRead, whole-read, table-read, patterns-stand}
 use Rattle.movement_bridge.proofs.Names.{boneName}

@@ -29,7 +29,7 @@ use Rattle.tra4_text.proofs.Whole.{movement-whole}
 use Rattle.tra4_text.proofs.Layouts.{layout-length}
 use Rattle.bac6.specs.Answers as bac6
 use Rattle.tra4.specs.Answers as tra4
-use Rattle.player.specs.Columns.{pointsBegin, bonesBegin, ownersBegin, uvsBegin, facesBegin, figureEnd}
+use Rattle.table_sections.specs.Sections.{pointsBegin, bonesBegin, ownersBegin, uvsBegin, facesBegin, groupsBegin, figureEnd}
 use Rattle.movement_bridge.proofs.Taken.{taken}
 use Rattle.movement_bridge.proofs.Tables.{counts-clear}
 use Rattle.figure_bridge.proofs.Sound.{counts-sound, parents-sound}
@@ -100,7 +100,7 @@ module _ {A X : Type 0} {layout : A → List ℤ} {answerOf : Outcome A → X} (
 -- ---- a figure
 
 figure-most : (f : Figure) → figures.figureFault f ≡ clear → figureEnd (counts f) ≤ 37026
-unfolding figureEnd facesBegin uvsBegin ownersBegin bonesBegin pointsBegin figures.countsOf figures.figureCounts figureLists figureMosts
+unfolding figureEnd groupsBegin facesBegin uvsBegin ownersBegin bonesBegin pointsBegin figures.countsOf figures.figureCounts figureLists figureMosts
 figure-most f c =
     let a = count-clear 0 _ _ _ _ (counts-sound f c) in
     let b = count-clear 1 _ _ _ _ (a .1) in
@@ -114,7 +114,7 @@ figure-most f c =
     omega (arith, a .0, b .0, d .0, e .0, g .0, h .0, i .0, j .0, k .0)
 
 figure-some : (f : Figure) → 0 < figureEnd (counts f)
-unfolding figureEnd facesBegin uvsBegin ownersBegin bonesBegin pointsBegin
+unfolding figureEnd groupsBegin facesBegin uvsBegin ownersBegin bonesBegin pointsBegin
 figure-some f = omega arith
 
 pub figure-small : (text : List ℕ) → Small figures-laid.layoutOf 37026 (figureOutcome text)

@@ -16,7 +16,7 @@ use Rattle.report_text.specs.Output.{output}
 use Rattle.report_lists.specs.Lists.{appendedEach, textOf}
 use Rattle.table_counts.specs.declared.counts.FigureCounts.{FigureCounts}
 use Rattle.table_counts.specs.declared.counts.MovementCounts.{MovementCounts}
-use Rattle.player.specs.Lookups.{onlyIf}
+use Rattle.player_spec.specs.Lookups.{onlyIf}
 use Rattle.player_label.specs.Names.{isName, nameSpan, partAt, figureSpan, figureName, movementSpan, movementName, ifTrue}
 use Rattle.player_label.specs.Labels.{labelOf, labelFrom, labelIn, orEmpty}
 use Rattle.pair_listing.specs.Lines.{labelParts}

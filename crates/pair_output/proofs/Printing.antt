@@ -15,7 +15,7 @@ use Rattle.report_lists.proofs.Texts.{each-within, each-whole}
 use Rattle.bac6_text.specs.Figure.{Figure}
 use Rattle.bac6.specs.Answers as bac6
 use Rattle.tra4_text.specs.Movement.{Movement}
-use Rattle.player.proofs.Mosts.{figure-small}
+use Rattle.table_sections.proofs.Mosts.{figure-small}
 use Rattle.player_label.specs.Labels.{orEmpty}
 use Rattle.report_lists.specs.Parts.{linesFrom}
 use Rattle.pair_text.specs.Answer.{Loaded, refused, loaded, pairAnswer, figureLeft, movementOf, movementLeft}

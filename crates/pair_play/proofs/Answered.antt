@@ -8,7 +8,7 @@ use lib.ListN.{length}
 use Rattle.bac6_text.specs.Figure.{Figure}
 use Rattle.bac6_text.specs.Layout.{layoutOf, nameNumbers}
 use Rattle.tra4_text.specs.Movement.{Movement}
-use Rattle.player.specs.Answers.{numbered}
+use Rattle.player_spec.specs.Answers.{numbered}
 use Rattle.player_label.specs.Labels.{orEmpty}
 use Rattle.pair_text.specs.Answer.{Loaded, refused, loaded}
 use Rattle.pair_load.specs.Answers.{pairReply}

@@ -14,7 +14,7 @@ use Rattle.tra4_text.specs.Answer.{movementAnswer, movementTable}
 use Rattle.tra4.specs.Answers as tra4
 use Rattle.table_counts.specs.declared.counts.FigureCounts.{FigureCounts}
 use Rattle.table_counts.specs.declared.counts.MovementCounts.{MovementCounts}
-use Rattle.player.specs.Lookups.{sampleIn, cornerIn, shownIn}
+use Rattle.player_spec.specs.Lookups.{sampleIn, cornerIn, shownIn}
 use Rattle.player_label.specs.Labels.{labelIn}
 use Rattle.movement_bridge.specs.Counts as movement
 use Rattle.movement_bridge.proofs.Tables.{movement-holds, whole-read, table-read}

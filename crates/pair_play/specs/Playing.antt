@@ -5,9 +5,12 @@ use mathlib.Core.List.{List}
 use Prim.Native.Nat.{ℕ}
 use Rattle.bac6_text.specs.Figure.{Figure}
 use Rattle.tra4_text.specs.Movement.{Movement}
-use Rattle.player.specs.Fractions.{Fraction}
-use Rattle.player.specs.Faces.{CornerOf}
-use Rattle.player.specs.Answers.{numbered, sampled, cornered, showed}
+use Rattle.player_spec.specs.Fractions.{Fraction}
+use Rattle.player_spec.specs.Faces.{CornerOf}
+use Rattle.player_spec.specs.Answers.{numbered}
+use Rattle.player_shown.specs.Answers.{showed}
+use Rattle.player_corners.specs.Answers.{cornered}
+use Rattle.player_samples.specs.Answers.{sampled}
 use Rattle.player_label.specs.Labels.{orEmpty}
 use Rattle.pair_text.specs.Answer.{Loaded, refused, loaded}
 use Rattle.pair_play.specs.declared.PlayedSample.{PlayedSample}

@@ -1,13 +1,15 @@
 // Calls that load a pair and then play it: the two texts are lent with two tables, and the answer speaks of the texts alone.
 ghost use mathlib.Core.Path.{_≡_};
-ghost use Rattle.player.specs.Answers.{sampled, cornered, showed};
+ghost use Rattle.player_samples.specs.Answers.{sampled};
+ghost use Rattle.player_corners.specs.Answers.{cornered};
+ghost use Rattle.player_shown.specs.Answers.{showed};
 ghost use Rattle.pair_text.specs.Answer.{loading, tableLeft, movesLeft};
 ghost use Rattle.pair_bridge.specs.Playing.{sampleAsked, cornerAsked, shownAsked, labelAsked};
 ghost use Rattle.pair_play.specs.Playing.{played, sampleTold, cornerTold, shownTold, refusalOf, bytesOf};
 use pair_load::load;
-use player::Cornered;
-use player::Sampled;
-use player::Visibility;
+use player_corners::Cornered;
+use player_samples::Sampled;
+use player_shown::Visibility;
 use text_bytes::part;
 
 // A refusal's number, place and file, and a refused value; or zeros and the value.
@@ -107,7 +109,7 @@ pub fn played_sample(
         };
     }
     let m = a.movement;
-    let value = player::sample(moves, m, bone, channel, at);
+    let value = player_samples::sample(moves, m, bone, channel, at);
     PlayedSample {
         refusal: sample_number(value),
         place: 0,
@@ -138,7 +140,7 @@ pub fn played_corner(
         };
     }
     let n = a.figure;
-    let value = player::corner(table, n, face, k);
+    let value = player_corners::corner(table, n, face, k);
     PlayedCorner {
         refusal: corner_number(value),
         place: 0,
@@ -170,7 +172,7 @@ pub fn played_shown(
     }
     let n = a.figure;
     let m = a.movement;
-    let value = player::shown(table, n, moves, m, face, at);
+    let value = player_shown::shown(table, n, moves, m, face, at);
     PlayedShown {
         refusal: shown_number(value),
         place: 0,

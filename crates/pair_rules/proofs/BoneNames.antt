@@ -12,8 +12,8 @@ use Rattle.text_bytes.specs.Bytes.{same}
 use Rattle.parse_cursor.specs.Fields.{isSome}
 use Rattle.table_counts.specs.declared.counts.FigureCounts.{FigureCounts}
 use Rattle.table_counts.specs.declared.counts.MovementCounts.{MovementCounts}
-use Rattle.player.specs.Columns.{holdsFigure, holdsMovement}
-use Rattle.player.specs.Lookups.{onlyIf}
+use Rattle.table_sections.specs.Sections.{holdsFigure, holdsMovement}
+use Rattle.player_spec.specs.Lookups.{onlyIf}
 use Rattle.player_label.specs.Names.{partAt, figureSpan, figureName, movementName, ifTrue, figureNamed, movementNamed}
 use Rattle.pair_text.specs.Rules.{namesAgree}
 use Rattle.pair_bridge.specs.Names.{allNamed, namesIn}

@@ -15,7 +15,7 @@ use Rattle.parse_cursor.specs.Fields.{isSome}
 use Rattle.refusal.specs.FirstBad.{firstBad}
 use Rattle.table_rows.specs.References.{isRow}
 use Rattle.tra4_text.specs.Movement.{Pattern, groupOf}
-use Rattle.player.specs.Columns.{numbersAt, rowsAt}
+use Rattle.table_columns.specs.Parts.{numbersAt, rowsAt}
 use Rattle.player_label.specs.Labels.{orEmpty}
 use Rattle.pair_text.specs.Rules.{namesAgree, namesFault, groupsFault}
 use Rattle.pair_bridge.specs.Names.{namesFrom, allNamed}

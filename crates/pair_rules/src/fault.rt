@@ -4,7 +4,8 @@ ghost use mathlib.Core.Bool.{true};
 ghost use Prim.Native.Nat.{_*_, _≤_};
 ghost use lib.ListN.{length};
 ghost use Rattle.refusal.specs.Answers.{refusal};
-ghost use Rattle.player.specs.Columns.{rowsAt, holdsFigure, holdsMovement};
+ghost use Rattle.table_sections.specs.Sections.{holdsFigure, holdsMovement};
+ghost use Rattle.table_columns.specs.Parts.{rowsAt};
 ghost use Rattle.pair_text.specs.Rules.{groupsFault};
 ghost use Rattle.pair_rules.specs.Tables.{rowsFault, tablesFault};
 use crate::names::names_fault;
@@ -72,13 +73,13 @@ pub fn pair_fault(
 ) -> Checked
     ensures { λ r. ⌜ refusal r ≡ tablesFault (now (figure .entry)) n (now (table .entry)) (now (movement .entry)) m (now (moves .entry)) ⌝ }
 {
-    if !player::holds_figure(table, n) {
+    if !table_sections::holds_figure(table, n) {
         return Checked::Refused {
             number: 21,
             place: 0,
         };
     }
-    if !player::holds_movement(moves, m) {
+    if !table_sections::holds_movement(moves, m) {
         return Checked::Refused {
             number: 21,
             place: 0,

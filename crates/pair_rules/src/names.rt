@@ -5,7 +5,7 @@ ghost use Prim.Native.Nat.{_<_};
 ghost use lib.ListN.{length};
 ghost use Rattle.refusal.specs.Answers.{refusal};
 ghost use Rattle.parse_cursor.specs.Fields.{isSome};
-ghost use Rattle.player.specs.Columns.{holdsFigure, holdsMovement};
+ghost use Rattle.table_sections.specs.Sections.{holdsFigure, holdsMovement};
 ghost use Rattle.player_label.specs.Answers.{found};
 ghost use Rattle.player_label.specs.Names.{partAt, figureNamed, figureName, movementName};
 ghost use Rattle.player_label.specs.Labels.{orEmpty};
@@ -33,7 +33,7 @@ fn has_name(figure: &[u8], table: &[i64], n: FigureCounts, row: usize) -> bool
 pub fn has_names(figure: &[u8], table: &[i64], n: FigureCounts) -> bool
     ensures { λ r. ⌜ r ≡ isSome (namesIn (now (figure .entry)) n (now (table .entry))) ⌝ }
 {
-    if !player::holds_figure(table, n) {
+    if !table_sections::holds_figure(table, n) {
         return false;
     }
     let bones = n.bones;

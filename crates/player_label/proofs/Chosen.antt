@@ -12,7 +12,7 @@ use Rattle.text_bytes.specs.Bytes.{part}
 use Rattle.text_bytes.proofs.Parts.{part-none}
 use Rattle.table_counts.specs.declared.counts.MovementCounts.{MovementCounts}
 use Rattle.table_counts.specs.declared.counts.FigureCounts.{FigureCounts}
-use Rattle.player.specs.Columns.{holdsMovement, holdsFigure}
+use Rattle.table_sections.specs.Sections.{holdsMovement, holdsFigure}
 use Rattle.player_label.specs.Names.{partAt, figureSpan, movementSpan, figureName, movementName, ifTrue, figureNamed, movementNamed}
 use Rattle.player_label.specs.Labels.{labelOf, labelFrom, labelIn}
 use Rattle.player_label.proofs.Spans.{span-within}

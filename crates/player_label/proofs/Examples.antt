@@ -11,12 +11,13 @@ use Rattle.bac6_text.specs.Rules as bac6
 use Rattle.tra4_text.specs.Rules as tra4
 use Rattle.table_counts.specs.declared.counts.MovementCounts.{MovementCounts}
 use Rattle.table_counts.specs.declared.counts.FigureCounts.{FigureCounts}
-use Rattle.player.specs.Columns.{numberAt, isClear, keysBegin, patternsBegin, movementEnd, holdsMovement, pointsBegin, bonesBegin, ownersBegin, uvsBegin, facesBegin, figureEnd, holdsFigure}
-use Rattle.player.specs.Lookups.{onlyIf}
+use Rattle.table_sections.specs.Sections.{fewInMovement, fewInFigure, groupsBegin, isClear, keysBegin, patternsBegin, movementEnd, holdsMovement, pointsBegin, bonesBegin, ownersBegin, uvsBegin, facesBegin, figureEnd, holdsFigure}
+use Rattle.table_columns.specs.Parts.{numberAt}
+use Rattle.player_spec.specs.Lookups.{onlyIf}
 use Rattle.player_label.specs.Names.{isName, nameSpan, partAt, figureSpan, figureName, movementSpan, movementName, ifTrue}
 use Rattle.player_label.specs.Labels.{labelOf, labelFrom, labelIn}
-use Rattle.table_counts.specs.Counts.{figureMosts}
-use Rattle.table_counts.specs.Counts.{movementMosts}
+use Rattle.table_counts.specs.Counts.{figureLists, figureMosts}
+use Rattle.table_counts.specs.Counts.{movementLists, movementMosts}
 
 -- ---- one bone and nothing else in each table
 
@@ -45,7 +46,7 @@ asked =
     ∷ []
 
 pub labels-example : map (λ (a : (ℤ × ℤ) × (ℤ × ℤ) × ℕ). labelIn (bytes "bone") counts (figure (a .0)) (bytes "move") moveCounts (moves (a .1)) (a .2)) asked ≡ some (bytes "mo") ∷ some (bytes "one") ∷ some (bytes "ve") ∷ none ∷ none ∷ none ∷ none ∷ []
-unfolding bytes part tooMany figureMosts movementMosts numberAt isClear keysBegin patternsBegin movementEnd holdsMovement pointsBegin bonesBegin ownersBegin uvsBegin facesBegin figureEnd holdsFigure onlyIf isName nameSpan partAt figureSpan figureName movementSpan movementName ifTrue labelOf labelFrom labelIn
+unfolding movementLists figureLists fewInMovement fewInFigure groupsBegin bytes part tooMany figureMosts movementMosts numberAt isClear keysBegin patternsBegin movementEnd holdsMovement pointsBegin bonesBegin ownersBegin uvsBegin facesBegin figureEnd holdsFigure onlyIf isName nameSpan partAt figureSpan figureName movementSpan movementName ifTrue labelOf labelFrom labelIn
 labels-example = refl
 
 -- ---- 255 bytes, up to the text's end

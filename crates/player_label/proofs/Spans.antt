@@ -16,11 +16,12 @@ use mir.Val.{Fits, SFits}
 use Rattle.text_numbers.proofs.Numerals.{and-true}
 use Rattle.table_counts.specs.declared.counts.MovementCounts.{MovementCounts}
 use Rattle.table_counts.specs.declared.counts.FigureCounts.{FigureCounts}
-use Rattle.player.specs.Columns.{numberAt, numbersAt, bonesBegin, holdsMovement, holdsFigure}
-use Rattle.player.specs.Bones.{rowIf, figureBone, movementBone}
-use Rattle.player.specs.Lookups.{onlyIf}
-use Rattle.player.proofs.Indices.{bone-place}
-use Rattle.player.proofs.Sampled.{movement-room}
+use Rattle.table_sections.specs.Sections.{bonesBegin, holdsMovement, holdsFigure}
+use Rattle.table_columns.specs.Parts.{numberAt, numbersAt}
+use Rattle.table_sections.specs.Bones.{rowIf, figureBone, movementBone}
+use Rattle.player_spec.specs.Lookups.{onlyIf}
+use Rattle.table_sections.proofs.Indices.{bone-place}
+use Rattle.table_sections.proofs.Mosts.{movement-room}
 use Rattle.player_label.specs.Names.{isName, nameSpan, figureSpan, movementSpan, ifTrue, figureNamed, movementNamed}
 
 -- ---- the tests on a pair

@@ -7,7 +7,7 @@ use lib.Dec.{ltb}
 use lib.IntN.{ℤ}
 use Rattle.table_counts.specs.declared.counts.MovementCounts.{MovementCounts}
 use Rattle.table_counts.specs.declared.counts.FigureCounts.{FigureCounts}
-use Rattle.player.specs.Columns.{holdsMovement, holdsFigure}
+use Rattle.table_sections.specs.Sections.{holdsMovement, holdsFigure}
 use Rattle.player_label.specs.Names.{figureName, movementName, ifTrue}
 
 -- ---- from the two texts: of the figure's name and the movement's, an absent one being empty

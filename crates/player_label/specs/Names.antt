@@ -9,8 +9,9 @@ use lib.ListN.{length}
 use Rattle.text_bytes.specs.Bytes.{part}
 use Rattle.table_counts.specs.declared.counts.MovementCounts.{MovementCounts}
 use Rattle.table_counts.specs.declared.counts.FigureCounts.{FigureCounts}
-use Rattle.player.specs.Columns.{numberAt, holdsMovement, bonesBegin, holdsFigure}
-use Rattle.player.specs.Lookups.{onlyIf}
+use Rattle.table_sections.specs.Sections.{holdsMovement, bonesBegin, holdsFigure}
+use Rattle.table_columns.specs.Parts.{numberAt}
+use Rattle.player_spec.specs.Lookups.{onlyIf}
 
 -- a place and a length that are a part of a text of so many bytes, of at most 255 bytes
 unfoldable pub isName : ℕ → ℤ → ℤ → Bool

@@ -1,6 +1,6 @@
 // The movement's name for a bone where it has one of non-zero length, else the figure's.
 ghost use mathlib.Core.Path.{_≡_};
-ghost use Rattle.player.specs.Answers.{numbered};
+ghost use Rattle.player_spec.specs.Answers.{numbered};
 ghost use Rattle.player_label.specs.Labels.{labelIn, orEmpty};
 ghost use Rattle.player_label.specs.Answers.{named};
 use crate::names::Found;

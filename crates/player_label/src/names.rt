@@ -36,7 +36,7 @@ fn name_span(size: usize, place: i64, long: i64) -> Found
 pub fn figure_name(figure: &[u8], table: &[i64], n: FigureCounts, bone: usize) -> Found
     ensures { λ r. ⌜ found r ≡ figureNamed (length (now (figure .entry))) n (now (table .entry)) bone ⌝ }
 {
-    let row = player::figure_bone(table, n, bone);
+    let row = table_sections::figure_bone(table, n, bone);
     if row.len() == 0 {
         return Found::Refused;
     }
@@ -46,7 +46,7 @@ pub fn figure_name(figure: &[u8], table: &[i64], n: FigureCounts, bone: usize) -
 pub fn movement_name(movement: &[u8], moves: &[i64], m: MovementCounts, bone: usize) -> Found
     ensures { λ r. ⌜ found r ≡ movementNamed (length (now (movement .entry))) m (now (moves .entry)) bone ⌝ }
 {
-    let row = player::movement_bone(moves, m, bone);
+    let row = table_sections::movement_bone(moves, m, bone);
     if row.len() == 0 {
         return Found::Refused;
     }

@@ -8,10 +8,10 @@ use native.Mathlib.Omega.{arith}
 use borrow.Author.Tests.{leb-true, leb-false, le-leb, lt-ltb, le-ltb}
 use lib.Signed.{leZ}
 use lib.IntN.{ℤ, pos, negsuc, negℤ, natAbs, _+ℤ_, _-ℤ_, _*ℤ_, +ℤ-idr, +ℤ-assoc, +ℤ-comm, +ℤ-invl, -ℤ-+ℤ-cancel, *ℤ-zero, *ℤ-comm, sucℤ-*ℤ, pos-+ℤ-pos, pos-*ℤ-pos, +ℤ-negℤ-cancel, +ℤ-invr}
-use Rattle.player.specs.Fractions.{factor, signedAs, lowest}
+use Rattle.player_spec.specs.Fractions.{factor, signedAs, lowest}
 use Rattle.tra4_text.specs.Movement.{Key}
-use Rattle.player.specs.Samples.{keyFrame, keyValue, line}
-use Rattle.player.proofs.Factors.{factor-divides, factor-some}
+use Rattle.player_spec.specs.Samples.{keyFrame, keyValue, line}
+use Rattle.player_samples.proofs.Factors.{factor-divides, factor-some}
 use Rattle.player_laws.specs.Bounds.{AtMost, Bounded, smaller, larger, Between}
 
 -- ---- products with a natural number

@@ -16,9 +16,9 @@ use Rattle.refusal.specs.Faults.{clear, fault}
 use Rattle.text_numbers.proofs.Numerals.{and-true}
 use Rattle.tra4_text.specs.Movement.{Key, Channel, frameOf}
 use Rattle.tra4_text.specs.Rules.{framesFault, keyFine, isFrame, isZero, rises}
-use Rattle.player.specs.Fractions.{factor, lowest, whole}
-use Rattle.player.specs.Samples.{keyFrame, keyValue, line, sampleFrom, sampleOf}
-use Rattle.player.proofs.Factors.{lowest-coprime}
+use Rattle.player_spec.specs.Fractions.{factor, lowest, whole}
+use Rattle.player_spec.specs.Samples.{keyFrame, keyValue, line, sampleFrom, sampleOf}
+use Rattle.player_samples.proofs.Factors.{lowest-coprime}
 use Rattle.player_laws.specs.Bounds.{Between, LowestTerms, keyAt}
 use Rattle.player_laws.proofs.Samples.{Rising, sample-first, sample-later, sample-between-first, sample-between, sample-past, sample-alone}
 use Rattle.player_laws.proofs.Between.{denominator-is, line-between}

@@ -7,7 +7,7 @@ use lib.IntN.{ℤ, pos, natAbs, _+ℤ_, _*ℤ_}
 use lib.ListN.{getD}
 use lib.Signed.{leZ}
 use Rattle.tra4_text.specs.Movement.{Key, Channel}
-use Rattle.player.specs.Fractions.{Fraction}
+use Rattle.player_spec.specs.Fractions.{Fraction}
 
 -- a is at most b: b is a and so many more
 pub record AtMost (a b : ℤ) : Type 0 where

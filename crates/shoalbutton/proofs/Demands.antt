@@ -26,8 +26,8 @@ use Rattle.tra4_text.specs.Rules.{movementFault}
 use Rattle.tra4_text.specs.Layout as movements
 use Rattle.tra4_text.specs.Answer.{movementOutcome, movementAnswer, movementTable}
 use Rattle.movement_bridge.proofs.Taken.{taken}
-use Rattle.player.specs.Lookups.{onlyIf}
-use Rattle.player.specs.Answers.{numbered}
+use Rattle.player_spec.specs.Lookups.{onlyIf}
+use Rattle.player_spec.specs.Answers.{numbered}
 use Rattle.player_laws.proofs.Keys.{on-key-at, between-at, past-last-at, sample-lowest}
 use Rattle.movement_bridge.specs.Counts.{channelOf}
 use Rattle.movement_bridge.proofs.Sampling.{channel-sound, channel-whole}

@@ -5,8 +5,8 @@ use Rattle.text_bytes.specs.Bytes.{bytes, between, isDigit, run}
 use Rattle.text_numbers.specs.Numbers.{decimalFrom, decimal, signed, notEmpty, allDigits, intMost, intOf, millionths, floatOf, numberFrom, afterDigits, unsigned, negative, unsignedPart, numberOf, refusalOf}
 use Rattle.bac6_text.specs.Rules.{isSet, joined, thenIf, boneList, wholeList, placedFault, parentsIn, bonesFault}
 use Rattle.tra4_text.specs.Movement.{frameOf}
-use Rattle.player.specs.Fractions.{factorIn, factor, signedAs, lowest, whole}
-use Rattle.player.specs.Samples.{keyFrame, keyValue, line, sampleFrom, sampleOf}
+use Rattle.player_spec.specs.Fractions.{factorIn, factor, signedAs, lowest, whole}
+use Rattle.player_spec.specs.Samples.{keyFrame, keyValue, line, sampleFrom, sampleOf}
 use Rattle.shoalbutton.specs.Marked.{saysNumber, saysBones, saysSample, valueOf, channel, ruled, marked}
 
 pub marked-cases : map (λ c. ruled (c .0)) marked ≡ map (λ c. c .1) marked

@@ -24,11 +24,11 @@ use Rattle.tra4_text.specs.Layout as movements
 use Rattle.tra4_text.specs.Answer.{movementAnswer, movementTable}
 use Rattle.table_counts.specs.declared.counts.FigureCounts.{FigureCounts}
 use Rattle.table_counts.specs.declared.counts.MovementCounts.{MovementCounts}
-use Rattle.player.specs.Fractions.{whole}
-use Rattle.player.specs.Samples.{keyFrame, keyValue, sampleOf}
-use Rattle.player.specs.Faces.{cornerOf, shownOf}
-use Rattle.player.specs.Lookups.{sampleIn, cornerIn, shownIn}
-use Rattle.player.specs.Answers.{numbered}
+use Rattle.player_spec.specs.Fractions.{whole}
+use Rattle.player_spec.specs.Samples.{keyFrame, keyValue, sampleOf}
+use Rattle.player_spec.specs.Faces.{cornerOf, shownOf}
+use Rattle.player_spec.specs.Lookups.{sampleIn, cornerIn, shownIn}
+use Rattle.player_spec.specs.Answers.{numbered}
 use Rattle.player_laws.specs.Bounds.{Between, LowestTerms, keyAt}
 use Rattle.player_label.specs.Labels.{labelOf, labelIn}
 use Rattle.movement_bridge.specs.Counts.{channelOf}

@@ -8,8 +8,8 @@ use Rattle.text_numbers.specs.Numbers.{Number, value, beyond, wrong, Form, INT,
 use Rattle.refusal.specs.Faults.{Fault, clear, fault}
 use Rattle.bac6_text.specs.Rules.{Flags, bonesFault, wholeList, parentsIn}
 use Rattle.tra4_text.specs.Movement.{Channel}
-use Rattle.player.specs.Fractions.{Fraction}
-use Rattle.player.specs.Samples.{sampleOf}
+use Rattle.player_spec.specs.Fractions.{Fraction}
+use Rattle.player_spec.specs.Samples.{sampleOf}
 
 -- a word where a number of a form is wanted; the child and brother flags of bones; keys by frame and word, and a frame
 pub data Case : Type 0 where

@@ -6,8 +6,11 @@ ghost use Rattle.bac6_text.specs.Answer.{figureAnswer, tableAfter};
 ghost use Rattle.tra4_text.specs.Answer.{movementAnswer, movementTable};
 ghost use Rattle.bac6.specs.Answers.{answerOf as figureReply};
 ghost use Rattle.tra4.specs.Answers.{answerOf as movementReply};
-ghost use Rattle.player.specs.Lookups.{sampleIn, shownIn, cornerIn};
-ghost use Rattle.player.specs.Answers.{numbered, sampled, showed, cornered};
+ghost use Rattle.player_spec.specs.Lookups.{sampleIn, shownIn, cornerIn};
+ghost use Rattle.player_spec.specs.Answers.{numbered};
+ghost use Rattle.player_shown.specs.Answers.{showed};
+ghost use Rattle.player_corners.specs.Answers.{cornered};
+ghost use Rattle.player_samples.specs.Answers.{sampled};
 ghost use Rattle.player_label.specs.Labels.{labelIn, orEmpty};
 ghost use Rattle.pair_text.specs.Answer.{movementLeft, loading, tableLeft, movesLeft};
 ghost use Rattle.pair_bridge.specs.Playing.{sampleAsked, cornerAsked, shownAsked, labelAsked};
@@ -20,9 +23,9 @@ use pair_play::PlayedCorner;
 use pair_play::PlayedSample;
 use pair_play::PlayedShown;
 use pair_play::Refusal;
-use player::Cornered;
-use player::Sampled;
-use player::Visibility;
+use player_corners::Cornered;
+use player_samples::Sampled;
+use player_shown::Visibility;
 use table_counts::FigureCounts;
 use table_counts::MovementCounts;
 use tra4::MovementAnswer;
@@ -74,7 +77,7 @@ pub fn load_movement(
 pub fn sample(table: &[i64], n: MovementCounts, bone: usize, channel: usize, at: usize) -> Sampled
     ensures { λ r. ⌜ sampled r ≡ numbered (sampleIn n (now (table .entry)) bone channel at) ⌝ }
 {
-    player::sample(table, n, bone, channel, at)
+    player_samples::sample(table, n, bone, channel, at)
 }
 
 // Whether a face is shown at a frame.
@@ -88,14 +91,14 @@ pub fn shown(
 ) -> Visibility
     ensures { λ r. ⌜ showed r ≡ numbered (shownIn n (now (table .entry)) m (now (moves .entry)) face at) ⌝ }
 {
-    player::shown(table, n, moves, m, face, at)
+    player_shown::shown(table, n, moves, m, face, at)
 }
 
 // A face's corner.
 pub fn corner(table: &[i64], n: FigureCounts, face: usize, k: usize) -> Cornered
     ensures { λ r. ⌜ cornered r ≡ numbered (cornerIn n (now (table .entry)) face k) ⌝ }
 {
-    player::corner(table, n, face, k)
+    player_corners::corner(table, n, face, k)
 }
 
 // A bone's name, a part of one of the two lent texts; at 21 it is empty.

@@ -2,13 +2,23 @@
 ghost use mathlib.Core.Path.{_≡_};
 ghost use Prim.Native.Nat.{_-_, _*_, _≤_};
 ghost use lib.ListN.{length, take};
+<<<<<<< HEAD:crates/shown_listing/src/faces.rt
 ghost use Rattle.report_text.specs.Output.{output, appended};
 ghost use Rattle.report_lists.specs.Lists.{appendedEach};
-ghost use Rattle.player.specs.Answers.{showed};
+ghost use Rattle.player_shown.specs.Answers.{showed};
 ghost use Rattle.shown_listing.specs.Faces.{shownLine, shownLines, shownText};
-use player::Visibility;
+use player_shown::Visibility;
 use report_lists::shown;
 use report_rows::append_row;
+=======
+ghost use Rattle.report_text.specs.Output.{output, appended};
+ghost use Rattle.report_lists.specs.Lists.{appendedEach};
+ghost use Rattle.player_shown.specs.Answers.{showed};
+ghost use Rattle.shown_listing.specs.Faces.{shownLine, shownLines, shownText};
+use player_shown::Visibility;
+use report_rows::append_row;
+use report_lists::shown;
+>>>>>>> playing:crates/player_listing/src/faces.rt
 use table_counts::FigureCounts;
 use table_counts::MovementCounts;
 
@@ -44,7 +54,7 @@ pub fn list_shown(
     let mut filled = 0;
     let mut at = first;
     while at < end {
-        let answer = player::shown(table, n, moves, m, face, at);
+        let answer = player_shown::shown(table, n, moves, m, face, at);
         filled = append_shown(buf, filled, face, at, answer);
         at += 1;
     }

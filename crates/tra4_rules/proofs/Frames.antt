@@ -20,9 +20,9 @@ use Rattle.tra4_text.specs.Movement.{frameOf, groupOf}
 use Rattle.tra4_text.specs.Rules.{isFrame, isZero, rises, neverFalls, framesFault, keyFine, patternFine, patternsFault}
 use Rattle.tra4_rules.specs.declared.frame.Timed.{Timed}
 use Rattle.tra4_rules.specs.declared.frame.Timed.the-variants.{Key, Pattern}
-use Rattle.tra4_rules.specs.Rows.{rowsOf}
+use Rattle.table_columns.specs.Parts.{rowsOf}
 use Rattle.tra4_rules.specs.Frames.{widthOf, numberOf, rowFine, beforeOf, follows, frameFits}
-use Rattle.tra4_rules.proofs.Tables.{rows-more, rows-short, row-part, part-rest}
+use Rattle.table_columns.proofs.Rows.{rows-more, rows-short, row-part, part-rest}
 use Rattle.text_numbers.proofs.Tests.{most-above}
 
 -- ---- one frame

@@ -1,7 +1,6 @@
 -- Laws that belong to no one function.
 pub mod Numbers
 pub mod Counts
-pub mod Tables
 pub mod Frames
 pub mod Keys
 pub mod Laid

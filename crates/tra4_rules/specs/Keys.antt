@@ -9,7 +9,8 @@ use Rattle.tra4_text.specs.Movement.{Key, Channel}
 use Rattle.tra4_text.specs.Rules.{keysFault}
 use Rattle.tra4_rules.specs.declared.key.Walk.{Walk}
 use Rattle.tra4_rules.specs.declared.key.Walk.the-variants.{At, Refused}
-use Rattle.tra4_rules.specs.Rows.{rowsOf, wholeRows}
+use Rattle.tra4_rules.specs.Rows.{wholeRows}
+use Rattle.table_columns.specs.Parts.{rowsOf}
 
 -- how many keys a count says; none below zero
 unfoldable pub countOf : ℤ → ℕ

@@ -5,7 +5,7 @@ use lib.IntN.{ℤ}
 use Rattle.refusal.specs.Faults.{Fault}
 use Rattle.refusal.specs.Rules.{orElse, tooMany}
 use Rattle.tra4_text.specs.Rules.{totalFault, keysFault, patternsFault}
-use Rattle.tra4_rules.specs.Rows.{rowsOf}
+use Rattle.table_columns.specs.Parts.{rowsOf}
 use Rattle.tra4_rules.specs.Keys.{channelsIn}
 use Rattle.table_counts.specs.Counts.{movementMosts}
 

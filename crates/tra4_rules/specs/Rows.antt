@@ -5,11 +5,7 @@ use Prim.Native.Nat.{ℕ, zero, suc}
 use lib.Dec.{leb}
 use lib.ListN.{length, take, drop}
 use lib.IntN.{ℤ}
-
--- the first n whole rows of a width; fewer where the table is shorter
-unfoldable pub rowsOf : ℕ → ℕ → List ℤ → List (List ℤ)
-rowsOf w zero t = []
-rowsOf w (suc n) t = elim (leb w (length t)) [ true ↦ take w t ∷ rowsOf w n (drop w t) | false ↦ [] ]
+use Rattle.table_columns.specs.Parts.{rowsOf}
 
 -- every whole row of a width, of one number or more
 unfoldable pub wholeRows : ℕ → List ℤ → List (List ℤ)

@@ -5,7 +5,7 @@ ghost use Prim.Native.Nat.{_-_, _≤_};
 ghost use lib.ListN.{length};
 ghost use Rattle.refusal.specs.Answers.{refusal};
 ghost use Rattle.tra4_text.specs.Rules.{framesFault, patternsFault};
-ghost use Rattle.tra4_rules.specs.Rows.{rowsOf};
+ghost use Rattle.table_columns.specs.Parts.{rowsOf};
 ghost use Rattle.tra4_rules.specs.Frames.{widthOf, numberOf, rowFine, beforeOf, frameFits};
 use refusal::Checked;
 

@@ -64,7 +64,7 @@ fn movement_counts(m: &[i64; 4]) -> MovementCounts {
 }
 
 fn tell_sample(moves: &[i64], m: MovementCounts, bone: usize, channel: usize, at: usize) {
-    let answer = player::sample(moves, m, bone, channel, at);
+    let answer = player_samples::sample(moves, m, bone, channel, at);
     let mut out = [0u8; 64];
     let filled = sample_listing::list_fraction(&mut out, answer);
     put(text_bytes::part(&out, 0, filled));
@@ -72,7 +72,7 @@ fn tell_sample(moves: &[i64], m: MovementCounts, bone: usize, channel: usize, at
 
 // A corner that does not exist has no line.
 fn tell_corner(table: &[i64], n: FigureCounts, face: usize, k: usize) {
-    let answer = player::corner(table, n, face, k);
+    let answer = player_corners::corner(table, n, face, k);
     let mut out = [0u8; 256];
     let filled = corner_listing::append_corner(&mut out, 0, face, k, answer);
     if filled == 0 {
@@ -90,7 +90,7 @@ fn tell_shown(
     face: usize,
     at: usize,
 ) {
-    let answer = player::shown(table, n, moves, m, face, at);
+    let answer = player_shown::shown(table, n, moves, m, face, at);
     let mut out = [0u8; 128];
     let filled = shown_listing::append_shown(&mut out, 0, face, at, answer);
     put(text_bytes::part(&out, 0, filled));

@@ -1,5 +1,5 @@
 -- `corner_number` is the answer's number, by its cases.
-use Rattle.player.specs.Answers.{cornered}
+use Rattle.player_corners.specs.Answers.{cornered}
 use borrow.Author.Needs.{needs}
 use Rattle.pair_play.proofs.corner_number.Statement.{statement}
 use Rattle.pair_play.proofs.corner_number.Tie as tie

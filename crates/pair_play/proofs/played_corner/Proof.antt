@@ -7,8 +7,8 @@ use Rattle.bac6_text.specs.Figure.{Figure}
 use Rattle.tra4_text.specs.Movement.{Movement}
 use Rattle.table_counts.specs.declared.counts.FigureCounts.{FigureCounts}
 use Rattle.pair_load.specs.declared.pair.PairAnswer.{PairAnswer}
-use Rattle.player.specs.Lookups.{cornerIn}
-use Rattle.player.specs.Answers.{cornered}
+use Rattle.player_spec.specs.Lookups.{cornerIn}
+use Rattle.player_corners.specs.Answers.{cornered}
 use Rattle.pair_bridge.specs.Playing.{cornerAsked}
 use Rattle.pair_play.specs.Playing.{cornerTold}
 use Rattle.pair_play.proofs.Loaded.{every-corner}

@@ -7,8 +7,8 @@ use Rattle.bac6_text.specs.Figure.{Figure}
 use Rattle.tra4_text.specs.Movement.{Movement}
 use Rattle.table_counts.specs.declared.counts.MovementCounts.{MovementCounts}
 use Rattle.pair_load.specs.declared.pair.PairAnswer.{PairAnswer}
-use Rattle.player.specs.Lookups.{sampleIn}
-use Rattle.player.specs.Answers.{sampled}
+use Rattle.player_spec.specs.Lookups.{sampleIn}
+use Rattle.player_samples.specs.Answers.{sampled}
 use Rattle.pair_bridge.specs.Playing.{sampleAsked}
 use Rattle.pair_play.specs.Playing.{sampleTold}
 use Rattle.pair_play.proofs.Loaded.{every-sample}

@@ -4,7 +4,7 @@ use denote.Ref.{now}
 use Rattle.bac6_text.specs.Figure.{Figure}
 use Rattle.tra4_text.specs.Movement.{Movement}
 use Rattle.pair_load.specs.declared.pair.PairAnswer.{PairAnswer}
-use Rattle.player.specs.Answers.{showed}
+use Rattle.player_shown.specs.Answers.{showed}
 use Rattle.pair_bridge.specs.Playing.{shownAsked}
 use Rattle.pair_play.specs.Playing.{shownTold}
 use Rattle.pair_play.proofs.Loaded.{shown-of}

@@ -1,5 +1,5 @@
 -- `shown_number` is the answer's number, by its cases.
-use Rattle.player.specs.Answers.{showed}
+use Rattle.player_shown.specs.Answers.{showed}
 use borrow.Author.Needs.{needs}
 use Rattle.pair_play.proofs.shown_number.Statement.{statement}
 use Rattle.pair_play.proofs.shown_number.Tie as tie

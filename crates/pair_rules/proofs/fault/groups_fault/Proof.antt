@@ -8,7 +8,7 @@ use mir.Syntax.{w64}
 use mir.Facts.{toZ-ofZ}
 use Rattle.refusal.specs.Answers.{refusal}
 use Rattle.table_rows.specs.References.{isRow}
-use Rattle.player.specs.Columns.{rowsAt}
+use Rattle.table_columns.specs.Parts.{rowsAt}
 use Rattle.pair_text.specs.Rules.{groupsFault}
 use Rattle.pair_rules.proofs.Turns.{linesLeft, lines-all, lines-more, lines-bad, lines-end}
 use Rattle.pair_rules.proofs.fault.groups_fault.Statement.{statement}

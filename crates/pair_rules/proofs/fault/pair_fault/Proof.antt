@@ -4,7 +4,7 @@ use mathlib.Core.Bool.{true}
 use borrow.Author.Tests.{not-true, not-false}
 use denote.Ref.{now}
 use Rattle.refusal.specs.Answers.{refusal}
-use Rattle.player.specs.Columns.{holdsFigure, holdsMovement}
+use Rattle.table_sections.specs.Sections.{holdsFigure, holdsMovement}
 use Rattle.pair_rules.proofs.Faults.{unheld-figure, unheld-movement, held-tables}
 use borrow.Author.Needs.{needs}
 use Rattle.pair_rules.proofs.fault.pair_fault.Statement.{statement}

@@ -6,8 +6,8 @@ use denote.Ref.{now}
 use lib.ListN.{length}
 use Rattle.refusal.specs.Answers.{refusal}
 use Rattle.refusal.proofs.Rules.{refused-by, clear-by}
-use Rattle.player.proofs.Sampled.{movement-room}
-use Rattle.player.proofs.Indices.{part-length}
+use Rattle.table_sections.proofs.Mosts.{movement-room}
+use Rattle.table_columns.proofs.Parts.{part-length}
 use Rattle.pair_rules.proofs.Faults.{bones-differ, names-found, groups-found}
 use borrow.Author.Needs.{needs}
 use Rattle.pair_rules.proofs.fault.rows_fault.Statement.{statement}

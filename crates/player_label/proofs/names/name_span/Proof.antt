@@ -1,7 +1,7 @@
 -- `name_span` is the definition, by its tests on the pair.
 use mir.Facts.{toZ-ofZ}
 use Rattle.text_numbers.proofs.Signed.{from-zero}
-use Rattle.player.proofs.Numbers.{natural-cast}
+use Rattle.table_columns.proofs.Casts.{natural-cast}
 use Rattle.player_label.specs.Answers.{found}
 use Rattle.player_label.proofs.Spans.{end-fits, place-below, length-below, length-over, end-over, end-within}
 use Rattle.player_label.proofs.names.name_span.Statement.{statement}

@@ -14,9 +14,9 @@ use mir.Val.{toZ}
 use mir.Facts.{toZ-ofZ}
 use Rattle.refusal.specs.Answers.{refusal}
 use Rattle.tra4_text.specs.Rules.{framesFault}
-use Rattle.tra4_rules.specs.Rows.{rowsOf}
+use Rattle.table_columns.specs.Parts.{rowsOf}
 use Rattle.tra4_rules.specs.Frames.{widthOf, numberOf, rowFine, beforeOf}
-use Rattle.tra4_rules.proofs.Tables.{row-part, row-length}
+use Rattle.table_columns.proofs.Rows.{row-part, row-length}
 use Rattle.tra4_rules.proofs.Frames.{width-least, before-later, framesFrom, walk-start, walk-done, walk-short, walk-passed, walk-found}
 use Rattle.tra4_rules.proofs.frame.frames_fault.Statement.{statement}
 use Rattle.tra4_rules.proofs.frame.frames_fault.Tie as tie

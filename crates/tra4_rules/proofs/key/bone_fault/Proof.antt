@@ -13,7 +13,7 @@ use mir.Facts.{toZ-ofZ}
 use Rattle.refusal.specs.Answers.{refusal}
 use Rattle.refusal.specs.Rules.{orElse}
 use Rattle.tra4_text.specs.Rules.{framesFault, keyFine}
-use Rattle.tra4_rules.specs.Rows.{rowsOf}
+use Rattle.table_columns.specs.Parts.{rowsOf}
 use Rattle.tra4_rules.specs.Keys.{pairCounts, boneCounts, keysFrom, Walked}
 use Rattle.tra4_rules.proofs.Frames.{keys-frames}
 use Rattle.tra4_rules.proofs.Keys.{pairs-more, pairs-end, bone-counts, keys-step}

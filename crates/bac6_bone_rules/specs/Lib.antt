@@ -1,0 +1,2 @@
+pub mod Bones
+pub mod Claims

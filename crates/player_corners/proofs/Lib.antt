@@ -1,0 +1,4 @@
+-- Laws that belong to no one function.
+pub mod CornerTests
+pub mod FaceRows
+pub mod Places

@@ -1,0 +1,36 @@
+-- `is_range` is the definition, by its bounds.
+use mathlib.Core.Path.{sym}
+use mir.Facts.{toZ-ofZ}
+use Rattle.text_numbers.proofs.Signed.{from-zero}
+use Rattle.player_tests.proofs.Numbers.{some-number, range-first, range-count, range-beyond, range-within}
+use Rattle.table_columns.proofs.Casts.{natural-cast}
+use Rattle.player_samples.proofs.range.is_range.Statement.{statement}
+use Rattle.player_samples.proofs.range.is_range.Tie as tie
+
+returns : tie.Need-returns
+returns c = let f = toZ-ofZ (c .before .fits .first) in sym (range-first _ _ _ (rw f at (c .if1 .taken)))
+
+returns-2 : tie.Need-returns-2
+returns-2 c = let f = toZ-ofZ (c .before .before .fits .count) in sym (range-count _ _ _ (rw f at (c .if2 .taken)))
+
+cast-f : tie.Need-cast-f
+cast-f c = let k = c .before .before .fits .first in natural-cast _ k (from-zero _ (rw (toZ-ofZ k) at (c .before .if1 .left)))
+
+cast-c : tie.Need-cast-c
+cast-c c = let k = c .before .before .fits .count in natural-cast _ k (some-number _ (rw (toZ-ofZ k) at (c .if2 .left)))
+
+returns-3 : tie.Need-returns-3
+returns-3 c =
+    let a = c .before .before .before .fits in
+    let f = toZ-ofZ (a .first) in
+    sym (range-beyond _ _ _ (rw f at (c .before .before .if1 .left)) (rw (toZ-ofZ (a .count)) at (c .before .if2 .left)) (rw f at (c .if3 .taken)))
+
+returns-4 : tie.Need-returns-4
+returns-4 c =
+    let a = c .before .before .before .fits in
+    let f = toZ-ofZ (a .first) in
+    let g = toZ-ofZ (a .count) in
+    rw (f, g) (sym (range-within _ _ _ (rw f at (c .before .before .if1 .left)) (rw g at (c .before .if2 .left)) (rw f at (c .if3 .left))))
+
+pub is-range-spec : {M : Type 1} → statement M
+is-range-spec = tie.close (tie.spec returns returns-2 cast-f cast-c returns-3 returns-4)

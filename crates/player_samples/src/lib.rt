@@ -1,0 +1,9 @@
+// A channel's value at a frame.
+mod fraction;
+mod line;
+mod pass;
+mod range;
+mod sampling;
+
+pub use sampling::Sampled;
+pub use sampling::sample;

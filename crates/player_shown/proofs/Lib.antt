@@ -1,0 +1,6 @@
+-- Laws that belong to no one function.
+pub mod FlagRows
+pub mod Flagged
+pub mod OwnedCorners
+pub mod PatternLines
+pub mod ShownTests

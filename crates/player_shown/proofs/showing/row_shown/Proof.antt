@@ -1,0 +1,88 @@
+-- `row_shown` is its definition: the corners' answer alone, or with the flag of the face's group.
+use mathlib.Core.Path.{_≡_, ap₂, sym, _∙_}
+use mathlib.Core.Bool.{true, false}
+use Prim.Native.Nat.{_<_}
+use denote.Ref.{now}
+use lib.IntN.{pos, natAbs}
+use lib.ListN.{getD}
+use mir.Syntax.{w64}
+use mir.Val.{SFits}
+use mir.Facts.{toZ-ofZ}
+use borrow.Author.Tests.{not-true, not-false}
+use Rattle.table_rows.specs.References.{isNone}
+use Rattle.table_rows.specs.Index.{isIndex}
+use Rattle.text_numbers.proofs.Tests.{tested}
+use Rattle.table_rows.proofs.Numbers.{index-row}
+use Rattle.player_shown.specs.Rows.{bothShown}
+use Rattle.player_shown.specs.Answers.{visible}
+use Rattle.table_columns.proofs.Casts.{natural-cast}
+use Rattle.player_tests.proofs.Corners.{row-is}
+use Rattle.player_shown.proofs.Flagged.{flag-is}
+use Rattle.player_shown.proofs.ShownTests.{no-group, of-polygons, in-group}
+use borrow.Author.Needs.{needs}
+use Rattle.player_shown.proofs.showing.row_shown.Statement.{statement}
+use Rattle.player_shown.proofs.showing.row_shown.Tie as tie
+
+fits : (m : tie.After-group) → SFits w64 (getD (now (m .before .args .row)) 10 (pos 0))
+fits m = record { sfits = m .group .given }
+
+index-told : (m : tie.After-is-index) → m .is-index .result ≡ isIndex (m .before .before .args .n .groups) (getD (now (m .before .before .args .row)) 10 (pos 0))
+index-told m = tested (isIndex _) _ (fits (m .before)) (m .is-index .ensures)
+
+known : (e : tie.Else1) → isIndex (e .before .before .before .args .n .groups) (getD (now (e .before .before .before .args .row)) 10 (pos 0)) ≡ true
+known e = sym (index-told (e .before)) ∙ not-false _ (e .if1 .left)
+
+none-told : (m : tie.After-is-none) → m .is-none .result ≡ isNone (getD (now (m .before .before .before .before .before .args .row)) 10 (pos 0))
+none-told m = tested isNone _ (fits (m .before .before .before .before)) (m .is-none .ensures)
+
+some-group : (e : tie.Else2) → isNone (getD (now (e .before .before .before .before .before .before .args .row)) 10 (pos 0)) ≡ false
+some-group e = sym (none-told (e .before)) ∙ e .if2 .left
+
+group-is : (e : tie.Else2) → ((getD (now (e .before .before .before .before .before .before .args .row)) 10 (pos 0)) ≡ pos (natAbs (getD (now (e .before .before .before .before .before .before .args .row)) 10 (pos 0)))) × (natAbs (getD (now (e .before .before .before .before .before .before .args .row)) 10 (pos 0)) < e .before .before .before .before .before .before .args .n .groups)
+group-is e = row-is _ _ (sym (index-row _ _ (some-group e)) ∙ known (e .before .before .before))
+
+shared-slice-copy-out-group : tie.Need-shared-slice-copy-out-group
+shared-slice-copy-out-group c = search needs
+
+is-index-requires : tie.Need-is-index-requires
+is-index-requires c κs = search needs
+
+returns : tie.Need-returns
+unfolding visible
+returns c = no-group _ _ _ _ _ _ (sym (index-told (c .before)) ∙ not-true _ (c .if1 .taken))
+
+row-owned-requires : tie.Need-row-owned-requires
+row-owned-requires c κs = search needs
+
+is-none-requires : tie.Need-is-none-requires
+is-none-requires c κs = search needs
+
+returns-2 : tie.Need-returns-2
+returns-2 c = c .before .before .row-owned .ensures ∙ of-polygons _ _ _ _ _ _ (known (c .before .before .before)) (sym (none-told (c .before)) ∙ c .if2 .taken)
+
+cast-group-flag : tie.Need-cast-group-flag
+cast-group-flag c = natural-cast _ (fits (c .before .before .before .before .before)) (group-is c .0)
+
+group-flag-requires : tie.Need-group-flag-requires
+group-flag-requires c κs = search needs
+
+both-requires : tie.Need-both-requires
+both-requires c κs = search needs
+
+returns-3 : tie.Need-returns-3
+returns-3 c = c .both .ensures ∙ ap₂ bothShown (c .before .before .before .before .row-owned .ensures) ((rw (toZ-ofZ (fits (c .before .before .before .before .before .before .before)), toZ-ofZ (c .before .before .before .before .before .before .before .before .fits .total)) at (c .before .group-flag .ensures)) ∙ flag-is _ _ _ _ _) ∙ in-group _ _ _ _ _ _ (known (c .before .before .before .before .before)) (some-group (c .before .before))
+
+pub row-shown-spec : {M : Type 1} → statement M
+row-shown-spec =
+    tie.close
+    (tie.spec
+    shared-slice-copy-out-group
+    is-index-requires
+    returns
+    row-owned-requires
+    is-none-requires
+    returns-2
+    cast-group-flag
+    group-flag-requires
+    both-requires
+    returns-3)

@@ -1,0 +1,104 @@
+// Whether a face is shown at a frame.
+ghost use mathlib.Core.Path.{_≡_};
+ghost use Prim.Native.Nat.{_*_, _≤_};
+ghost use lib.ListN.{length};
+ghost use Rattle.table_columns.specs.Parts.{rowsAt};
+ghost use Rattle.table_sections.specs.Found.{Found};
+ghost use Rattle.player_spec.specs.Lookups.{shownIn};
+ghost use Rattle.player_spec.specs.Answers.{numbered};
+ghost use Rattle.player_shown.specs.Rows.{rowShown, bothShown};
+ghost use Rattle.player_shown.specs.Answers.{showed, visible};
+use crate::flags::Visibility;
+use crate::flags::group_flag;
+use crate::owning::row_owned;
+use player_tests::is_asked;
+use table_columns::FACE_GROUP;
+use table_counts::FACE_WIDTH;
+use table_counts::FigureCounts;
+use table_counts::MovementCounts;
+use table_counts::PATTERN_WIDTH;
+use table_rows::is_index;
+use table_rows::is_none;
+use table_sections::FigureSections;
+use table_sections::figure_in;
+use table_sections::movement_in;
+
+fn both(a: Visibility, b: Visibility) -> Visibility
+    ensures { λ r. ⌜ visible r ≡ bothShown (visible a) (visible b) ⌝ }
+{
+    match a {
+        Visibility::Refused => Visibility::Refused,
+        Visibility::Shown => b,
+        Visibility::Hidden => match b {
+            Visibility::Refused => Visibility::Refused,
+            Visibility::Shown => Visibility::Hidden,
+            Visibility::Hidden => Visibility::Hidden,
+        },
+    }
+}
+
+// By a face's row and the pattern lines, in rows of three numbers.
+fn row_shown(
+    table: &[i64],
+    n: FigureCounts,
+    s: FigureSections,
+    row: &[i64],
+    patterns: &[i64],
+    count: usize,
+    total: i64,
+    at: usize,
+) -> Visibility
+    requires { ⌜ Found n (now table) s × (length (now row) ≡ 11) × (length (now patterns) ≡ count * 3) × (count ≤ 256) ⌝ }
+    ensures { λ r. ⌜ visible r ≡ rowShown n (now (table .entry)) (now (row .entry)) (rowsAt 3 (now (patterns .entry)) 0 count) total at ⌝ }
+{
+    let group = row[FACE_GROUP];
+    if !is_index(n.groups, group) {
+        return Visibility::Refused;
+    }
+    let corners = row_owned(table, n, s, row);
+    if is_none(group) {
+        return corners;
+    }
+    let flag = group_flag(patterns, count, total, n.groups, group as usize, at);
+    both(corners, flag)
+}
+
+pub fn shown(
+    table: &[i64],
+    n: FigureCounts,
+    moves: &[i64],
+    m: MovementCounts,
+    face: usize,
+    at: usize,
+) -> Visibility
+    ensures { λ r. ⌜ showed r ≡ numbered (shownIn n (now (table .entry)) m (now (moves .entry)) face at) ⌝ }
+{
+    let s = figure_in(table, n);
+    if s.end == 0 {
+        return Visibility::Refused;
+    }
+    let t = movement_in(moves, m);
+    if t.end == 0 {
+        return Visibility::Refused;
+    }
+    if n.faces <= face {
+        return Visibility::Refused;
+    }
+    let total = moves[0];
+    if !is_asked(total, at) {
+        return Visibility::Refused;
+    }
+    let base = s.faces + face * FACE_WIDTH;
+    let from = t.patterns;
+    let count = m.patterns;
+    row_shown(
+        table,
+        n,
+        s,
+        &table[base..base + FACE_WIDTH],
+        &moves[from..from + count * PATTERN_WIDTH],
+        count,
+        total,
+        at,
+    )
+}

@@ -1,0 +1,78 @@
+-- Lookups on small tables, by computation.
+use mathlib.Core.Path.{_≡_, refl}
+use mathlib.Core.List.{List, [], _∷_, map}
+use mathlib.Core.Option.{none, some}
+use mathlib.Core.Bool.{false}
+use Prim.Native.Nat.{ℕ}
+use lib.IntN.{ℤ, pos, negsuc}
+use Rattle.refusal.specs.Rules.{tooMany}
+use Rattle.tra4_text.specs.Rules as tra4
+use Rattle.tra4_text.specs.Movement.{frameOf, groupOf}
+use Rattle.table_rows.specs.References.{isRow, isNone, sameNumber}
+use Rattle.table_rows.specs.Index.{isIndex}
+use Rattle.player_spec.specs.Fractions.{Fraction, factorIn, factor, signedAs, lowest, whole}
+use Rattle.player_spec.specs.Samples.{keyFrame, keyValue, line, sampleFrom, sampleOf}
+use Rattle.player_spec.specs.Faces.{inGroup, inGroups, groupedFaces, allOwned, applies, flagOf, lastFlag, groupShown, shownOf, rowAt, uvAt, cornerOf}
+use Rattle.table_sections.specs.Sections.{isClear, fewInMovement, fewInFigure, groupsBegin, keysBegin, patternsBegin, movementEnd, holdsMovement, pointsBegin, bonesBegin, ownersBegin, uvsBegin, facesBegin, figureEnd, holdsFigure}
+use Rattle.table_columns.specs.Parts.{numberAt, numbersAt, rowsAt}
+use Rattle.player_spec.specs.Lookups.{onlyIf, isFloat, allFloat, isAsked, isRange, valuesFine, pairAt, channelKeys, canSample, sampleIn, sizeFine, cornersFine, allNone, faceAt, ownerAt, faceSound, pointAt, uvRow, uvFine, uvIn, canCorner, cornerIn, ownersFine, ownedCorners, patternRows, linesFine, patternsFine, canShow, groupFlag, shownIn}
+use Rattle.table_counts.specs.declared.counts.MovementCounts.{MovementCounts}
+use Rattle.table_counts.specs.declared.counts.FigureCounts.{FigureCounts}
+use Rattle.table_counts.specs.Counts.{figureLists, figureMosts, movementLists, movementMosts}
+use Rattle.text_numbers.specs.Numbers.{inForm}
+
+abbrev fraction : ℤ → ℕ → Fraction
+fraction n d = record { numerator = n; denominator = d }
+
+-- 01's listing, whose face is never shown, and a movement of one bone with two keys of roll
+
+abbrev figure : List ℤ
+figure =
+    pos 0 ∷ pos 0 ∷
+    pos 0 ∷ pos 0 ∷ pos 0 ∷ pos 1 ∷ negsuc 0 ∷ negsuc 0 ∷ pos 250000 ∷ pos 0 ∷ pos 0 ∷
+    pos 0 ∷ pos 0 ∷ pos 0 ∷
+    pos 1500000 ∷ pos 0 ∷ pos 0 ∷
+    pos 0 ∷ negsuc 0 ∷ pos 0 ∷
+    pos 0 ∷ pos 0 ∷ pos 1000000 ∷
+    pos 0 ∷ pos 0 ∷ pos 1000000 ∷
+    pos 0 ∷ pos 0 ∷ pos 1000000 ∷
+    pos 0 ∷ pos 0 ∷ pos 0 ∷ pos 0 ∷ pos 0 ∷ pos 1000000 ∷ pos 0 ∷ pos 1000000 ∷ pos 0 ∷ pos 0 ∷ pos 0 ∷ negsuc 0 ∷ pos 0 ∷ pos 0 ∷
+    pos 0 ∷
+    pos 0 ∷
+    negsuc 0 ∷
+    pos 0 ∷ pos 3 ∷ pos 0 ∷ pos 1 ∷ pos 2 ∷ negsuc 0 ∷ negsuc 0 ∷ negsuc 0 ∷ negsuc 0 ∷ negsuc 0 ∷ negsuc 0 ∷ []
+
+abbrev figureCounts : FigureCounts
+figureCounts = record { textures = 0; colours = 0; materials = 1; points = 3; normals = 3; bones = 1; uvs = 0; faces = 1; groups = 0 }
+
+abbrev moves : List ℤ
+moves =
+    pos 5 ∷ pos 0 ∷ pos 0 ∷
+    pos 0 ∷ pos 0 ∷ pos 0 ∷ pos 1 ∷ pos 1 ∷ pos 1 ∷ pos 2 ∷ pos 1 ∷ pos 3 ∷ pos 1 ∷ pos 4 ∷ pos 1 ∷ pos 5 ∷ pos 1 ∷ pos 6 ∷ pos 1 ∷ pos 7 ∷ pos 1 ∷ pos 8 ∷ pos 1 ∷ pos 9 ∷ pos 2 ∷
+    pos 0 ∷ pos 0 ∷
+    pos 0 ∷ pos 0 ∷
+    pos 0 ∷ pos 0 ∷
+    pos 0 ∷ pos 0 ∷
+    pos 0 ∷ pos 0 ∷
+    pos 0 ∷ pos 0 ∷
+    pos 0 ∷ pos 0 ∷
+    pos 0 ∷ pos 0 ∷
+    pos 0 ∷ pos 0 ∷
+    pos 0 ∷ pos 1500000 ∷
+    pos 2 ∷ negsuc 0 ∷ []
+
+abbrev moveCounts : MovementCounts
+moveCounts = record { bones = 1; keys = 11; patterns = 0 }
+
+-- frames 0 to 5 of roll: on a key, between two, on the last, past it, and none
+pub roll-example : map (λ (at : ℕ). sampleIn moveCounts moves 0 9 at) (0 ∷ 1 ∷ 2 ∷ 4 ∷ 5 ∷ []) ≡ some (fraction (pos 1500000) 1) ∷ some (fraction (pos 1499999) 2) ∷ some (fraction (negsuc 0) 1) ∷ some (fraction (negsuc 0) 1) ∷ none ∷ []
+unfolding inForm tooMany movementLists figureLists fewInMovement fewInFigure groupsBegin figureMosts isRow isNone sameNumber movementMosts tra4.totalFault tra4.isFrame tra4.isZero tra4.rises tra4.neverFalls tra4.framesFault tra4.keyFine tra4.patternFine tra4.patternsFault frameOf groupOf factorIn factor signedAs lowest whole keyFrame keyValue line sampleFrom sampleOf inGroup inGroups groupedFaces allOwned applies flagOf lastFlag groupShown shownOf rowAt uvAt cornerOf numberAt numbersAt rowsAt isClear keysBegin patternsBegin movementEnd holdsMovement pointsBegin ownersBegin bonesBegin uvsBegin facesBegin figureEnd holdsFigure onlyIf isFloat allFloat isIndex isAsked isRange valuesFine pairAt channelKeys canSample sampleIn sizeFine cornersFine allNone faceAt ownerAt faceSound pointAt uvRow uvFine uvIn canCorner cornerIn ownersFine ownedCorners patternRows linesFine patternsFine canShow groupFlag shownIn
+roll-example = refl
+
+pub shown-example : map (λ (at : ℕ). shownIn figureCounts figure moveCounts moves 0 at) (0 ∷ 4 ∷ 5 ∷ []) ≡ some false ∷ some false ∷ none ∷ []
+unfolding inForm tooMany movementLists figureLists fewInMovement fewInFigure groupsBegin figureMosts isRow isNone sameNumber movementMosts tra4.totalFault tra4.isFrame tra4.isZero tra4.rises tra4.neverFalls tra4.framesFault tra4.keyFine tra4.patternFine tra4.patternsFault frameOf groupOf factorIn factor signedAs lowest whole keyFrame keyValue line sampleFrom sampleOf inGroup inGroups groupedFaces allOwned applies flagOf lastFlag groupShown shownOf rowAt uvAt cornerOf numberAt numbersAt rowsAt isClear keysBegin patternsBegin movementEnd holdsMovement pointsBegin ownersBegin bonesBegin uvsBegin facesBegin figureEnd holdsFigure onlyIf isFloat allFloat isIndex isAsked isRange valuesFine pairAt channelKeys canSample sampleIn sizeFine cornersFine allNone faceAt ownerAt faceSound pointAt uvRow uvFine uvIn canCorner cornerIn ownersFine ownedCorners patternRows linesFine patternsFine canShow groupFlag shownIn
+shown-example = refl
+
+pub corner-example : map (λ (k : ℕ). cornerIn figureCounts figure 0 k) (1 ∷ 2 ∷ 3 ∷ []) ≡ some (record { position = pos 1500000 ∷ pos 0 ∷ pos 0 ∷ []; owner = pos 0; uv = none; material = pos 0 }) ∷ some (record { position = pos 0 ∷ negsuc 0 ∷ pos 0 ∷ []; owner = negsuc 0; uv = none; material = pos 0 }) ∷ none ∷ []
+unfolding inForm tooMany movementLists figureLists fewInMovement fewInFigure groupsBegin figureMosts isRow isNone sameNumber movementMosts tra4.totalFault tra4.isFrame tra4.isZero tra4.rises tra4.neverFalls tra4.framesFault tra4.keyFine tra4.patternFine tra4.patternsFault frameOf groupOf factorIn factor signedAs lowest whole keyFrame keyValue line sampleFrom sampleOf inGroup inGroups groupedFaces allOwned applies flagOf lastFlag groupShown shownOf rowAt uvAt cornerOf numberAt numbersAt rowsAt isClear keysBegin patternsBegin movementEnd holdsMovement pointsBegin ownersBegin bonesBegin uvsBegin facesBegin figureEnd holdsFigure onlyIf isFloat allFloat isIndex isAsked isRange valuesFine pairAt channelKeys canSample sampleIn sizeFine cornersFine allNone faceAt ownerAt faceSound pointAt uvRow uvFine uvIn canCorner cornerIn ownersFine ownedCorners patternRows linesFine patternsFine canShow groupFlag shownIn
+corner-example = refl

@@ -1,0 +1,5 @@
+pub mod Answers
+pub mod Faces
+pub mod Fractions
+pub mod Lookups
+pub mod Samples

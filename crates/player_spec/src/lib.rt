@@ -1,0 +1,1 @@
+// What playing a movement's and a figure's tables answers: definitions alone.

@@ -1,0 +1,118 @@
+-- What the code's tests on an `i64` say of the definitions' tests, by the number's sign.
+use mathlib.Core.Path.{_≡_, refl, ap, sym, _∙_}
+use mathlib.Core.Bool.{Bool, true, false, true≢false}
+use Prim.Native.Nat.{ℕ, zero, suc, _+_, _-_, _≤_, _<_}
+use native.Mathlib.Omega.{arith}
+use borrow.Author.Tests.{ltb-true, ltb-false, leb-true, leb-false, le-leb, lt-leb, eqb-true}
+use lib.Dec.{leb, ltb}
+use lib.IntN.{ℤ, pos, negsuc, natAbs}
+use lib.Signed.{ltZ}
+use mir.Syntax.{w64}
+use mir.Val.{SFits, toZ, ofZ}
+use mir.Facts.{toZ-ofZ}
+use Rattle.tra4_text.specs.Rules.{totalFault, isZero}
+use Rattle.table_sections.specs.Sections.{isClear}
+use Rattle.player_spec.specs.Lookups.{isFloat, isAsked, isRange}
+use Rattle.text_numbers.specs.Numbers.{inForm}
+
+-- ---- a number of at least one
+
+pub some-number : (z : ℤ) → ltZ z (pos 1) ≡ false → z ≡ pos (natAbs z)
+some-number (pos n) e = refl
+some-number (negsuc n) e = let z : _≡_ {A = ℕ} 0 1 = cc in absurd (omega (arith, z))
+
+-- ---- a total of frames
+
+module _ (at : ℕ) where
+  pub asked-low : (z : ℤ) → ltZ z (pos 1) ≡ true → isAsked z at ≡ false
+  unfolding isAsked totalFault isClear
+  asked-low (pos n) e = rw (lt-leb 1 n (ltb-true n 1 e))
+  asked-low (negsuc n) e = refl
+
+  pub asked-high : (z : ℤ) → ltZ z (pos 1) ≡ false → ltZ (pos 32767) z ≡ true → isAsked z at ≡ false
+  unfolding isAsked totalFault isClear
+  asked-high (pos n) e h = rw (le-leb 1 n (let l = ltb-false n 1 e in omega arith), lt-leb n 32767 (ltb-true 32767 n h))
+  asked-high (negsuc n) e h = refl
+
+  pub asked-fine : (z : ℤ) → ltZ z (pos 1) ≡ false → ltZ (pos 32767) z ≡ false → isAsked z at ≡ ltb at (natAbs z)
+  unfolding isAsked totalFault isClear
+  asked-fine (pos n) e h = rw (le-leb 1 n (let l = ltb-false n 1 e in omega arith), le-leb n 32767 (ltb-false 32767 n h))
+  asked-fine (negsuc n) e h = let z : _≡_ {A = ℕ} 0 1 = cc in absurd (omega (arith, z))
+
+  pub asked-total : (z : ℤ) → isAsked z at ≡ true → (z ≡ pos (natAbs z)) × (0 < natAbs z) × (natAbs z ≤ 32767)
+  asked-total z h = go (ltZ z (pos 1)) (ltZ (pos 32767) z) refl refl
+    where
+      sizes : (y : ℤ) → ltZ y (pos 1) ≡ false → ltZ (pos 32767) y ≡ false → (y ≡ pos (natAbs y)) × (0 < natAbs y) × (natAbs y ≤ 32767)
+      sizes (pos n) e f = (refl, (let l = ltb-false n 1 e in omega arith), ltb-false 32767 n f)
+      sizes (negsuc n) e f = let z : _≡_ {A = ℕ} 0 1 = cc in absurd (omega (arith, z))
+
+      go : (u v : Bool) → ltZ z (pos 1) ≡ u → ltZ (pos 32767) z ≡ v → (z ≡ pos (natAbs z)) × (0 < natAbs z) × (natAbs z ≤ 32767)
+      go true v e f = absurd (true≢false (sym h ∙ asked-low z e))
+      go false true e f = absurd (true≢false (sym h ∙ asked-high z e f))
+      go false false e f = sizes z e f
+
+-- ---- a range
+
+pub range-first : (n : ℕ) (f c : ℤ) → ltZ f (pos 0) ≡ true → isRange n f c ≡ false
+unfolding isRange
+range-first n (pos f) c e = absurd (let l = ltb-true f 0 e in omega arith)
+range-first n (negsuc f) (pos zero) e = refl
+range-first n (negsuc f) (pos (suc c)) e = refl
+range-first n (negsuc f) (negsuc c) e = refl
+
+pub range-count : (n : ℕ) (f c : ℤ) → ltZ c (pos 1) ≡ true → isRange n f c ≡ false
+unfolding isRange
+range-count n (pos f) (pos zero) e = refl
+range-count n (pos f) (pos (suc c)) e = absurd (let l = ltb-true (suc c) 1 e in omega arith)
+range-count n (pos f) (negsuc c) e = refl
+range-count n (negsuc f) (pos zero) e = refl
+range-count n (negsuc f) (pos (suc c)) e = refl
+range-count n (negsuc f) (negsuc c) e = refl
+
+module _ (n : ℕ) where
+  pub range-beyond : (f c : ℤ) → ltZ f (pos 0) ≡ false → ltZ c (pos 1) ≡ false → n < natAbs f → isRange n f c ≡ false
+  unfolding isRange
+  range-beyond (pos f) (pos zero) e h l = refl
+  range-beyond (pos f) (pos (suc c)) e h l = lt-leb (f + suc c) n (omega arith)
+  range-beyond (pos f) (negsuc c) e h l = refl
+  range-beyond (negsuc f) c e h l = let z : _≡_ {A = ℕ} 0 1 = cc in absurd (omega (arith, z))
+
+  pub range-within : (f c : ℤ) → ltZ f (pos 0) ≡ false → ltZ c (pos 1) ≡ false → natAbs f ≤ n → isRange n f c ≡ leb (natAbs c) (n - natAbs f)
+  unfolding isRange
+  range-within (pos f) (pos zero) e h l = absurd (let m = ltb-false zero 1 h in omega arith)
+  range-within (pos f) (pos (suc c)) e h l = go (leb (suc c) (n - f)) refl
+    where
+      go : (v : Bool) → leb (suc c) (n - f) ≡ v → leb (f + suc c) n ≡ leb (suc c) (n - f)
+      go true o = rw o (le-leb (f + suc c) n (let m = leb-true (suc c) (n - f) o in omega arith))
+      go false o = rw o (lt-leb (f + suc c) n (let m = leb-false (suc c) (n - f) o in omega arith))
+  range-within (pos f) (negsuc c) e h l = let z : _≡_ {A = ℕ} 0 1 = cc in absurd (omega (arith, z))
+  range-within (negsuc f) c e h l = let z : _≡_ {A = ℕ} 0 1 = cc in absurd (omega (arith, z))
+
+-- ---- a number that is not negative, as a `usize`
+
+pub zero-is : (z : ℤ) → isZero z ≡ true → z ≡ pos 0
+unfolding isZero
+zero-is (pos n) e = ap pos (eqb-true n 0 e)
+zero-is (negsuc n) e = let z : _≡_ {A = ℕ} 0 1 = cc in absurd (omega (arith, z))
+
+-- 0 by its bits
+pub zero-no : (z : ℤ) → (ofZ w64 z ≡ 0 → ⊥) → isZero z ≡ false
+zero-no z h = go (isZero z) refl
+  where
+    go : (b : Bool) → isZero z ≡ b → isZero z ≡ false
+    go true e = absurd (h (ap (ofZ w64) (zero-is z e)))
+    go false e = e
+
+pub zero-yes : (z : ℤ) → SFits w64 z → ofZ w64 z ≡ 0 → isZero z ≡ true
+zero-yes z f e = ap isZero (sym (toZ-ofZ f) ∙ ap (toZ w64) e) ∙ unfold isZero in refl
+
+-- ---- a float, by its size
+
+pub float-size : (z : ℤ) → isFloat z ≡ leb (natAbs z) 9999999999999
+unfolding isFloat inForm
+float-size (pos n) = refl
+float-size (negsuc n) = go (leb n 9999999999998) refl
+  where
+    go : (v : Bool) → leb n 9999999999998 ≡ v → leb n 9999999999998 ≡ leb (suc n) 9999999999999
+    go true e = rw e (sym (le-leb (suc n) 9999999999999 (let h = leb-true n 9999999999998 e in omega arith)))
+    go false e = rw e (sym (lt-leb (suc n) 9999999999999 (let h = leb-false n 9999999999998 e in omega arith)))

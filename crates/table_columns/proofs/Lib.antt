@@ -1,0 +1,5 @@
+-- Laws that belong to no one function.
+pub mod Casts
+pub mod Parts
+pub mod Rows
+pub mod Corners

@@ -1,0 +1,3 @@
+pub mod Bones
+pub mod Sections
+pub mod Found
