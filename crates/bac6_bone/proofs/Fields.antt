@@ -21,13 +21,8 @@ use Rattle.parse_cursor.proofs.FieldFlags.{flags-length, flag-unread, flag-read
 use Rattle.parse_words.proofs.Vocabulary.{chunk-other, chunk-again, chunk-took}
 use Rattle.bac6_text.specs.Grammar.{BoneField, nameIn, flagIn, numbersIn, boneKinds}
 use Rattle.bac6_text.specs.Layout.{nameNumbers}
-<<<<<<< HEAD:crates/bac6_bone/proofs/Fields.antt
 use Rattle.bac6_bone_rules.specs.Claims.{claimed}
 use Rattle.bac6_bone.specs.Into.{Yields, three, boneNumbers, boneState, putRow}
-=======
-use Rattle.bac6_bone_rules.specs.Claims.{claimed}
-use Rattle.bac6_bone.specs.Into.{Yields, three, boneNumbers, boneState, putRow}
->>>>>>> playing:crates/bac6_bones/proofs/Fields.antt
 
 -- the keywords as one text, and no two are the same
 pub bone-words : words (bytes "name hasChild hasBrother translate rotate handle vertexIndices") ≡ keysOf boneKinds

@@ -24,15 +24,9 @@ use Rattle.parse_cursor.proofs.Behind.{given}
 use Rattle.parse_cursor.proofs.FieldSteps.{complete-seen, turn-ended, turn-full, turn-other, turn-chunk}
 use Rattle.bac6_text.specs.Figure.{Bone}
 use Rattle.bac6_text.specs.Grammar.{BoneField, numbersIn, boneOf, boneKinds}
-<<<<<<< HEAD:crates/bac6_bone/proofs/Turns.antt
 use Rattle.bac6_text.specs.Layout.{nameNumbers, boneRow}
 use Rattle.bac6_bone_rules.specs.Claims.{claimed}
 use Rattle.bac6_bone.specs.Into.{Yields, three, boneNumbers, boneState, boneTail, boneInto}
-=======
-use Rattle.bac6_text.specs.Layout.{boneRow}
-use Rattle.bac6_bone_rules.specs.Claims.{claimed}
-use Rattle.bac6_bone.specs.Into.{Yields, boneNumbers, boneState, boneTail, boneInto}
->>>>>>> playing:crates/bac6_bones/proofs/Turns.antt
 use Rattle.bac6_text.proofs.Whole.{WholeBone, fields-whole}
 use Rattle.bac6_bone.proofs.Values.{three-all}
 use Rattle.bac6_bone.proofs.Fields.{unread-state}

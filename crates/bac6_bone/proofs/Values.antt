@@ -25,15 +25,9 @@ use Rattle.table_rows.proofs.Tables.{overlayAt-cons, overlayAt-none}
 use Rattle.parse_cursor.proofs.Ranges.{numbers-give}
 use Rattle.bac6_text.specs.Grammar.{BoneField, named, flag, several, nameIn, flagIn, numbersIn, boneKinds, truth, word}
 use Rattle.bac6_text.specs.Layout.{nameNumbers}
-<<<<<<< HEAD:crates/bac6_bone/proofs/Values.antt
 use Rattle.bac6_bone_rules.specs.Claims.{claimed}
 use Rattle.bac6_bone.specs.Into.{Yields, three, putRow}
 use Rattle.bac6_entries.specs.Into.{entriesInto}
-=======
-use Rattle.bac6_bone_rules.specs.Claims.{claimed}
-use Rattle.bac6_bone.specs.Into.{Yields, three, putRow}
-use Rattle.bac6_entries.specs.Into.{entriesInto}
->>>>>>> playing:crates/bac6_bones/proofs/Values.antt
 use Rattle.parse_cursor.proofs.Counts.{alive}
 use Rattle.parse_cursor.proofs.Behind.{given}
 use Rattle.bac6_bone.proofs.Yielding.{unmap}

@@ -19,13 +19,8 @@ use Rattle.parse_cursor.proofs.Counts.{falls}
 use mir.Syntax.{w64}
 use mir.Val.{SFits, toZ, ofZ}
 use mir.Facts.{toZ-ofZ}
-<<<<<<< HEAD:crates/bac6_entries/proofs/EntrySteps.antt
 use Rattle.bac6_bone_rules.specs.Claims.{isFree, afterClaim, claimedOne, claimed}
 use Rattle.bac6_entries.specs.Into.{entriesInto}
-=======
-use Rattle.bac6_bone_rules.specs.Claims.{isFree, afterClaim, claimedOne, claimed}
-use Rattle.bac6_entries.specs.Into.{entriesInto}
->>>>>>> playing:crates/bac6_bones/proofs/Entries.antt
 
 -- an entry, by whether every entry before it was free
 module _ (n : ℕ) (bone z : ℤ) (owners : List ℤ) (fine : Bool) where

@@ -2,13 +2,8 @@
 ghost use mathlib.Core.Path.{_≡_};
 ghost use Rattle.text_tokens.specs.Tokens.{lexAt};
 ghost use Rattle.parse_cursor.specs.Cursors.{reads};
-<<<<<<< HEAD:crates/bac6_entries/src/entry.rt
 ghost use Rattle.bac6_bone_rules.specs.Claims.{claimedOne};
 ghost use Rattle.bac6_entries.specs.Into.{entriesInto};
-=======
-ghost use Rattle.bac6_bone_rules.specs.Claims.{claimedOne};
-ghost use Rattle.bac6_entries.specs.Into.{entriesInto};
->>>>>>> playing:crates/bac6_bones/src/entry.rt
 use parse_cursor::Cursor;
 use parse_numbers::Form;
 

@@ -9,7 +9,6 @@ use lib.ListN.{length}
 use mir.Syntax.{w64}
 use mir.Val.{SFits}
 use Rattle.text_bytes.specs.Bytes.{bytes}
-<<<<<<< HEAD:crates/corner_listing/proofs/CornerLines.antt
 use Rattle.report_text.specs.Text.{line}
 use Rattle.report_text.specs.Output.{output, appended}
 use Rattle.report_lists.specs.Lists.{appendedEach, textOf, shown}
@@ -20,18 +19,6 @@ use Rattle.player_corners.specs.declared.corners.Cornered.{Cornered}
 use Rattle.player_corners.specs.declared.corners.Cornered.the-variants.{Refused, Plain, Textured}
 use Rattle.corner_listing.specs.Corners.{uvNumbers, cornerNumbers, cornerLines}
 use Rattle.report_lists.proofs.Turns.{one-line}
-=======
-use Rattle.report_text.specs.Text.{line}
-use Rattle.report_text.specs.Output.{output, appended}
-use Rattle.report_lists.specs.Lists.{appendedEach, textOf, shown}
-use Rattle.report_lists.proofs.Texts.{AllFit, line-most, shown-fits}
-use Rattle.player_spec.specs.Faces.{CornerOf}
-use Rattle.player_corners.specs.Answers.{cornered}
-use Rattle.player_corners.specs.declared.corners.Cornered.{Cornered}
-use Rattle.player_corners.specs.declared.corners.Cornered.the-variants.{Refused, Plain, Textured}
-use Rattle.corner_listing.specs.Corners.{uvNumbers, cornerNumbers, cornerLines}
-use Rattle.report_lists.proofs.Turns.{one-line}
->>>>>>> playing:crates/player_listing/proofs/CornerLines.antt
 
 -- what is said of how many bytes are filled and of the buffer
 abbrev pub Put : ℕ → ℕ → ℕ → ℕ × ℕ × ℕ × Option CornerOf → ℕ → List ℕ → List ℕ → Type 0

@@ -4,19 +4,11 @@ use mathlib.Core.Option.{Option, none, some}
 use Prim.Native.Nat.{ℕ}
 use lib.IntN.{ℤ}
 use Rattle.text_bytes.specs.Bytes.{bytes}
-<<<<<<< HEAD:crates/corner_listing/specs/Corners.antt
 use Rattle.report_text.specs.Text.{line}
 use Rattle.report_lists.specs.Lists.{shown, textOf}
 use Rattle.player_spec.specs.Faces.{CornerOf}
 use Rattle.player_spec.specs.Lookups.{cornerIn}
 use Rattle.player_spec.specs.Answers.{numbered}
-=======
-use Rattle.report_text.specs.Text.{line}
-use Rattle.report_lists.specs.Lists.{shown, textOf}
-use Rattle.player_spec.specs.Faces.{CornerOf}
-use Rattle.player_spec.specs.Lookups.{cornerIn}
-use Rattle.player_spec.specs.Answers.{numbered}
->>>>>>> playing:crates/player_listing/specs/Corners.antt
 use Rattle.table_counts.specs.declared.counts.FigureCounts.{FigureCounts}
 use Rattle.report_lists.specs.Parts.{linesFrom}
 

@@ -2,7 +2,6 @@
 ghost use mathlib.Core.Path.{_≡_};
 ghost use Prim.Native.Nat.{_-_, _*_, _≤_};
 ghost use lib.ListN.{length, take};
-<<<<<<< HEAD:crates/corner_listing/src/corners.rt
 ghost use Rattle.report_text.specs.Output.{output};
 ghost use Rattle.report_lists.specs.Lists.{appendedEach, textOf};
 ghost use Rattle.player_corners.specs.Answers.{cornered};
@@ -11,16 +10,6 @@ use player_corners::Cornered;
 use player_corners::corner;
 use report_lists::shown;
 use report_rows::append_row;
-=======
-ghost use Rattle.report_text.specs.Output.{output};
-ghost use Rattle.report_lists.specs.Lists.{appendedEach, textOf};
-ghost use Rattle.player_corners.specs.Answers.{cornered};
-ghost use Rattle.corner_listing.specs.Corners.{cornerLines, faceLines, figureLines, figureText};
-use player_corners::Cornered;
-use player_corners::corner;
-use report_rows::append_row;
-use report_lists::shown;
->>>>>>> playing:crates/player_listing/src/corners.rt
 use table_counts::FigureCounts;
 
 // Puts a corner's line after the first n bytes of buf, or nothing where there is no such corner.

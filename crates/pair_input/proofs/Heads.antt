@@ -18,7 +18,7 @@ use Rattle.text_bytes.specs.declared.bytes.Run.the-variants.{Digits}
 use Rattle.text_numbers.specs.declared.number.Parsed.{Parsed}
 use Rattle.text_numbers.specs.declared.number.Parsed.the-variants.{Value, Beyond, Malformed}
 use Rattle.text_bytes.proofs.Runs.{run-length, run-take}
-use Rattle.text_numbers.proofs.Numerals.{and-true, negative-first, digits-at, digit-range, digits-short, digits-run, magnitude-no, lead-int, int-value, decimal-below}
+use Rattle.text_numbers.proofs.Numerals.{and-true, negative-first, digits-at, digit-range, digits-short, digits-run, unsigned-no, lead-int, int-value, decimal-below}
 use Rattle.pair_input.specs.Division.{isHead, headOf}
 use Rattle.pair_input.specs.Answers.{lengthNamed}
 use Rattle.pair_input.specs.declared.division.Head.{Head}
@@ -82,7 +82,7 @@ module _ (ds : List ℕ) (l : length ds ≡ 8) (r : 8 ≤ length (run isDigit ds
   pub eight-value : numberOf INT ds ≡ value (pos (decimal ds))
   eight-value =
       let below : decimal ds < 10 ^ 8 = decimal-below ds 8 eight-digits (omega arith) in
-      let digits : numberOf INT ds ≡ intOf false ds = rw (not-negative, whole) at (lead-int ds 0 8 (sym (magnitude-no ds not-negative)) count (omega arith) (omega arith)) in
+      let digits : numberOf INT ds ≡ intOf false ds = rw (not-negative, whole) at (lead-int ds 0 8 (sym (unsigned-no ds not-negative)) count (omega arith) (omega arith)) in
       digits ∙ int-value false ds (omega arith) (unfold intMost in omega arith) ∙ (unfold signed in refl)
 
 -- nine bytes, of which the first e are digits

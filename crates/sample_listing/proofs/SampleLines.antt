@@ -9,7 +9,6 @@ use lib.ListN.{length, take}
 use mir.Syntax.{w64}
 use mir.Val.{SFits}
 use Rattle.text_bytes.specs.Bytes.{bytes}
-<<<<<<< HEAD:crates/sample_listing/proofs/SampleLines.antt
 use Rattle.report_text.specs.Text.{numeral, line}
 use Rattle.report_text.specs.Output.{Output, output, appended}
 use Rattle.report_lists.specs.Lists.{appendedEach, textOf, shown}
@@ -22,23 +21,6 @@ use Rattle.report_lists.proofs.Turns.{one-line}
 use Rattle.sample_listing.specs.Samples.{sampleLine, fractionParts, fractionText}
 use Rattle.report_lists.specs.Refusals.{refusedLine}
 use Rattle.report_lists.proofs.Refusals.{refused-most}
-=======
-use Rattle.report_text.specs.Text.{numeral, line}
-use Rattle.report_text.specs.Output.{Output, output, appended}
-use Rattle.report_lists.specs.Lists.{appendedEach, textOf, shown}
-use Rattle.report_lists.proofs.Texts.{AllFit, line-most, shown-fits, each-within, each-whole}
-use Rattle.player_spec.specs.Fractions.{Fraction}
-use Rattle.player_samples.specs.Answers.{sampled}
-use Rattle.player_samples.specs.declared.sampling.Sampled.{Sampled}
-use Rattle.player_samples.specs.declared.sampling.Sampled.the-variants.{Refused, Value}
-use Rattle.report_lists.proofs.Turns.{one-line}
-use Rattle.report_lists.specs.Refusals.{refusedLine}
-use Rattle.sample_listing.specs.Samples.{sampleLine, fractionParts, fractionText}
-
-pub refused-most : (n p : ℕ) → length (refusedLine n p) ≤ 69
-unfolding refusedLine bytes AllFit
-refused-most n p = omega (arith, line-most (bytes "refused") (shown n ∷ shown p ∷ []) (shown-fits n, (shown-fits p, tt)))
->>>>>>> playing:crates/player_listing/proofs/SampleLines.antt
 
 pub value-most : (bone channel at n p file : ℕ) (f : Fraction) → SFits w64 (f .numerator) → length (sampleLine bone channel at (n, p, file, some f)) ≤ 112
 unfolding sampleLine bytes AllFit

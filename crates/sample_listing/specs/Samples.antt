@@ -4,19 +4,11 @@ use mathlib.Core.Option.{Option, none, some}
 use Prim.Native.Nat.{ℕ}
 use lib.IntN.{ℤ}
 use Rattle.text_bytes.specs.Bytes.{bytes}
-<<<<<<< HEAD:crates/sample_listing/specs/Samples.antt
 use Rattle.report_text.specs.Text.{numeral, line}
 use Rattle.report_lists.specs.Lists.{shown, textOf}
 use Rattle.player_spec.specs.Fractions.{Fraction}
 use Rattle.player_spec.specs.Lookups.{sampleIn}
 use Rattle.player_spec.specs.Answers.{numbered}
-=======
-use Rattle.report_text.specs.Text.{numeral, line}
-use Rattle.report_lists.specs.Lists.{shown, textOf}
-use Rattle.player_spec.specs.Fractions.{Fraction}
-use Rattle.player_spec.specs.Lookups.{sampleIn}
-use Rattle.player_spec.specs.Answers.{numbered}
->>>>>>> playing:crates/player_listing/specs/Samples.antt
 use Rattle.table_counts.specs.declared.counts.MovementCounts.{MovementCounts}
 use Rattle.report_lists.specs.Parts.{linesFrom}
 use Rattle.report_lists.specs.Refusals.{refusedLine}

@@ -2,7 +2,6 @@
 ghost use mathlib.Core.Path.{_≡_};
 ghost use Prim.Native.Nat.{_-_, _*_, _≤_};
 ghost use lib.ListN.{length, take};
-<<<<<<< HEAD:crates/sample_listing/src/samples.rt
 ghost use Rattle.report_text.specs.Output.{output, appended};
 ghost use Rattle.report_lists.specs.Lists.{appendedEach};
 ghost use Rattle.player_samples.specs.Answers.{sampled};
@@ -13,18 +12,6 @@ use report_lists::shown;
 use report_rows::append_row;
 use report_text::append;
 use report_text::append_number;
-=======
-ghost use Rattle.report_text.specs.Output.{output, appended};
-ghost use Rattle.report_lists.specs.Lists.{appendedEach};
-ghost use Rattle.player_samples.specs.Answers.{sampled};
-ghost use Rattle.sample_listing.specs.Samples.{sampleLine, sampleLines, sampleText, fractionParts, fractionText};
-use player_samples::Sampled;
-use player_samples::sample;
-use report_text::append;
-use report_text::append_number;
-use report_rows::append_row;
-use report_lists::shown;
->>>>>>> playing:crates/player_listing/src/samples.rt
 use table_counts::MovementCounts;
 
 // Puts a sample's line, or a refusal's, after the first n bytes of buf, and answers how many bytes are filled then.

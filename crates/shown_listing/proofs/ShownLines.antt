@@ -10,7 +10,6 @@ use lib.ListN.{length}
 use mir.Syntax.{w64}
 use mir.Val.{SFits}
 use Rattle.text_bytes.specs.Bytes.{bytes}
-<<<<<<< HEAD:crates/shown_listing/proofs/ShownLines.antt
 use Rattle.report_text.specs.Text.{line}
 use Rattle.report_text.specs.Output.{output, appended}
 use Rattle.report_lists.specs.Lists.{appendedEach, textOf, shown}
@@ -22,19 +21,6 @@ use Rattle.report_lists.specs.Refusals.{refusedLine}
 use Rattle.shown_listing.specs.Faces.{flagNumber, shownLine}
 use Rattle.report_lists.proofs.Turns.{one-line}
 use Rattle.report_lists.proofs.Refusals.{refused-most}
-=======
-use Rattle.report_text.specs.Text.{line}
-use Rattle.report_text.specs.Output.{output, appended}
-use Rattle.report_lists.specs.Lists.{appendedEach, textOf, shown}
-use Rattle.report_lists.proofs.Texts.{AllFit, line-most, shown-fits}
-use Rattle.player_shown.specs.Answers.{showed}
-use Rattle.player_shown.specs.declared.flags.Visibility.{Visibility}
-use Rattle.player_shown.specs.declared.flags.Visibility.the-variants.{Refused, Shown, Hidden}
-use Rattle.report_lists.specs.Refusals.{refusedLine}
-use Rattle.shown_listing.specs.Faces.{flagNumber, shownLine}
-use Rattle.report_lists.proofs.Turns.{one-line}
-use Rattle.sample_listing.proofs.SampleLines.{refused-most}
->>>>>>> playing:crates/player_listing/proofs/ShownLines.antt
 
 flag-fits : (b : Bool) → SFits w64 (flagNumber b)
 unfolding flagNumber

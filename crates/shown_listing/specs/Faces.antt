@@ -5,17 +5,10 @@ use mathlib.Core.Option.{Option, none, some}
 use Prim.Native.Nat.{ℕ}
 use lib.IntN.{ℤ, pos}
 use Rattle.text_bytes.specs.Bytes.{bytes}
-<<<<<<< HEAD:crates/shown_listing/specs/Faces.antt
 use Rattle.report_text.specs.Text.{line}
 use Rattle.report_lists.specs.Lists.{shown, textOf}
 use Rattle.player_spec.specs.Lookups.{shownIn}
 use Rattle.player_spec.specs.Answers.{numbered}
-=======
-use Rattle.report_text.specs.Text.{line}
-use Rattle.report_lists.specs.Lists.{shown, textOf}
-use Rattle.player_spec.specs.Lookups.{shownIn}
-use Rattle.player_spec.specs.Answers.{numbered}
->>>>>>> playing:crates/player_listing/specs/Faces.antt
 use Rattle.table_counts.specs.declared.counts.FigureCounts.{FigureCounts}
 use Rattle.table_counts.specs.declared.counts.MovementCounts.{MovementCounts}
 use Rattle.report_lists.specs.Parts.{linesFrom}

@@ -2,7 +2,6 @@
 ghost use mathlib.Core.Path.{_≡_};
 ghost use Prim.Native.Nat.{_-_, _*_, _≤_};
 ghost use lib.ListN.{length, take};
-<<<<<<< HEAD:crates/shown_listing/src/faces.rt
 ghost use Rattle.report_text.specs.Output.{output, appended};
 ghost use Rattle.report_lists.specs.Lists.{appendedEach};
 ghost use Rattle.player_shown.specs.Answers.{showed};
@@ -10,15 +9,6 @@ ghost use Rattle.shown_listing.specs.Faces.{shownLine, shownLines, shown
 use player_shown::Visibility;
 use report_lists::shown;
 use report_rows::append_row;
-=======
-ghost use Rattle.report_text.specs.Output.{output, appended};
-ghost use Rattle.report_lists.specs.Lists.{appendedEach};
-ghost use Rattle.player_shown.specs.Answers.{showed};
-ghost use Rattle.shown_listing.specs.Faces.{shownLine, shownLines, shownText};
-use player_shown::Visibility;
-use report_rows::append_row;
-use report_lists::shown;
->>>>>>> playing:crates/player_listing/src/faces.rt
 use table_counts::FigureCounts;
 use table_counts::MovementCounts;
 

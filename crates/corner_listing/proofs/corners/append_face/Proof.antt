@@ -8,17 +8,10 @@ use borrow.Author.Needs.{needs}
 use lib.IntN.{ℤ}
 use lib.ListN.{length}
 use denote.Ref.{now}
-<<<<<<< HEAD:crates/corner_listing/proofs/corners/append_face/Proof.antt
 use Rattle.report_text.specs.Output.{output}
 use Rattle.report_lists.specs.Lists.{appendedEach}
 use Rattle.player_spec.specs.Lookups.{cornerIn}
 use Rattle.player_spec.specs.Answers.{numbered}
-=======
-use Rattle.report_text.specs.Output.{output}
-use Rattle.report_lists.specs.Lists.{appendedEach}
-use Rattle.player_spec.specs.Lookups.{cornerIn}
-use Rattle.player_spec.specs.Answers.{numbered}
->>>>>>> playing:crates/player_listing/proofs/corners/append_face/Proof.antt
 use Rattle.table_counts.specs.declared.counts.FigureCounts.{FigureCounts}
 use Rattle.report_lists.specs.Parts.{linesFrom}
 use Rattle.corner_listing.specs.Corners.{cornerLines, faceLines}

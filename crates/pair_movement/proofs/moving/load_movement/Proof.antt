@@ -14,11 +14,7 @@ use Rattle.refusal.proofs.Rules.{refused-by, clear-by}
 use Rattle.tra4_text.specs.Layout.{layoutOf}
 use Rattle.tra4_text.specs.Answer.{movementOutcome, movementAnswer, movementTable}
 use Rattle.tra4.specs.Answers.{answerOf}
-<<<<<<< HEAD:crates/pair_movement/proofs/moving/load_movement/Proof.antt
 use Rattle.table_sections.specs.Sections.{holdsMovement}
-=======
-use Rattle.table_sections.specs.Sections.{holdsMovement}
->>>>>>> playing:crates/pair_load/proofs/moving/load_movement/Proof.antt
 use Rattle.tra4.specs.declared.setting.MovementAnswer.{MovementAnswer}
 use Rattle.movement_bridge.proofs.Tables.{countsRead, table-read, movement-holds}
 use Rattle.pair_text.specs.Rules.{pairFault}

@@ -8,17 +8,10 @@ use borrow.Author.Needs.{needs}
 use lib.IntN.{ℤ}
 use lib.ListN.{length}
 use denote.Ref.{now}
-<<<<<<< HEAD:crates/sample_listing/proofs/samples/list_samples/Proof.antt
 use Rattle.report_text.specs.Output.{output}
 use Rattle.report_lists.specs.Lists.{appendedEach}
 use Rattle.player_spec.specs.Lookups.{sampleIn}
 use Rattle.player_spec.specs.Answers.{numbered}
-=======
-use Rattle.report_text.specs.Output.{output}
-use Rattle.report_lists.specs.Lists.{appendedEach}
-use Rattle.player_spec.specs.Lookups.{sampleIn}
-use Rattle.player_spec.specs.Answers.{numbered}
->>>>>>> playing:crates/player_listing/proofs/samples/list_samples/Proof.antt
 use Rattle.table_counts.specs.declared.counts.MovementCounts.{MovementCounts}
 use Rattle.report_lists.specs.Parts.{linesFrom}
 use Rattle.sample_listing.specs.Samples.{sampleLine, sampleLines, sampleText}

@@ -8,19 +8,11 @@ use borrow.Author.Needs.{needs}
 use lib.IntN.{ℤ}
 use lib.ListN.{length}
 use denote.Ref.{now}
-<<<<<<< HEAD:crates/shown_listing/proofs/faces/list_shown/Proof.antt
 use Rattle.report_text.specs.Output.{output}
 use Rattle.report_lists.specs.Lists.{appendedEach}
 use Rattle.player_spec.specs.Lookups.{shownIn}
 use Rattle.player_spec.specs.Answers.{numbered}
 use Rattle.player_shown.specs.Answers.{showed}
-=======
-use Rattle.report_text.specs.Output.{output}
-use Rattle.report_lists.specs.Lists.{appendedEach}
-use Rattle.player_spec.specs.Lookups.{shownIn}
-use Rattle.player_spec.specs.Answers.{numbered}
-use Rattle.player_shown.specs.Answers.{showed}
->>>>>>> playing:crates/player_listing/proofs/faces/list_shown/Proof.antt
 use Rattle.table_counts.specs.declared.counts.FigureCounts.{FigureCounts}
 use Rattle.table_counts.specs.declared.counts.MovementCounts.{MovementCounts}
 use Rattle.report_lists.specs.Parts.{linesFrom}
