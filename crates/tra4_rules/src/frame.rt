@@ -24,7 +24,13 @@ pub(crate) fn patterns_fault(total: i64, patterns: &[i64], count: usize) -> Chec
 
 // The first of the rows from `row` up to `end` that breaks its rule, where the table begins with them.
 // A row that is not whole is not looked at.
-pub(crate) fn frames_fault(kind: Timed, total: i64, table: &[i64], row: usize, end: usize) -> Checked
+pub(crate) fn frames_fault(
+    kind: Timed,
+    total: i64,
+    table: &[i64],
+    row: usize,
+    end: usize,
+) -> Checked
     ensures { λ r. ⌜ refusal r ≡ framesFault (numberOf kind) (rowFine kind total) none row (rowsOf (widthOf kind) (end - row) (now (table .entry))) ⌝ }
 {
     let width = width_of(kind);
