@@ -23,7 +23,7 @@ pub fn read(text: &[u8], table: &mut [i64]) -> MovementAnswer
     ensures content { λ r. ⌜ now (table .exit) ≡ movementTable (now (text .entry)) (now (table .entry)) ⌝ }
 {
     match text_check::check_text(text, Format::Tra) {
-        Checked::Refused { number, place } => refused(number as usize, place),
+        Checked::Refused { number, place } => refused(number, place),
         Checked::Clear => read_shape(text, table),
     }
 }
@@ -68,7 +68,7 @@ fn read_into(
     let p = parse(text, bone_rows, key_rows, pattern_rows);
     let d = p.cursor;
     if d.refusal != 0 {
-        return refused(d.refusal as usize, d.at);
+        return refused(d.refusal, d.at);
     }
     let total = p.total;
     let keys = key_count(p.over, p.keys);
@@ -81,7 +81,7 @@ fn read_into(
         key_rows,
         pattern_rows,
     ) {
-        Checked::Refused { number, place } => refused(number as usize, place),
+        Checked::Refused { number, place } => refused(number, place),
         Checked::Clear => set_down(table, p, bone_rows, key_rows, pattern_rows),
     }
 }

@@ -16,11 +16,11 @@ pub struct MovementAnswer {
     pub counts: MovementCounts,
 }
 
-pub(crate) fn refused(number: usize, place: usize) -> MovementAnswer
+pub(crate) fn refused(number: u8, place: usize) -> MovementAnswer
     ensures { λ r. ⌜ r ≡ refusedWith number place ⌝ }
 {
     MovementAnswer {
-        refusal: number,
+        refusal: number as usize,
         place,
         file: 1,
         total: 0,

@@ -20,9 +20,6 @@ check-text-requires c κs = search needs
 enum-known-number : tie.Need-enum-known-number
 enum-known-number c = search needs
 
-cast-refused : tie.Need-cast-refused
-cast-refused c = search needs
-
 refused-requires : tie.Need-refused-requires
 refused-requires c κs = search needs
 
@@ -60,7 +57,6 @@ read-spec =
     (tie.spec
     check-text-requires
     enum-known-number
-    cast-refused
     refused-requires
     enum-told
     read-shape-requires

@@ -23,18 +23,15 @@ ruled f =
 parse-requires : tie.Need-parse-requires
 parse-requires c κs = search needs
 
-cast-refused : tie.Need-cast-refused
-cast-refused c = search needs
-
 refused-requires : tie.Need-refused-requires
 refused-requires c κs = search needs
 
 returns : tie.Need-returns
 unfolding parsedAs
 returns c =
-    let s = c .before .before .before .before .before in
+    let s = c .before .before .before .before in
     let a = s .before .before .before .before .before in
-    let e = shape-refused _ _ _ _ (a .pre) _ _ _ _ (s .parse .ensures) (c .before .before .if1 .taken) in
+    let e = shape-refused _ _ _ _ (a .pre) _ _ _ _ (s .parse .ensures) (c .before .if1 .taken) in
     (c .refused .ensures ∙ refused-answer e (length (now (a .args .table))), refused-table e (now (a .args .table)))
 
 key-count-requires : tie.Need-key-count-requires
@@ -45,9 +42,6 @@ first-fault-requires c κs = search needs
 
 enum-known-number : tie.Need-enum-known-number
 enum-known-number c = search needs
-
-cast-refused-2 : tie.Need-cast-refused-2
-cast-refused-2 c = search needs
 
 refused-requires-2 : tie.Need-refused-requires-2
 refused-requires-2 c κs = search needs
@@ -89,13 +83,11 @@ read-into-spec =
     tie.close
     (tie.spec
     parse-requires
-    cast-refused
     refused-requires
     returns
     key-count-requires
     first-fault-requires
     enum-known-number
-    cast-refused-2
     refused-requires-2
     enum-told
     set-down-requires
