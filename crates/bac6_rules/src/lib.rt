@@ -15,5 +15,6 @@ pub use face::is_uv;
 pub use face::is_vertex;
 pub use face::no_uv;
 pub use material::material_fault;
-pub use order::first_fault;
+pub use order::counts_fault;
+pub use order::later_fault;
 pub use owner::claim;
