@@ -1,10 +1,8 @@
 -- Laws that belong to no one function.
-pub mod Parses
-pub mod Bounds
-pub mod Rules
+pub mod Sums
+pub mod Parts
+pub mod Lays
 pub mod Settings
-pub mod Taken
-pub mod Down
-pub mod Outcomes
-pub mod Checks
-pub mod Ends
+pub mod Numbers
+pub mod Figures
+pub mod Shapes

@@ -1,40 +1,66 @@
--- The answer and the table by whether the table is long enough, and the parts that are lent.
-use mathlib.Core.Path.{_≡_, refl, sym, _∙_}
-use mathlib.Core.List.{List, [], _∷_}
+-- The answer and the table by whether the table is long enough.
+use mathlib.Core.Path.{_≡_, refl, ap, _∙_}
+use mathlib.Core.List.{List}
 use mathlib.Core.Bool.{Bool, true, false}
-use Prim.Native.Nat.{ℕ, _^_, _≤_, _<_}
-use native.Mathlib.Omega.{arith}
-use borrow.Author.Tests.{le-leb, lt-leb}
-use mir.Syntax.{w64}
-use mir.Val.{toZ}
-use lib.IntN.{ℤ, pos}
-use lib.ListN.{length, take, length-take}
-use Rattle.text_numbers.proofs.Signed.{bits-pos}
+use Prim.Native.Nat.{ℕ, _≤_, _<_}
+use lib.Dec.{leb}
+use lib.IntN.{ℤ}
+use lib.ListN.{length}
+use borrow.Author.Tests.{le-leb, lt-leb, leb-true, leb-false}
 use Rattle.table_rows.specs.Overlay.{overlayAt}
-use Rattle.bac6.specs.declared.shape.Parsed.{Parsed}
-use Rattle.bac6.specs.declared.setting.FigureAnswer.{FigureAnswer}
-use Rattle.bac6.specs.Answers.{totalOf, countsAnswer, refusedWith, downAnswer, downTable}
+use Rattle.table_counts.specs.declared.counts.FigureCounts.{FigureCounts}
+use Rattle.refusal.specs.Outcomes.{Outcome, rejected, accepted, fitted, laid}
+use Rattle.parse_text.proofs.Outcomes.{fitted-room, fitted-short, fitted-rejected, laid-rejected, laid-accepted}
+use Rattle.bac6_text.specs.Figure.{Figure}
+use Rattle.bac6_text.specs.Rules.{figureCounts}
+use Rattle.bac6_text.specs.Layout.{layoutOf}
+use Rattle.bac6.specs.Places.{totalOf}
+use Rattle.bac6.specs.Answers.{refusedWith, answerOf, countsAnswer, downAnswer, downTable}
 
-pub part-length : (n : ℕ) (l : List ℤ) → n ≤ length l → n ≡ length (take n l)
-part-length n l h = rw (length-take n l) (omega arith)
+-- ---- by the total that the code has
 
-module _ (p : Parsed) where
-  pub short-answer : (room : ℕ) → room < totalOf p → downAnswer p room ≡ refusedWith 17 (totalOf p)
+module _ (n : FigureCounts) (total : ℕ) (e : total ≡ totalOf n) where
+  pub short-answer : (room : ℕ) → room < total → refusedWith 17 total ≡ downAnswer n room
   unfolding downAnswer
-  short-answer room h = rw (lt-leb (totalOf p) room h, downAnswer)
+  short-answer room h = let k : room < totalOf n = rw e at h in rw (lt-leb (totalOf n) room k, downAnswer) (ap (refusedWith 17) e)
 
-  pub long-answer : (room : ℕ) → totalOf p ≤ room → downAnswer p room ≡ countsAnswer p
-  unfolding downAnswer
-  long-answer room h = rw (le-leb (totalOf p) room h, downAnswer)
+  pub long-answer : (room : ℕ) → total ≤ room → record { refusal = 0; place = 0; file = 0; total = total; counts = n } ≡ downAnswer n room
+  unfolding downAnswer countsAnswer
+  long-answer room h = let k : totalOf n ≤ room = rw e at h in rw (le-leb (totalOf n) room k, downAnswer) (ap (λ (t : ℕ). record { refusal = 0; place = 0; file = 0; total = t; counts = n }) e)
 
-  pub short-table : (numbers table : List ℤ) → length table < totalOf p → table ≡ downTable p numbers table
+  pub short-table : (numbers table : List ℤ) → length table < total → table ≡ downTable n numbers table
   unfolding downTable
-  short-table numbers table h = rw (lt-leb (totalOf p) (length table) h, downTable)
+  short-table numbers table h = let k : length table < totalOf n = rw e at h in rw (lt-leb (totalOf n) (length table) k, downTable)
 
-  pub long-table : (numbers table exit : List ℤ) → totalOf p ≤ length table → exit ≡ overlayAt 0 numbers table → exit ≡ downTable p numbers table
+  pub long-table : (numbers table exit : List ℤ) → total ≤ length table → exit ≡ overlayAt 0 numbers table → exit ≡ downTable n numbers table
   unfolding downTable
-  long-table numbers table exit h e = e ∙ rw (le-leb (totalOf p) (length table) h, downTable)
+  long-table numbers table exit h x = let k : totalOf n ≤ length table = rw e at h in x ∙ rw (le-leb (totalOf n) (length table) k, downTable)
 
--- a name's numbers are below 2 ^ 63, and so are themselves in 64 bits
-pub laid-name : (a b : ℕ) (more table exit : List ℤ) → a < 2 ^ 63 → b < 2 ^ 63 → exit ≡ overlayAt 0 (toZ w64 a ∷ toZ w64 b ∷ more) table → exit ≡ overlayAt 0 (pos a ∷ pos b ∷ more) table
-laid-name a b more table exit h k e = e ∙ rw (bits-pos a h, bits-pos b k)
+-- ---- of a figure, where the numbers are its layout
+
+module _ (f : Figure) (t : totalOf (figureCounts f) ≡ length (layoutOf f)) where
+  pub answer-is : (room : ℕ) → downAnswer (figureCounts f) room ≡ answerOf (fitted layoutOf room (accepted f))
+  unfolding downAnswer countsAnswer answerOf
+  answer-is room = go (leb (length (layoutOf f)) room) refl
+    where
+      go : (v : Bool) → leb (length (layoutOf f)) room ≡ v → downAnswer (figureCounts f) room ≡ answerOf (fitted layoutOf room (accepted f))
+      go true o = rw (fitted-room layoutOf f room (leb-true _ _ o)) (rw (t, o, downAnswer) (ap (λ (k : ℕ). record { refusal = 0; place = 0; file = 0; total = k; counts = figureCounts f }) t))
+      go false o = rw (fitted-short layoutOf f room (leb-false _ _ o)) (rw (t, o, downAnswer) (ap (refusedWith 17) t))
+
+  pub table-is : (table : List ℤ) → downTable (figureCounts f) (layoutOf f) table ≡ laid layoutOf table (fitted layoutOf (length table) (accepted f))
+  unfolding downTable
+  table-is table = go (leb (length (layoutOf f)) (length table)) refl
+    where
+      go : (v : Bool) → leb (length (layoutOf f)) (length table) ≡ v → downTable (figureCounts f) (layoutOf f) table ≡ laid layoutOf table (fitted layoutOf (length table) (accepted f))
+      go true o = rw (fitted-room layoutOf f (length table) (leb-true _ _ o)) (rw (t, o, downTable) (laid-accepted layoutOf f table (leb-true _ _ o)))
+      go false o = rw (t, o, downTable) (laid-rejected layoutOf (fitted-short layoutOf f (length table) (leb-false _ _ o)) table)
+
+-- ---- an outcome that is a refusal
+
+module _ {o : Outcome Figure} {n p : ℕ} (e : o ≡ rejected n p) where
+  pub refused-answer : (room : ℕ) → refusedWith n p ≡ answerOf (fitted layoutOf room o)
+  unfolding answerOf
+  refused-answer room = rw (fitted-rejected layoutOf e room)
+
+  pub refused-table : (table : List ℤ) → table ≡ laid layoutOf table (fitted layoutOf (length table) o)
+  refused-table table = laid-rejected layoutOf (fitted-rejected layoutOf e (length table)) table

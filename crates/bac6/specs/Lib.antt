@@ -1,2 +1,3 @@
-pub mod Parse
+pub mod Places
 pub mod Answers
+pub mod Checks

@@ -1,10 +1,9 @@
 // Reads a figure's text.
-mod back;
+mod check;
+mod lay;
+mod places;
 mod reader;
 mod setting;
-mod shape;
 
 pub use reader::read;
 pub use setting::FigureAnswer;
-pub use shape::Parsed;
-pub use shape::parse;

@@ -14,32 +14,12 @@ use Rattle.refusal.specs.FirstBad.{firstBad}
 use Rattle.refusal.proofs.Rules.{or-fault, or-assoc, or-first, or-second}
 use Rattle.table_counts.specs.declared.counts.FigureCounts.{FigureCounts}
 use Rattle.bac6_bone_rules.specs.Bones.{flagsIn, Settled}
-use Rattle.bac6_rules.specs.Order.{countsFault, laterFault, tablesFault, LeftBy, BonesLeft}
+use Rattle.bac6_rules.specs.Order.{countsFault, laterFault, tablesFault}
 use Rattle.parse_rows.proofs.Widths.{Wide}
 use Rattle.bac6_text.proofs.Whole.{WholeBones, WholeFaces}
 use Rattle.bac6_rules.proofs.Laid.{rows-laid, flags-laid, faces-laid, bones-laid}
 use Rattle.table_counts.specs.Counts.{figureMosts}
 use Rattle.table_counts.specs.Counts.{figureLists}
-
--- the rules before the bones', and those after
-pub tables-parts : (n : FigureCounts) (claims : Fault) (ms bs fs : List ℤ) → tablesFault n claims ms bs fs ≡ orElse (countsFault n) (orElse (bonesFault (flagsIn (n .bones) bs)) (laterFault n claims ms fs))
-unfolding tablesFault countsFault laterFault
-tables-parts n claims ms bs fs = sym (or-assoc (tooMany 0 (figureLists n) figureMosts) (normalsFault (n .points) (n .normals)) _)
-
--- ---- the bones at exit
-
-module _ (n : FigureCounts) (entry exit : List ℤ) where
-  pub left-placed : countsFault n ≡ clear → Settled (n .bones) entry exit (wholeList (flagsIn (n .bones) entry)) → BonesLeft n entry exit
-  unfolding LeftBy BonesLeft
-  left-placed e h = rw e h
-
-  pub left-same : {k p : ℕ} → countsFault n ≡ fault k p → exit ≡ entry → BonesLeft n entry exit
-  unfolding LeftBy BonesLeft
-  left-same e h = rw e h
-
-  pub placed-left : countsFault n ≡ clear → BonesLeft n entry exit → Settled (n .bones) entry exit (wholeList (flagsIn (n .bones) entry))
-  unfolding LeftBy BonesLeft
-  placed-left e h = rw e at h
 
 -- ---- a figure's tables
 
@@ -61,8 +41,8 @@ module _ (f : Figure) where
 
   -- where a list has too many rows, whatever the tables hold
   pub tables-over : {k p : ℕ} → tooMany 0 (countsOf f) figureMosts ≡ fault k p → (claims : Fault) (ms bs fs : List ℤ) → tablesFault (figureCounts f) claims ms bs fs ≡ figureFault f
-  unfolding tablesFault figureFault
-  tables-over e claims ms bs fs = or-fault _ (rw figure-counts e) ∙ sym (or-fault _ e)
+  unfolding tablesFault countsFault figureFault
+  tables-over e claims ms bs fs = or-fault _ (or-fault _ (rw figure-counts e)) ∙ sym (or-fault _ e)
 
   -- so the tables need hold the figure only where none has
   pub tables-within : (claims : Fault) (ms bs fs : List ℤ) → (tooMany 0 (countsOf f) figureMosts ≡ clear → tablesFault (figureCounts f) claims ms bs fs ≡ figureFault f) → tablesFault (figureCounts f) claims ms bs fs ≡ figureFault f
@@ -75,17 +55,11 @@ module _ (f : Figure) where
   module _ (ps rm rb rf : List ℤ) (wm : Wide 9 (f .materials)) (wb : WholeBones (f .bones)) (wf : WholeFaces (facesOf f)) (e : length ps ≡ length (f .bones)) where
     -- the first fault of the tables is the figure's
     pub tables-laid : tablesFault (figureCounts f) (verticesFault (length (f .points)) [] 0 (f .bones)) (flat (f .materials) ++ rm) (flat (boneRows (f .bones) ps) ++ rb) (flat (faceRows f) ++ rf) ≡ figureFault f
-    unfolding tablesFault figureFault figureCounts
+    unfolding tablesFault laterFault figureCounts
     tables-laid =
-        rw (figure-counts, flags-laid (f .bones) ps rb wb e, rows-laid 9 (f .materials) rm wm, faces-laid (length (f .materials)) (length (f .points)) (length (f .uvs)) f rf wf)
+        rw (flags-laid (f .bones) ps rb wb e, rows-laid 9 (f .materials) rm wm, faces-laid (length (f .materials)) (length (f .points)) (length (f .uvs)) f rf wf)
+        (sym figure-parts)
 
     -- and where there is none, the bones have their parents
-    pub bones-left : (exit : List ℤ) → figureFault f ≡ clear → BonesLeft (figureCounts f) (flat (boneRows (f .bones) ps) ++ rb) exit → exit ≡ flat (boneRows (f .bones) (parentsIn (wholeList (flagsOf (f .bones))))) ++ rb
-    unfolding figureCounts
-    bones-left exit h left =
-        let whole = sym figure-parts ∙ h in
-        let bones = or-first _ _ (or-second _ _ whole) in
-        bones-laid (length (f .bones)) (f .bones) ps rb exit wb e bones (settled (or-first _ _ whole))
-      where
-        settled : countsFault (figureCounts f) ≡ clear → Settled (length (f .bones)) (flat (boneRows (f .bones) ps) ++ rb) exit (wholeList (flagsOf (f .bones)))
-        settled k = rw (flags-laid (f .bones) ps rb wb e) at (placed-left (figureCounts f) (flat (boneRows (f .bones) ps) ++ rb) exit k left)
+    pub bones-left : (exit : List ℤ) → figureFault f ≡ clear → Settled (length (f .bones)) (flat (boneRows (f .bones) ps) ++ rb) exit (wholeList (flagsIn (length (f .bones)) (flat (boneRows (f .bones) ps) ++ rb))) → exit ≡ flat (boneRows (f .bones) (parentsIn (wholeList (flagsOf (f .bones))))) ++ rb
+    bones-left exit h left = bones-laid (length (f .bones)) (f .bones) ps rb exit wb e (or-first _ _ (or-second _ _ (sym figure-parts ∙ h))) (rw (flags-laid (f .bones) ps rb wb e) at left)

@@ -3,4 +3,5 @@ mod count;
 mod order;
 
 pub use count::normals_fault;
-pub use order::first_fault;
+pub use order::counts_fault;
+pub use order::later_fault;

@@ -1,37 +1,15 @@
-// Rules 8 to 13 in order: of a figure's faults the lowest number, with its lowest row.
+// Rules 8, 9 and 11 to 13 in order: of a figure's faults the lowest number, with its lowest row. Rule 10 stands between them (`place_bones`).
 ghost use mathlib.Core.Path.{_≡_};
 ghost use Rattle.refusal.specs.Answers.{refusal};
-ghost use Rattle.bac6_rules.specs.Order.{countsFault, laterFault, tablesFault, BonesLeft};
+ghost use Rattle.bac6_rules.specs.Order.{countsFault, laterFault};
 use crate::count::normals_fault;
-use bac6_bone_rules::place_bones;
 use bac6_row_rules::face_fault;
 use bac6_row_rules::material_fault;
 use refusal::Checked;
 use table_counts::FigureCounts;
 
-// The first fault of the tables, where `claims` is what reading the vertex entries found of rule 11.
-// The bones are given their parents, unless rule 8 or 9 refuses.
-pub fn first_fault(
-    n: FigureCounts,
-    claims: Checked,
-    materials: &[i64],
-    bones: &mut [i64],
-    faces: &[i64],
-) -> Checked
-    ensures answer { λ r. ⌜ refusal r ≡ tablesFault n (refusal claims) (now (materials .entry)) (now (bones .entry)) (now (faces .entry)) ⌝ }
-    ensures content { λ r. ⌜ BonesLeft n (now (bones .entry)) (now (bones .exit)) ⌝ }
-{
-    match counts_fault(n) {
-        Checked::Refused { number, place } => Checked::Refused { number, place },
-        Checked::Clear => match place_bones(bones, n.bones) {
-            Checked::Refused { number, place } => Checked::Refused { number, place },
-            Checked::Clear => later_fault(n, claims, materials, faces),
-        },
-    }
-}
-
-// Rules 8 and 9.
-fn counts_fault(n: FigureCounts) -> Checked
+// Rules 8 and 9: the first fault of the row counts.
+pub fn counts_fault(n: FigureCounts) -> Checked
     ensures { λ r. ⌜ refusal r ≡ countsFault n ⌝ }
 {
     let counts = [
@@ -52,8 +30,8 @@ fn counts_fault(n: FigureCounts) -> Checked
     }
 }
 
-// Rules 11 to 13.
-fn later_fault(n: FigureCounts, claims: Checked, materials: &[i64], faces: &[i64]) -> Checked
+// Rules 11 to 13: the first fault, where `claims` is what reading the vertex entries found of rule 11.
+pub fn later_fault(n: FigureCounts, claims: Checked, materials: &[i64], faces: &[i64]) -> Checked
     ensures { λ r. ⌜ refusal r ≡ laterFault n (refusal claims) (now (materials .entry)) (now (faces .entry)) ⌝ }
 {
     match claims {

@@ -11,7 +11,7 @@ use Rattle.text_check.specs.Faults.{faultIn, markOf, blankOrEnd, begins, marked
 use Rattle.parse_cursor.specs.Readers.{after, _>>=_, _>>_, pure, stop, tokenOf, rest, isOpening, isClosing, isPlain, isEnd, take-if, open-bracket, close-bracket, wordOf, keyword, text-end, openedOf, opened, closed, numberIn, numberAt, number, numbers, versionAt, version, absent, nameAt, string, oneFrom, oneOf, starts, optional, trailing, manyIn, many, many⁺, cells, rowOf, row, headOf, head}
 use Rattle.parse_cursor.specs.Fields.{kind, isSome, unread, complete, kindFrom, fieldsIn, fields}
 use Rattle.table_rows.specs.Flat.{flat}
-use Rattle.bac6_text.specs.Grammar.{word, truth, blend, materialKinds, orZero, material, boneKinds, nameIn, flagIn, numbersIn, boneOf, bone, faceOf, faceBy, face, group, figure}
+use Rattle.bac6_text.specs.Grammar.{word, truth, blend, materialKinds, orZero, material, boneKinds, nameIn, flagIn, numbersIn, boneOf, bone, faceOf, faceBy, face, group, nameSection, textureSection, colourSection, materialSection, pointSection, normalSection, boneSection, uvSection, polygonSection, figure}
 use Rattle.refusal.specs.Rules.{orElse, tooMany}
 use Rattle.bac6_text.specs.Rules.{groupFaces, facesOf, countsOf, figureCounts, normalsFault, flagsOf, isSet, joined, thenIf, boneList, wholeList, placedFault, parentsIn, bonesFault, entriesFine, verticesFault, ownerFrom, ownerOf, isLevel, materialFine, faceFine, figureFault}
 use Rattle.refusal.specs.FirstBad.{all, firstBad}
@@ -52,5 +52,5 @@ rows =
     pos 0 ∷ pos 3 ∷ pos 0 ∷ pos 1 ∷ pos 2 ∷ negsuc 0 ∷ negsuc 0 ∷ negsuc 0 ∷ negsuc 0 ∷ negsuc 0 ∷ negsuc 0 ∷ []
 
 pub listing-example : tableAfter text (replicate 60 (pos 7)) ≡ rows ++ replicate 3 (pos 7)
-unfolding bytes isBlank between isLetter classOf inLine inString inWord isDigit isContent run part same refusalOf decimalFrom decimal signed notEmpty allDigits intMost intOf millionths floatOf numberFrom afterDigits unsigned negative unsignedPart numberOf inForm lexeme tokens lexAt lex first bytesOf widthOf isKeyword faultIn markOf blankOrEnd begins marked textFault after _>>=_ _>>_ pure stop tokenOf rest isOpening isClosing isPlain isEnd take-if open-bracket close-bracket wordOf keyword text-end openedOf opened closed numberIn numberAt number numbers versionAt version absent nameAt string oneFrom oneOf starts optional trailing manyIn many many⁺ cells rowOf row headOf head kind isSome unread complete kindFrom fieldsIn fields flat word truth blend materialKinds orZero material boneKinds nameIn flagIn numbersIn boneOf bone faceOf faceBy face group figure orElse groupFaces facesOf countsOf figureCounts figureLists figureMosts tooMany normalsFault flagsOf isSet joined thenIf boneList wholeList placedFault parentsIn bonesFault isRow isNone sameNumber member all firstBad entriesFine verticesFault ownerFrom ownerOf isLevel materialFine faceFine figureFault nameNumbers boneRow boneRows ownersFrom corners faceRow groupRows faceRows groupNames layoutOf ruled shaped checked outcome figureOutcome fitted figureAnswer laid tableAfter
+unfolding bytes isBlank between isLetter classOf inLine inString inWord isDigit isContent run part same refusalOf decimalFrom decimal signed notEmpty allDigits intMost intOf millionths floatOf numberFrom afterDigits unsigned negative unsignedPart numberOf inForm lexeme tokens lexAt lex first bytesOf widthOf isKeyword faultIn markOf blankOrEnd begins marked textFault after _>>=_ _>>_ pure stop tokenOf rest isOpening isClosing isPlain isEnd take-if open-bracket close-bracket wordOf keyword text-end openedOf opened closed numberIn numberAt number numbers versionAt version absent nameAt string oneFrom oneOf starts optional trailing manyIn many many⁺ cells rowOf row headOf head kind isSome unread complete kindFrom fieldsIn fields flat word truth blend materialKinds orZero material boneKinds nameIn flagIn numbersIn boneOf bone faceOf faceBy face group nameSection textureSection colourSection materialSection pointSection normalSection boneSection uvSection polygonSection figure orElse groupFaces facesOf countsOf figureCounts figureLists figureMosts tooMany normalsFault flagsOf isSet joined thenIf boneList wholeList placedFault parentsIn bonesFault isRow isNone sameNumber member all firstBad entriesFine verticesFault ownerFrom ownerOf isLevel materialFine faceFine figureFault nameNumbers boneRow boneRows ownersFrom corners faceRow groupRows faceRows groupNames layoutOf ruled shaped checked outcome figureOutcome fitted figureAnswer laid tableAfter
 listing-example = refl

@@ -18,7 +18,7 @@ use Rattle.parse_cursor.proofs.FieldFits.{AllGive, AllFit, Whole, Stands, field
 use Rattle.parse_cursor.proofs.Ranges.{AllIn, Numbers, number-gives, numbers-give, row-gives, choice-below}
 use Rattle.parse_rows.proofs.Widths.{Wide}
 use Rattle.bac6_text.specs.Figure.{Bone, Face, Group, Figure}
-use Rattle.bac6_text.specs.Grammar.{word, truth, blend, BoneField, flag, several, boneKinds, boneOf, nameIn, numbersIn, bone, faceOf, faceBy, face, group, material, materialKinds, orZero, figure}
+use Rattle.bac6_text.specs.Grammar.{word, truth, blend, BoneField, flag, several, boneKinds, boneOf, nameIn, numbersIn, bone, faceOf, faceBy, face, group, material, materialKinds, orZero, nameSection, textureSection, colourSection, materialSection, pointSection, normalSection, boneSection, uvSection, polygonSection, figure}
 use Rattle.bac6_text.specs.Names.{NamedFigure}
 use Rattle.bac6_text.specs.Rules.{groupFaces, facesOf}
 
@@ -161,28 +161,28 @@ module _ (P : Name → Type 0) where
       unfolding group
       group-gives = bind-gives (then-gives (opened-leaves "group") (name-gives empty h)) (λ n p. bind-gives (many-gives face-gives) (λ fs q. pure-gives {P = λ g. WholeFaces (g .faces) × P (g .name)} (record { name = n; faces = fs }) (q, p)))
 
+      polygons-give : GivesOn Q (λ x. WholeFaces (x .0) × Every (λ g. WholeFaces (g .faces) × P (g .name)) (x .1)) polygonSection
+      unfolding polygonSection
+      polygons-give =
+          bind-gives (then-gives (opened-leaves "Polygons") (many-gives face-gives)) (λ fs hfs.
+          bind-gives (trailing-gives "DynamicPolygons" [] tt (many-gives group-gives)) (λ gs hgs.
+          pure-gives {P = λ x. WholeFaces (x .0) × Every (λ g. WholeFaces (g .faces) × P (g .name)) (x .1)} (fs, gs) (hfs, hgs)))
+
       pub figure-gives : GivesOn Q (λ f. WholeFigure f × NamedFigure P f) figure
-      unfolding figure
+      unfolding figure nameSection textureSection colourSection materialSection pointSection normalSection boneSection uvSection polygonSection
       figure-gives =
-          then-gives (head-leaves "bacVersion" "6.0") (then-gives (opened-leaves "Figure")
-          (bind-gives (name-gives empty h) (λ n hn.
+          bind-gives (then-gives (then-gives (head-leaves "bacVersion" "6.0") (opened-leaves "Figure")) (name-gives empty h)) (λ n hn.
           bind-gives (section-gives "Textures" "i2" INT 2) (λ ts hts.
           bind-gives (section-gives "Colors" "f3" FLOAT 3) (λ cs hcs.
-          then-gives (opened-leaves "Materials")
-          (bind-gives (some-give material-gives) (λ mats hmats.
-          then-gives (opened-leaves "Vertices") (then-gives (opened-leaves "coords")
-          (bind-gives (some-give (row-gives "pnt" FLOAT 3)) (λ ps hps.
-          then-gives (opened-leaves "normals")
-          (bind-gives (many-gives (row-gives "vct" FLOAT 3)) (λ vs hvs.
-          then-gives close-leaves (then-gives (opened-leaves "Bones")
-          (bind-gives (some-give bone-gives) (λ bs hbs.
+          bind-gives (then-gives (opened-leaves "Materials") (some-give material-gives)) (λ mats hmats.
+          bind-gives (then-gives (then-gives (opened-leaves "Vertices") (opened-leaves "coords")) (some-give (row-gives "pnt" FLOAT 3))) (λ ps hps.
+          bind-gives (then-gives (opened-leaves "normals") (closed-gives (many-gives (row-gives "vct" FLOAT 3)))) (λ vs hvs.
+          bind-gives (then-gives (opened-leaves "Bones") (some-give bone-gives)) (λ bs hbs.
           bind-gives (section-gives "TextureCoords" "f2" FLOAT 2) (λ us hus.
-          then-gives (opened-leaves "Polygons")
-          (bind-gives (many-gives face-gives) (λ fs hfs.
-          bind-gives (trailing-gives "DynamicPolygons" [] tt (many-gives group-gives)) (λ gs hgs.
+          bind-gives polygons-give (λ x hx.
           then-gives close-leaves (then-gives end-leaves
           (pure-gives _
-          (record { textures = wide INT 2 ts hts; colours = wide FLOAT 3 cs hcs; materials = hmats; points = wide FLOAT 3 ps hps; normals = wide FLOAT 3 vs hvs; bones = every-as (λ _ p. p .0) bs hbs; uvs = wide FLOAT 2 us hus; polygons = hfs; groups = every-as (λ _ p. p .0) gs hgs; point-floats = floats 3 ps hps; uv-floats = floats 2 us hus }, record { own = hn; bones = every-as (λ _ p. p .1) bs hbs; groups = every-as (λ _ p. p .1) gs hgs }))))))))))))))))))))))
+          (record { textures = wide INT 2 ts hts; colours = wide FLOAT 3 cs hcs; materials = hmats; points = wide FLOAT 3 ps hps; normals = wide FLOAT 3 vs hvs; bones = every-as (λ _ p. p .0) bs hbs; uvs = wide FLOAT 2 us hus; polygons = hx .0; groups = every-as (λ _ p. p .0) (x .1) (hx .1); point-floats = floats 3 ps hps; uv-floats = floats 2 us hus }, record { own = hn; bones = every-as (λ _ p. p .1) bs hbs; groups = every-as (λ _ p. p .1) (x .1) (hx .1) }))))))))))))
 
 -- ---- of any tokens, whatever the names
 

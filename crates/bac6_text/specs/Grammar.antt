@@ -102,27 +102,50 @@ face = opened "face" >> number INT >>= λ m. open-bracket >> oneOf ("i3" ∷ "i4
 unfoldable pub group : Reader Group
 group = opened "group" >> optional "name" absent (closed string) >>= λ n. many face >>= λ fs. pure (record { name = n; faces = fs })
 
+-- ---- the sections of a figure, in the text's order
+
+-- the head, the figure's opening, and its name
+unfoldable pub nameSection : Reader Name
+nameSection = head "bacVersion" "6.0" >> opened "Figure" >> optional "name" absent (closed string)
+
+unfoldable pub textureSection : Reader (List (List ℤ))
+textureSection = optional "Textures" [] (many (row "i2" INT 2))
+
+unfoldable pub colourSection : Reader (List (List ℤ))
+colourSection = optional "Colors" [] (many (row "f3" FLOAT 3))
+
+unfoldable pub materialSection : Reader (List (List ℤ))
+materialSection = opened "Materials" >> many⁺ material
+
+unfoldable pub pointSection : Reader (List (List ℤ))
+pointSection = opened "Vertices" >> opened "coords" >> many⁺ (row "pnt" FLOAT 3)
+
+-- with the bracket that closes the vertices
+unfoldable pub normalSection : Reader (List (List ℤ))
+normalSection = opened "normals" >> closed (many (row "vct" FLOAT 3))
+
+unfoldable pub boneSection : Reader (List Bone)
+boneSection = opened "Bones" >> many⁺ bone
+
+unfoldable pub uvSection : Reader (List (List ℤ))
+uvSection = optional "TextureCoords" [] (many (row "f2" FLOAT 2))
+
+-- faces without a group, and groups
+unfoldable pub polygonSection : Reader (List Face × List Group)
+polygonSection =
+    opened "Polygons" >> many face >>= λ ps. trailing "DynamicPolygons" [] (many group) >>= λ gs. pure (ps, gs)
+
 unfoldable pub figure : Reader Figure
 figure = do
-  head "bacVersion" "6.0"
-  opened "Figure"
-  n ← optional "name" absent (closed string)
-  textures ← optional "Textures" [] (many (row "i2" INT 2))
-  colours ← optional "Colors" [] (many (row "f3" FLOAT 3))
-  opened "Materials"
-  materials ← many⁺ material
-  opened "Vertices"
-  opened "coords"
-  points ← many⁺ (row "pnt" FLOAT 3)
-  opened "normals"
-  normals ← many (row "vct" FLOAT 3)
-  close-bracket
-  opened "Bones"
-  bones ← many⁺ bone
-  uvs ← optional "TextureCoords" [] (many (row "f2" FLOAT 2))
-  opened "Polygons"
-  polygons ← many face
-  groups ← trailing "DynamicPolygons" [] (many group)
+  n ← nameSection
+  textures ← textureSection
+  colours ← colourSection
+  materials ← materialSection
+  points ← pointSection
+  normals ← normalSection
+  bones ← boneSection
+  uvs ← uvSection
+  x ← polygonSection
   close-bracket
   text-end
-  pure (record { name = n; textures = textures; colours = colours; materials = materials; points = points; normals = normals; bones = bones; uvs = uvs; polygons = polygons; groups = groups })
+  pure (record { name = n; textures = textures; colours = colours; materials = materials; points = points; normals = normals; bones = bones; uvs = uvs; polygons = x .0; groups = x .1 })

@@ -9,7 +9,7 @@ use Rattle.text_numbers.specs.Numbers.{Form, INT, FLOAT}
 use Rattle.parse_cursor.specs.Readers.{Reader, _>>=_, pure, closed, number, numbers, optional, many, row, starts}
 use Rattle.parse_cursor.specs.Fields.{kind}
 use Rattle.bac6_text.specs.Grammar as bac6
-use Rattle.bac6_text.specs.Grammar.{word, blend, material, materialKinds, flag, several, boneKinds, faceOf, faceBy, face, group, figure}
+use Rattle.bac6_text.specs.Grammar.{word, blend, material, materialKinds, flag, several, boneKinds, faceOf, faceBy, face, group, nameSection, textureSection, colourSection, materialSection, pointSection, normalSection, boneSection, uvSection, polygonSection, figure}
 use Rattle.tra4_text.specs.Grammar as tra4
 use Rattle.tra4_text.specs.Grammar.{repeatedIn, repeated, repeated⁺, key, channel, channelNames, channelKinds, pattern, movement}
 use Rattle.refusal_laws.proofs.Readers.{Ends, AllEnd, pure-ends, later-ends, either-ends, bind-ends, then-ends, open-ends, close-ends, opened-ends, text-end-ends, closed-ends, head-ends, number-ends, numbers-end, row-of-ends, row-ends, choice-ends, string-ends, more-end, many-ends, some-end, optional-ends, trailing-ends, name-ends, fields-end}
@@ -70,26 +70,25 @@ module _ (b : ℕ) where
   section-ends : (k w : String) (f : Form) (n : ℕ) → Ends b (optional k [] (many (row w f n)))
   section-ends k w f n = optional-ends k [] (many-ends (row-ends w f n))
 
+  polygons-end : Ends b polygonSection
+  unfolding polygonSection
+  polygons-end =
+      bind-ends (then-ends (opened-ends "Polygons") (many-ends face-ends)) (λ fs.
+      bind-ends (trailing-ends "DynamicPolygons" [] (many-ends group-ends)) (λ gs. pure-ends _))
+
   pub figure-ends : Ends b figure
-  unfolding figure
+  unfolding figure nameSection textureSection colourSection materialSection pointSection normalSection boneSection uvSection
   figure-ends =
-      then-ends (head-ends "bacVersion" "6.0") (then-ends (opened-ends "Figure")
-      (bind-ends name-ends (λ n.
+      bind-ends (then-ends (then-ends (head-ends "bacVersion" "6.0") (opened-ends "Figure")) name-ends) (λ n.
       bind-ends (section-ends "Textures" "i2" INT 2) (λ ts.
       bind-ends (section-ends "Colors" "f3" FLOAT 3) (λ cs.
-      then-ends (opened-ends "Materials")
-      (bind-ends (some-end material-ends) (λ mats.
-      then-ends (opened-ends "Vertices") (then-ends (opened-ends "coords")
-      (bind-ends (some-end (row-ends "pnt" FLOAT 3)) (λ ps.
-      then-ends (opened-ends "normals")
-      (bind-ends (many-ends (row-ends "vct" FLOAT 3)) (λ vs.
-      then-ends close-ends (then-ends (opened-ends "Bones")
-      (bind-ends (some-end bone-ends) (λ bs.
+      bind-ends (then-ends (opened-ends "Materials") (some-end material-ends)) (λ mats.
+      bind-ends (then-ends (then-ends (opened-ends "Vertices") (opened-ends "coords")) (some-end (row-ends "pnt" FLOAT 3))) (λ ps.
+      bind-ends (then-ends (opened-ends "normals") (closed-ends (many-ends (row-ends "vct" FLOAT 3)))) (λ vs.
+      bind-ends (then-ends (opened-ends "Bones") (some-end bone-ends)) (λ bs.
       bind-ends (section-ends "TextureCoords" "f2" FLOAT 2) (λ us.
-      then-ends (opened-ends "Polygons")
-      (bind-ends (many-ends face-ends) (λ fs.
-      bind-ends (trailing-ends "DynamicPolygons" [] (many-ends group-ends)) (λ gs.
-      then-ends close-ends (then-ends text-end-ends (pure-ends _)))))))))))))))))))))
+      bind-ends polygons-end (λ x.
+      then-ends close-ends (then-ends text-end-ends (pure-ends _)))))))))))
 
   -- ---- a movement
 

@@ -37,7 +37,8 @@ up-to (suc n) (z ∷ zs) [] h = refl
 up-to zero (z ∷ zs) (x ∷ s) h = absurd (omega arith)
 up-to (suc n) (z ∷ zs) (x ∷ s) h = ap (λ (l : List ℤ). z ∷ l) (up-to n zs s (omega arith))
 
-pub middle : (at end : ℕ) (zs t : List ℤ) → at ≤ end → end ≡ min (at + length zs) (length t) → take at t ++ (overlayAt 0 zs (take (end - at) (drop at t)) ++ drop (end - at) (drop at t)) ≡ overlayAt at zs t
+-- so a list over a part that has room for it, or that ends where the table does, is that list over the table
+pub middle : (at end : ℕ) (zs t : List ℤ) → at ≤ end → min (at + length zs) (length t) ≤ end → take at t ++ (overlayAt 0 zs (take (end - at) (drop at t)) ++ drop (end - at) (drop at t)) ≡ overlayAt at zs t
 middle at end zs t h e = sym (from-index at zs t ∙ ap (λ (l : List ℤ). take at t ++ l) (up-to (end - at) zs (drop at t) (rw length-drop (omega arith))))
 
 -- ---- lists laid from a table's start on

@@ -4,6 +4,7 @@ mod number;
 mod rows;
 
 pub use index::advance;
+pub use index::rows_end;
 pub use number::is_index;
 pub use number::is_none;
 pub use number::is_row;

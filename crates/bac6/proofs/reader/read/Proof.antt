@@ -1,5 +1,5 @@
 -- `read` refuses a text that its check refuses, and answers as its shape else.
-use mathlib.Core.Path.{refl, ap, sym, _∙_}
+use mathlib.Core.Path.{ap, sym, _∙_}
 use lib.ListN.{length}
 use denote.Ref.{now}
 use Rattle.text_check.specs.Answers.{formatNamed}
@@ -9,7 +9,7 @@ use Rattle.bac6_text.specs.Layout.{layoutOf}
 use Rattle.bac6_text.specs.Answer.{figureOutcome, figureAnswer, tableAfter}
 use Rattle.refusal.proofs.Rules.{refused-by, clear-by}
 use Rattle.bac6.specs.Answers.{answerOf}
-use Rattle.bac6.proofs.Ends.{refused-answer, refused-table}
+use Rattle.bac6.proofs.Settings.{refused-answer, refused-table}
 use borrow.Author.Needs.{needs}
 use Rattle.bac6.proofs.reader.read.Statement.{statement}
 use Rattle.bac6.proofs.reader.read.Tie as tie

@@ -53,7 +53,7 @@ returns-2 c =
     let j = c .before .before .before .before in
     let s = j .before .before in (
       ap (λ (ys : List ℤ). putMid (s .args .at) (j .if2 .end - s .args .at) (now (s .args .table)) ys) (c .before .store .ensures)
-          ∙ middle (s .args .at) (j .if2 .end) (now (s .args .rows)) (now (s .args .table)) (begins j) (ends j),
+          ∙ middle (s .args .at) (j .if2 .end) (now (s .args .rows)) (now (s .args .table)) (begins j) (omega (arith, ends j)),
       ends j,
     )
 

@@ -1,0 +1,138 @@
+-- What stands in each chunk of a material, and which chunk a token opens.
+use mathlib.Core.Path.{_≡_, refl, ap, sym, _∙_}
+use mathlib.Core.List.{List, [], _∷_, map}
+use mathlib.Core.Bool.{Bool, true, false}
+use mathlib.Core.Option.{Option, some}
+use Prim.Native.Nat.{ℕ, zero, suc, _≤_, _<_}
+use Prim.Native.String.{String}
+use native.Mathlib.Omega.{arith}
+use lib.IntN.{ℤ, pos}
+use lib.ListN.{length, set, replicate}
+use Rattle.text_numbers.specs.Numbers.{INT, FLOAT}
+use Rattle.text_bytes.specs.Bytes.{bytes, same, inWord}
+use Rattle.text_tokens.specs.Tokens.{Lexeme, lexAt}
+use Rattle.parse_cursor.specs.declared.cursor.Cursor.{Cursor}
+use Rattle.parse_cursor.specs.Readers.{Got, after, _>>=_, _>>_, pure, open-bracket, keyword, wordOf, opened, openedOf, closed, number}
+use Rattle.parse_cursor.specs.Cursors.{reads, from}
+use Rattle.table_rows.specs.Overlay.{overlayAt}
+use Rattle.parse_cursor.proofs.Many.{Keeps, Takes, takes-keeps, pure-keeps, bind-keeps, bind-takes, then-keeps, then-takes, keyword-takes, opened-takes, closed-keeps, number-takes, one-of-takes}
+use Rattle.parse_cursor.proofs.FieldKeeps.{AllKeep, fields-keeps}
+use Rattle.parse_cursor.proofs.Binds.{then-assoc, then-bind}
+use Rattle.parse_cursor.proofs.Steps.{join, seq, passed, from-on, from-off}
+use Rattle.parse_cursor.specs.Fields.{kind, insideAt, fieldOf, fieldsOf, unread, fields, fieldsIn}
+use Rattle.parse_words.specs.Words.{words, onto, keysOf, apart, differs}
+use Rattle.bac6_text.specs.Grammar.{materialKinds, truth, blend, orZero, material, word}
+use Rattle.bac6_materials.specs.Into.{Settled, materialTail, materialInto}
+use Rattle.parse_cursor.proofs.Choices.{fieldsOf-set}
+
+pub inside-truth : (k : ℕ) → (k ≡ 0 → ⊥) → k < 4 → insideAt materialKinds k ≡ closed truth
+unfolding insideAt materialKinds kind
+inside-truth zero n h = absurd (n refl)
+inside-truth (suc zero) n h = refl
+inside-truth (suc (suc zero)) n h = refl
+inside-truth (suc (suc (suc zero))) n h = refl
+inside-truth (suc (suc (suc (suc k)))) n h = absurd (omega arith)
+
+pub inside-index : (k : ℕ) → 4 ≤ k → k < 6 → insideAt materialKinds k ≡ closed (number INT)
+unfolding insideAt materialKinds kind
+inside-index zero h l = absurd (omega arith)
+inside-index (suc zero) h l = absurd (omega arith)
+inside-index (suc (suc zero)) h l = absurd (omega arith)
+inside-index (suc (suc (suc zero))) h l = absurd (omega arith)
+inside-index (suc (suc (suc (suc zero)))) h l = refl
+inside-index (suc (suc (suc (suc (suc zero))))) h l = refl
+inside-index (suc (suc (suc (suc (suc (suc k)))))) h l = absurd (omega arith)
+
+pub inside-level : (k : ℕ) → 6 ≤ k → k < 9 → insideAt materialKinds k ≡ closed (number FLOAT)
+unfolding insideAt materialKinds kind
+inside-level zero h l = absurd (omega arith)
+inside-level (suc zero) h l = absurd (omega arith)
+inside-level (suc (suc zero)) h l = absurd (omega arith)
+inside-level (suc (suc (suc zero))) h l = absurd (omega arith)
+inside-level (suc (suc (suc (suc zero)))) h l = absurd (omega arith)
+inside-level (suc (suc (suc (suc (suc zero))))) h l = absurd (omega arith)
+inside-level (suc (suc (suc (suc (suc (suc zero)))))) h l = refl
+inside-level (suc (suc (suc (suc (suc (suc (suc zero))))))) h l = refl
+inside-level (suc (suc (suc (suc (suc (suc (suc (suc zero)))))))) h l = refl
+inside-level (suc (suc (suc (suc (suc (suc (suc (suc (suc k))))))))) h l = absurd (omega arith)
+
+-- the keywords as one text, and no two are the same
+pub material-words : words (bytes "blendMode doubleFace transparent lighting textureIndex colorIndex specular alpha shininess") ≡ keysOf materialKinds
+unfolding materialKinds kind keysOf words onto inWord bytes
+material-words = refl
+
+pub material-apart : apart (keysOf materialKinds) ≡ true
+unfolding materialKinds kind keysOf apart differs same bytes
+material-apart = refl
+
+pub material-count : length materialKinds ≡ 9
+unfolding materialKinds
+material-count = refl
+
+-- ---- fields that have not been read are 0
+
+map-set : {A B : Type 0} (f : A → B) (l : List A) (k : ℕ) (a : A) → map f (set l k a) ≡ set (map f l) k (f a)
+map-set f [] k a = refl
+map-set f (x ∷ l) zero a = refl
+map-set f (x ∷ l) (suc k) a = ap (λ m. f x ∷ m) (map-set f l k a)
+
+pub settled-set : (seen : List Bool) (row : List ℤ) (k : ℕ) (z : ℤ) → length seen ≡ length row → Settled seen row → Settled (set seen k true) (set row k z)
+unfolding orZero
+settled-set seen row k z l s = rw (fieldsOf-set seen row k z l, map-set orZero (fieldsOf seen row) k (some z), s)
+
+-- ---- a whole material
+
+pub unread-fields : fieldsOf (replicate 9 false) (replicate 9 (pos 0)) ≡ unread materialKinds
+unfolding fieldsOf fieldOf unread materialKinds
+unread-fields = refl
+
+pub unread-settled : Settled (replicate 9 false) (replicate 9 (pos 0))
+unfolding fieldsOf fieldOf orZero
+unread-settled = refl
+
+module _ (text : List ℕ) (c d r : Cursor) (gs : List (Option ℤ)) (o : reads text d tt ≡ from text c (wordOf (bytes "material"))) (i : ℕ) (table : List ℤ) where
+  material-from : reads text r gs ≡ from text d (fields materialKinds) → reads text r (overlayAt i (map orZero gs) table) ≡ from text c (materialInto i table)
+  unfolding materialInto materialTail keyword reads
+  material-from q =
+      join text c r r (map orZero gs) _ materialTail (λ (row : List ℤ). pure (overlayAt i row table))
+      (join text c r r gs _ (keyword "material" >> fields materialKinds) (λ (fs : List (Option ℤ)). pure (map orZero fs))
+      (seq text c d r tt gs (wordOf (bytes "material")) (fields materialKinds) o q) refl) refl
+
+-- refused before its first chunk
+pub material-off : (text : List ℕ) (c d : Cursor) (i : ℕ) (table : List ℤ) (any : List ℤ) → reads text d tt ≡ from text c (wordOf (bytes "material")) → (d .refusal ≡ 0 → ⊥) → reads text d any ≡ from text c (materialInto i table)
+unfolding reads
+material-off text c d i table any o n = from-off text d (pure any) n ∙ sym (from-off text d _ n) ∙ material-from text c d d [] o i table (passed text d [] (fields materialKinds) n)
+
+-- read to its closing bracket, or refused at one of its chunks
+pub material-on : (text : List ℕ) (c d r : Cursor) (seen : List Bool) (row : List ℤ) (i : ℕ) (table : List ℤ) → reads text d tt ≡ from text c (wordOf (bytes "material")) → d .refusal ≡ 0 → reads text r (fieldsOf seen row) ≡ fieldsIn 9 materialKinds (unread materialKinds) (lexAt text (d .at)) → Settled seen row → reads text r (overlayAt i row table) ≡ from text c (materialInto i table)
+material-on text c d r seen row i table o n q s =
+    ap (λ (zs : List ℤ). reads text r (overlayAt i zs table)) (sym s)
+    ∙ material-from text c d r (fieldsOf seen row) o i table (q ∙ sym (from-on text d (fields materialKinds) n ∙ unfold fields materialKinds in refl))
+
+-- ---- many materials
+
+pub material-opens : (ms : List Lexeme) → material ms ≡ (open-bracket >> materialTail) ms
+unfolding material materialTail opened openedOf keyword after _>>=_ _>>_
+material-opens ms =
+    ap (λ (g : Got (List (Option ℤ))). after g (λ fs. pure (map orZero fs))) (then-assoc open-bracket (wordOf (bytes "material")) (fields materialKinds) ms)
+    ∙ then-bind open-bracket (wordOf (bytes "material") >> fields materialKinds) (λ fs. pure (map orZero fs)) ms
+
+word-keeps : (ks : List String) → Keeps (word ks)
+unfolding word
+word-keeps ks = bind-keeps (takes-keeps (one-of-takes ks)) (λ n. pure-keeps (pos n))
+
+kinds-keep : AllKeep materialKinds
+unfolding materialKinds kind blend truth
+kinds-keep =
+    let t = closed-keeps (word-keeps ("false" ∷ "true" ∷ [])) in
+    let i = closed-keeps (takes-keeps (number-takes INT)) in
+    let f = closed-keeps (takes-keeps (number-takes FLOAT)) in
+    (closed-keeps (word-keeps ("normal" ∷ "add" ∷ "sub" ∷ "half" ∷ [])), (t, (t, (t, (i, (i, (f, (f, (f, tt)))))))))
+
+pub material-keeps : Keeps materialTail
+unfolding materialTail
+material-keeps = bind-keeps (then-keeps (takes-keeps (keyword-takes "material")) (fields-keeps materialKinds kinds-keep)) (λ fs. pure-keeps (map orZero fs))
+
+pub material-takes : Takes material
+unfolding material
+material-takes = bind-takes (then-takes (opened-takes "material") (fields-keeps materialKinds kinds-keep)) (λ fs. pure-keeps (map orZero fs))

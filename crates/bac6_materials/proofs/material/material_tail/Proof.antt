@@ -1,0 +1,58 @@
+-- `material_tail` is a material's row, set down in the table.
+use mathlib.Core.Path.{refl}
+use Rattle.text_bytes.specs.Bytes.{bytes}
+use Rattle.bac6_materials.proofs.Chunks.{unread-fields, unread-settled, material-off, material-on}
+use borrow.Author.Needs.{needs}
+use Rattle.bac6_materials.proofs.material.material_tail.Statement.{statement}
+use Rattle.bac6_materials.proofs.material.material_tail.Tie as tie
+
+slice-aggregate-keyword : tie.Need-slice-aggregate-keyword
+slice-aggregate-keyword c = search needs
+
+keyword-requires : tie.Need-keyword-requires
+keyword-requires c κs = search needs
+
+returns : tie.Need-returns
+unfolding bytes
+returns c = material-off _ _ _ _ _ _ (c .before .before .keyword .ensures) (c .if1 .taken)
+
+slice-aggregate-material-fields : tie.Need-slice-aggregate-material-fields
+slice-aggregate-material-fields c = search needs
+
+slice-aggregate-material-fields-2 : tie.Need-slice-aggregate-material-fields-2
+slice-aggregate-material-fields-2 c = search needs
+
+material-fields-requires : tie.Need-material-fields-requires
+material-fields-requires c κs = ((refl, refl), unread-settled)
+
+slice-aggregate-store : tie.Need-slice-aggregate-store
+slice-aggregate-store c = search needs
+
+store-requires : tie.Need-store-requires
+store-requires c κs = search needs
+
+same-length : tie.Need-same-length
+same-length c = search needs
+
+returns-2 : tie.Need-returns-2
+unfolding bytes
+returns-2 c =
+    let f = c .before .before .before .before .before .before in
+    let e = f .before .before .before in
+    rw (c .before .store .ensures)
+    (material-on _ _ _ _ _ _ _ _ (e .before .before .keyword .ensures) (e .if1 .left) (rw unread-fields at (f .material-fields .ensures .0)) (f .material-fields .ensures .1))
+
+pub material-tail-spec : {M : Type 1} → statement M
+material-tail-spec =
+    tie.close
+    (tie.spec
+    slice-aggregate-keyword
+    keyword-requires
+    returns
+    slice-aggregate-material-fields
+    slice-aggregate-material-fields-2
+    material-fields-requires
+    slice-aggregate-store
+    store-requires
+    same-length
+    returns-2)

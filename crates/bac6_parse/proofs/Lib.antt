@@ -1,4 +1,0 @@
--- Laws that belong to no one function.
-pub mod Closings
-pub mod Materials
-pub mod Fronts

@@ -1,4 +1,0 @@
-pub mod Closing
-pub mod Into
-pub mod Lists
-pub mod Front
