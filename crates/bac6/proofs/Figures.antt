@@ -13,11 +13,11 @@ use Rattle.refusal.proofs.Rules.{or-first, or-second}
 use Rattle.table_counts.specs.declared.counts.FigureCounts.{FigureCounts}
 use Rattle.table_counts.specs.Counts.{figureMosts}
 use Rattle.table_rows.specs.Flat.{flat}
-use Rattle.table_rows.specs.Overlay.{overlayAt}
+use Rattle.table_rows.specs.Internal.Overlay.{overlayAt}
 use Rattle.table_rows.proofs.Tables.{overlayAt-length}
 use Rattle.table_rows.proofs.Chains.{overlay-whole}
 use Rattle.text_tokens.specs.Tokens.{lex}
-use Rattle.parse_cursor.specs.Places.{placeOf}
+use Rattle.parse_cursor.specs.Internal.Places.{placeOf}
 use Rattle.parse_rows.proofs.Widths.{part-is}
 use Rattle.bac6_text.specs.Figure.{Figure}
 use Rattle.bac6_text.specs.Rules.{countsOf, figureCounts, flagsOf, wholeList, bonesFault, verticesFault, figureFault}
@@ -26,18 +26,19 @@ use Rattle.bac6_text.proofs.Names.{figure-placed}
 use Rattle.bac6_text.proofs.Parents.{whole-length}
 use Rattle.bac6_text.proofs.Rows.{flags-count}
 use Rattle.bac6_text.proofs.Whole.{WholeFigure, figure-whole, faces-whole}
-use Rattle.bac6_bones.specs.Into.{faultOf}
-use Rattle.bac6_bone_rules.specs.Bones.{flagsIn, Settled}
-use Rattle.bac6_bone_rules.specs.Claims.{claimedBones}
-use Rattle.bac6_rules.specs.Order.{countsFault, tablesFault}
+use Rattle.bac6_bones.specs.Internal.Into.{faultOf}
+use Rattle.bac6_bone_rules.specs.Internal.Bones.{flagsIn, Settled}
+use Rattle.bac6_bone_rules.specs.Internal.Claims.{claimedBones}
+use Rattle.bac6_rules.specs.Internal.Order.{countsFault, tablesFault}
 use Rattle.bac6_bone_rules.proofs.Claims.{unclaimed, bones-length, claims-fault, claims-owners, owners-length}
 use Rattle.bac6_rules.proofs.Orders.{tables-within, tables-laid, bones-left}
 use Rattle.bac6_shape.specs.declared.shape.Parsed.{Parsed}
-use Rattle.bac6_shape.specs.Parse.{Kept, keptOf, rowNumbers}
-use Rattle.bac6_shape.specs.Answers.{keptBy}
-use Rattle.bac6.specs.Places.{Within, Sized, materialsFrom, bonesFrom, facesFrom, rowsEnd, totalOf}
-use Rattle.bac6.specs.Answers.{refusedWith, answerOf, downAnswer, downTable, numbersBy, numbersOf}
-use Rattle.bac6.specs.Checks.{rulesFault, PlacedIn, RowsLeft, Held}
+use Rattle.bac6_shape.specs.Internal.Parse.{Kept, keptOf, rowNumbers}
+use Rattle.bac6_shape.specs.Internal.Answers.{keptBy}
+use Rattle.bac6.specs.Internal.Places.{Within, Sized, materialsFrom, bonesFrom, facesFrom, rowsEnd, totalOf}
+use Rattle.bac6.specs.Answers.{refusedWith, answerOf}
+use Rattle.bac6.specs.Internal.Answers.{downAnswer, downTable, numbersBy, numbersOf}
+use Rattle.bac6.specs.Internal.Checks.{rulesFault, PlacedIn, RowsLeft, Held}
 use Rattle.bac6.proofs.Parts.{within-by, within-counts}
 use Rattle.bac6.proofs.Numbers.{front, after, zeros, zeros-count, rows-same, rows-length, materials-part, bones-part, front-part, faces-part, first-part, second-part, parents, layout-parts, layout-length, groups-wide, groups-count}
 use Rattle.bac6.proofs.Settings.{answer-is, table-is, refused-answer, refused-table}

@@ -5,11 +5,11 @@ use Prim.Native.Nat.{ℕ, _+_, _*_, _≤_, min}
 use native.Mathlib.Omega.{arith}
 use lib.IntN.{ℤ, pos}
 use lib.ListN.{length, take, drop, length-take, length-drop, length-append}
-use Rattle.table_rows.specs.Overlay.{overlayAt}
+use Rattle.table_rows.specs.Internal.Overlay.{overlayAt}
 use Rattle.table_rows.proofs.Tables.{overlayAt-length, overlayAt-append, overlayAt-same}
 use Rattle.bac6_shape.specs.declared.shape.Parsed.{Parsed}
-use Rattle.bac6.specs.Places.{uvsFrom}
-use Rattle.bac6.specs.Answers.{numbersBy, numbersOf}
+use Rattle.bac6.specs.Internal.Places.{uvsFrom}
+use Rattle.bac6.specs.Internal.Answers.{numbersBy, numbersOf}
 
 -- what a table holds after lists, and an index that is as good as the one after them
 abbrev pub Lays : List ℤ → List ℤ → List ℤ → ℕ → Type 0

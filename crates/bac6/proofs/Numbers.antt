@@ -15,9 +15,9 @@ use Rattle.bac6_text.specs.Layout.{layoutOf, nameNumbers, boneRows, ownersFrom,
 use Rattle.bac6_text.proofs.Rows.{face-rows-wide, face-rows-length, bones-wide, bones-count}
 use Rattle.bac6_text.proofs.Whole.{WholeFigure}
 use Rattle.bac6_bone_rules.proofs.Claims.{owners-length}
-use Rattle.bac6_shape.specs.Parse.{rowNumbers}
+use Rattle.bac6_shape.specs.Internal.Parse.{rowNumbers}
 use Rattle.bac6_shape.proofs.Rows.{blank-rows}
-use Rattle.bac6.specs.Places.{materialsFrom, bonesFrom, uvsFrom, facesFrom, rowsEnd, totalOf}
+use Rattle.bac6.specs.Internal.Places.{materialsFrom, bonesFrom, uvsFrom, facesFrom, rowsEnd, totalOf}
 
 -- ---- groups
 

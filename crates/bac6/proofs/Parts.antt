@@ -13,10 +13,10 @@ use Rattle.refusal.proofs.Rules.{count-clear, or-first}
 use Rattle.table_counts.specs.declared.counts.FigureCounts.{FigureCounts}
 use Rattle.table_counts.specs.Counts.{figureLists, figureMosts}
 use Rattle.bac6_text.specs.Rules.{wholeList, bonesFault}
-use Rattle.bac6_bone_rules.specs.Bones.{flagsIn, Settled}
-use Rattle.bac6_rules.specs.Order.{countsFault, laterFault}
-use Rattle.bac6.specs.Places.{Within, materialsFrom, bonesFrom, facesFrom}
-use Rattle.bac6.specs.Checks.{PlacedIn}
+use Rattle.bac6_bone_rules.specs.Internal.Bones.{flagsIn, Settled}
+use Rattle.bac6_rules.specs.Internal.Order.{countsFault, laterFault}
+use Rattle.bac6.specs.Internal.Places.{Within, materialsFrom, bonesFrom, facesFrom}
+use Rattle.bac6.specs.Internal.Checks.{PlacedIn}
 
 -- where rule 8 finds no fault, no list has more than its most
 pub within-by : (n : FigureCounts) → tooMany 0 (figureLists n) figureMosts ≡ clear → Within n

@@ -7,15 +7,16 @@ use lib.Dec.{leb}
 use lib.IntN.{ℤ}
 use lib.ListN.{length}
 use borrow.Author.Tests.{le-leb, lt-leb, leb-true, leb-false}
-use Rattle.table_rows.specs.Overlay.{overlayAt}
+use Rattle.table_rows.specs.Internal.Overlay.{overlayAt}
 use Rattle.table_counts.specs.declared.counts.FigureCounts.{FigureCounts}
 use Rattle.refusal.specs.Outcomes.{Outcome, rejected, accepted, fitted, laid}
 use Rattle.parse_text.proofs.Outcomes.{fitted-room, fitted-short, fitted-rejected, laid-rejected, laid-accepted}
 use Rattle.bac6_text.specs.Figure.{Figure}
 use Rattle.bac6_text.specs.Rules.{figureCounts}
 use Rattle.bac6_text.specs.Layout.{layoutOf}
-use Rattle.bac6.specs.Places.{totalOf}
-use Rattle.bac6.specs.Answers.{refusedWith, answerOf, countsAnswer, downAnswer, downTable}
+use Rattle.bac6.specs.Internal.Places.{totalOf}
+use Rattle.bac6.specs.Answers.{refusedWith, answerOf}
+use Rattle.bac6.specs.Internal.Answers.{countsAnswer, downAnswer, downTable}
 
 -- ---- by the total that the code has
 

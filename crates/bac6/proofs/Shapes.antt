@@ -8,7 +8,7 @@ use Rattle.refusal.specs.Outcomes.{rejected, ruled}
 use Rattle.text_tokens.specs.Tokens.{lex, lexAt}
 use Rattle.parse_cursor.specs.declared.cursor.Cursor.{Cursor}
 use Rattle.parse_cursor.specs.Readers.{Got, got, refused, after, _>>=_, pure}
-use Rattle.parse_cursor.specs.Cursors.{reads}
+use Rattle.parse_cursor.specs.Internal.Cursors.{reads}
 use Rattle.parse_cursor.proofs.Steps.{from-on, from-off}
 use Rattle.parse_cursor.proofs.Many.{not-got}
 use Rattle.parse_text.specs.Texts.{shaped}
@@ -17,10 +17,10 @@ use Rattle.bac6_text.specs.Figure.{Figure}
 use Rattle.bac6_text.specs.Grammar.{figure}
 use Rattle.bac6_text.specs.Rules.{figureFault}
 use Rattle.bac6_shape.specs.declared.shape.Parsed.{Parsed}
-use Rattle.bac6_shape.specs.Parse.{Kept, keptOf, figureInto}
-use Rattle.bac6_shape.specs.Answers.{keptBy}
-use Rattle.bac6.specs.Places.{Sized}
-use Rattle.bac6.specs.Checks.{Held}
+use Rattle.bac6_shape.specs.Internal.Parse.{Kept, keptOf, figureInto}
+use Rattle.bac6_shape.specs.Internal.Answers.{keptBy}
+use Rattle.bac6.specs.Internal.Places.{Sized}
+use Rattle.bac6.specs.Internal.Checks.{Held}
 
 -- the table after a call is as long as before it
 pub resized : {p : Parsed} {rows owners names : List ℤ} (exit : List ℤ) → Sized p rows owners names → length exit ≡ length rows → Sized p exit owners names

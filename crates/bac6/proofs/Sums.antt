@@ -7,10 +7,10 @@ use native.Mathlib.Omega.{arith}
 use lib.IntN.{ℤ}
 use lib.ListN.{length, take, drop, getD, length-take, length-drop}
 use lib.Seq.{drop-drop, take-add}
-use Rattle.table_rows.specs.Overlay.{overlayAt}
+use Rattle.table_rows.specs.Internal.Overlay.{overlayAt}
 use Rattle.table_rows.proofs.Tables.{overlayAt-length, overlayAt-append, overlayAt-same}
 use Rattle.table_counts.specs.declared.counts.FigureCounts.{FigureCounts}
-use Rattle.bac6.specs.Places.{sumOf, Within, uvsFrom}
+use Rattle.bac6.specs.Internal.Places.{sumOf, Within, uvsFrom}
 
 pub sum-more : (ns : List ℕ) (k : ℕ) → k < length ns → sumOf (take (suc k) ns) ≡ sumOf (take k ns) + getD ns k 0
 unfolding sumOf

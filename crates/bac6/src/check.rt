@@ -1,14 +1,14 @@
 // The rules over what was parsed.
 ghost use mathlib.Core.Path.{_≡_};
 ghost use lib.ListN.{length, drop};
-ghost use Rattle.refusal.specs.Answers.{refusal};
+ghost use Rattle.refusal.specs.Internal.Answers.{refusal};
 ghost use Rattle.refusal.specs.Rules.{orElse};
 ghost use Rattle.bac6_text.specs.Rules.{bonesFault};
-ghost use Rattle.bac6_bones.specs.Into.{faultOf};
-ghost use Rattle.bac6_bone_rules.specs.Bones.{flagsIn};
-ghost use Rattle.bac6_rules.specs.Order.{laterFault};
-ghost use Rattle.bac6.specs.Places.{Within, materialsFrom, bonesFrom, facesFrom};
-ghost use Rattle.bac6.specs.Checks.{rulesFault, PlacedIn, RowsLeft};
+ghost use Rattle.bac6_bones.specs.Internal.Into.{faultOf};
+ghost use Rattle.bac6_bone_rules.specs.Internal.Bones.{flagsIn};
+ghost use Rattle.bac6_rules.specs.Internal.Order.{laterFault};
+ghost use Rattle.bac6.specs.Internal.Places.{Within, materialsFrom, bonesFrom, facesFrom};
+ghost use Rattle.bac6.specs.Internal.Checks.{rulesFault, PlacedIn, RowsLeft};
 use crate::places::bones_from;
 use crate::places::faces_from;
 use crate::places::materials_from;

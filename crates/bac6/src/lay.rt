@@ -2,9 +2,9 @@
 ghost use mathlib.Core.Path.{_≡_};
 ghost use Prim.Native.Nat.{_+_, _*_, _≤_, min};
 ghost use lib.ListN.{length, take, drop};
-ghost use Rattle.table_rows.specs.Overlay.{overlayAt};
-ghost use Rattle.bac6.specs.Places.{sumOf, Within, Sized, uvsFrom};
-ghost use Rattle.bac6.specs.Answers.{numbersOf};
+ghost use Rattle.table_rows.specs.Internal.Overlay.{overlayAt};
+ghost use Rattle.bac6.specs.Internal.Places.{sumOf, Within, Sized, uvsFrom};
+ghost use Rattle.bac6.specs.Internal.Answers.{numbersOf};
 use crate::places::uvs_from;
 use bac6_shape::Parsed;
 use table_counts::FigureCounts;

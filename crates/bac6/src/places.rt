@@ -1,6 +1,6 @@
 // Where the lists begin in the table of rows.
 ghost use mathlib.Core.Path.{_≡_};
-ghost use Rattle.bac6.specs.Places.{Within, materialsFrom, bonesFrom, uvsFrom, facesFrom, rowsEnd};
+ghost use Rattle.bac6.specs.Internal.Places.{Within, materialsFrom, bonesFrom, uvsFrom, facesFrom, rowsEnd};
 use table_counts::FigureCounts;
 
 pub(crate) fn materials_from(n: FigureCounts) -> usize

@@ -1,8 +1,9 @@
 // A parsed figure set down in the lent table.
 ghost use mathlib.Core.Path.{_≡_};
 ghost use lib.ListN.{length};
-ghost use Rattle.bac6.specs.Places.{Within, Sized};
-ghost use Rattle.bac6.specs.Answers.{refusedWith, downAnswer, downTable, numbersOf};
+ghost use Rattle.bac6.specs.Internal.Places.{Within, Sized};
+ghost use Rattle.bac6.specs.Answers.{refusedWith};
+ghost use Rattle.bac6.specs.Internal.Answers.{downAnswer, downTable, numbersOf};
 use crate::lay::lay;
 use crate::places::rows_end;
 use bac6_shape::Parsed;

@@ -10,19 +10,20 @@ use lib.ListN.{length, getD, set, replicate}
 use Rattle.text_bytes.specs.Bytes.{bytes, same, inWord}
 use Rattle.text_tokens.specs.Tokens.{lexAt}
 use Rattle.text_tokens.specs.declared.token.Span.{Span}
-use Rattle.text_tokens.specs.Answers.{Next, lexemeOf}
+use Rattle.text_tokens.specs.Internal.Answers.{Next, lexemeOf}
 use Rattle.parse_cursor.specs.declared.cursor.Cursor.{Cursor}
-use Rattle.table_rows.specs.Overlay.{overlayAt, overlay}
+use Rattle.table_rows.specs.Internal.Overlay.{overlayAt, overlay}
 use Rattle.parse_cursor.specs.Readers.{absent}
-use Rattle.parse_cursor.specs.Fields.{kind, isSome, kindFrom, unread, insideAt}
-use Rattle.parse_words.specs.Words.{words, onto, keysOf, apart, differs, indexIn}
+use Rattle.parse_cursor.specs.Fields.{kind, isSome, kindFrom, unread}
+use Rattle.parse_cursor.specs.Internal.Fields.{insideAt}
+use Rattle.parse_words.specs.Internal.Words.{words, onto, keysOf, apart, differs, indexIn}
 use Rattle.parse_cursor.proofs.Steps.{from-on}
 use Rattle.parse_cursor.proofs.FieldFlags.{flags-length, flag-unread, flag-read}
 use Rattle.parse_words.proofs.Vocabulary.{chunk-other, chunk-again, chunk-took}
 use Rattle.bac6_text.specs.Grammar.{BoneField, nameIn, flagIn, numbersIn, boneKinds}
 use Rattle.bac6_text.specs.Layout.{nameNumbers}
-use Rattle.bac6_bone_rules.specs.Claims.{claimed}
-use Rattle.bac6_bone.specs.Into.{Yields, three, boneNumbers, boneState, putRow}
+use Rattle.bac6_bone_rules.specs.Internal.Claims.{claimed}
+use Rattle.bac6_bone.specs.Internal.Into.{Yields, three, boneNumbers, boneState, putRow}
 
 -- the keywords as one text, and no two are the same
 pub bone-words : words (bytes "name hasChild hasBrother translate rotate handle vertexIndices") ≡ keysOf boneKinds

@@ -13,20 +13,21 @@ use mir.Facts.{toZ-ofZ}
 use Rattle.text_bytes.specs.Bytes.{bytes}
 use Rattle.text_tokens.specs.Tokens.{lexAt}
 use Rattle.text_tokens.specs.declared.token.Span.{Span}
-use Rattle.text_tokens.specs.Answers.{Next, lexemeOf}
+use Rattle.text_tokens.specs.Internal.Answers.{Next, lexemeOf}
 use Rattle.parse_cursor.specs.declared.cursor.Cursor.{Cursor}
 use Rattle.parse_cursor.specs.Readers.{Got, _>>_, pure, isClosing, isOpening, keyword, wordOf}
-use Rattle.parse_cursor.specs.Cursors.{reads, from, closedAt}
-use Rattle.table_rows.specs.Overlay.{overlayAt}
-use Rattle.parse_cursor.specs.Fields.{kind, isSome, kindFrom, fieldsIn, fields, unread, neededOf, coversAll}
+use Rattle.parse_cursor.specs.Internal.Cursors.{reads, from, closedAt}
+use Rattle.table_rows.specs.Internal.Overlay.{overlayAt}
+use Rattle.parse_cursor.specs.Fields.{kind, isSome, kindFrom, fieldsIn, fields, unread}
+use Rattle.parse_cursor.specs.Internal.Fields.{neededOf, coversAll}
 use Rattle.parse_cursor.proofs.Steps.{join, seq, reads-same, passed, from-on}
 use Rattle.parse_cursor.proofs.Behind.{given}
 use Rattle.parse_cursor.proofs.FieldSteps.{complete-seen, turn-ended, turn-full, turn-other, turn-chunk}
 use Rattle.bac6_text.specs.Figure.{Bone}
 use Rattle.bac6_text.specs.Grammar.{BoneField, numbersIn, boneOf, boneKinds}
 use Rattle.bac6_text.specs.Layout.{nameNumbers, boneRow}
-use Rattle.bac6_bone_rules.specs.Claims.{claimed}
-use Rattle.bac6_bone.specs.Into.{Yields, three, boneNumbers, boneState, boneTail, boneInto}
+use Rattle.bac6_bone_rules.specs.Internal.Claims.{claimed}
+use Rattle.bac6_bone.specs.Internal.Into.{Yields, three, boneNumbers, boneState, boneTail, boneInto}
 use Rattle.bac6_text.proofs.Whole.{WholeBone, fields-whole}
 use Rattle.bac6_bone.proofs.Values.{three-all}
 use Rattle.bac6_bone.proofs.Fields.{unread-state}

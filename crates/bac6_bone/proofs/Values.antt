@@ -12,12 +12,13 @@ use Rattle.text_numbers.specs.Numbers.{INT, FLOAT}
 use Rattle.text_tokens.specs.Tokens.{lexAt}
 use Rattle.parse_cursor.specs.declared.cursor.Cursor.{Cursor}
 use Rattle.parse_cursor.specs.Readers.{Got, Reader, _>>=_, _>>_, pure, closed, close-bracket, number, numbers, many, string, absent}
-use Rattle.parse_cursor.specs.Cursors.{reads, from}
-use Rattle.table_rows.specs.Overlay.{overlayAt}
-use Rattle.parse_rows.specs.Into.{numbersInto}
-use Rattle.parse_cursor.specs.Places.{placeOf, nameOf}
-use Rattle.parse_cursor.specs.Fields.{kind, insideAt}
-use Rattle.parse_words.specs.Words.{words, onto, wordIn}
+use Rattle.parse_cursor.specs.Internal.Cursors.{reads, from}
+use Rattle.table_rows.specs.Internal.Overlay.{overlayAt}
+use Rattle.parse_rows.specs.Internal.Into.{numbersInto}
+use Rattle.parse_cursor.specs.Internal.Places.{placeOf, nameOf}
+use Rattle.parse_cursor.specs.Fields.{kind}
+use Rattle.parse_cursor.specs.Internal.Fields.{insideAt}
+use Rattle.parse_words.specs.Internal.Words.{words, onto, wordIn}
 use Rattle.parse_cursor.proofs.Steps.{from-on, from-same, join}
 use Rattle.parse_cursor.proofs.Binds.{closed-at}
 use Rattle.parse_words.proofs.Vocabulary.{wordList, one-word}
@@ -25,9 +26,9 @@ use Rattle.table_rows.proofs.Tables.{overlayAt-cons, overlayAt-none}
 use Rattle.parse_cursor.proofs.Ranges.{numbers-give}
 use Rattle.bac6_text.specs.Grammar.{BoneField, named, flag, several, nameIn, flagIn, numbersIn, boneKinds, truth, word}
 use Rattle.bac6_text.specs.Layout.{nameNumbers}
-use Rattle.bac6_bone_rules.specs.Claims.{claimed}
-use Rattle.bac6_bone.specs.Into.{Yields, three, putRow}
-use Rattle.bac6_entries.specs.Into.{entriesInto}
+use Rattle.bac6_bone_rules.specs.Internal.Claims.{claimed}
+use Rattle.bac6_bone.specs.Internal.Into.{Yields, three, putRow}
+use Rattle.bac6_entries.specs.Internal.Into.{entriesInto}
 use Rattle.parse_cursor.proofs.Counts.{alive}
 use Rattle.parse_cursor.proofs.Behind.{given}
 use Rattle.bac6_bone.proofs.Yielding.{unmap}

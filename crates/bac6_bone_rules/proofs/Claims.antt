@@ -18,7 +18,7 @@ use Rattle.bac6_text.specs.Figure.{Bone}
 use Rattle.bac6_text.specs.Rules.{entriesFine, verticesFault, ownerFrom, ownerOf}
 use Rattle.table_rows.specs.References.{isRow, isNone, sameNumber, member}
 use Rattle.bac6_text.specs.Layout.{ownersFrom}
-use Rattle.bac6_bone_rules.specs.Claims.{isFree, afterClaim, claimedOne, claimed, faultAt, afterBone, claimedBone, claimedBones}
+use Rattle.bac6_bone_rules.specs.Internal.Claims.{isFree, afterClaim, claimedOne, claimed, faultAt, afterBone, claimedBone, claimedBones}
 use Rattle.bac6_text.proofs.Parents.{fault-not-clear}
 use Rattle.bac6_bone_rules.proofs.Owners.{row-below, claim-free, claim-taken}
 

@@ -8,7 +8,7 @@ use lib.ListN.{length}
 use lib.IntN.{ℤ, pos}
 use Rattle.bac6_text.specs.Rules.{Flags, Placed, placed, short, isSet, joined, thenIf, boneList}
 use Rattle.bac6_text.proofs.Parents.{Leaves, leaves}
-use Rattle.bac6_bone_rules.specs.Bones.{oneBone}
+use Rattle.bac6_bone_rules.specs.Internal.Bones.{oneBone}
 
 -- ---- one bone and then the rest
 

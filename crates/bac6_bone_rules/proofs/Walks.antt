@@ -16,7 +16,7 @@ use Rattle.bac6_text.specs.Rules.{Flags, Placed, placed, short, isSet, joined, 
 use Rattle.bac6_bone_rules.specs.declared.bone.Walk.{Walk}
 use Rattle.bac6_bone_rules.specs.declared.bone.Walk.the-variants.{At, Short}
 use Rattle.table_columns.specs.Parts.{rowsOf}
-use Rattle.bac6_bone_rules.specs.Bones.{rowFlags, flagsIn, parentsFrom, oneBone, Walked}
+use Rattle.bac6_bone_rules.specs.Internal.Bones.{rowFlags, flagsIn, parentsFrom, oneBone, Walked}
 use Rattle.table_columns.proofs.Rows.{rows-more, rows-short}
 use Rattle.bac6_bone_rules.proofs.Placing.{list-step, turns}
 

@@ -13,7 +13,7 @@ use Rattle.refusal.specs.Faults.{clear, fault}
 use Rattle.bac6_text.specs.Rules.{Flags, Placed, placed, short, boneList, parentsIn, wholeList, placedFault, bonesFault}
 use Rattle.bac6_bone_rules.specs.declared.bone.Walk.{Walk}
 use Rattle.bac6_bone_rules.specs.declared.bone.Walk.the-variants.{At, Short}
-use Rattle.bac6_bone_rules.specs.Bones.{flagsIn, withParents, Walked, Settled}
+use Rattle.bac6_bone_rules.specs.Internal.Bones.{flagsIn, withParents, Walked, Settled}
 use Rattle.bac6_text.proofs.Parents.{fault-not-clear}
 use Rattle.bac6_bone_rules.proofs.Walks.{flags-none, flags-more, flags-short, flags-length, flags-drop, flags-past, at-told, short-told}
 

@@ -1,2 +1,1 @@
-pub mod Bones
-pub mod Claims
+pub mod Internal

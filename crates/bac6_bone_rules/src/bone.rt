@@ -2,9 +2,9 @@
 ghost use mathlib.Core.Path.{_≡_};
 ghost use Prim.Native.Nat.{suc, min, _-_, _*_, _/_, _≤_};
 ghost use lib.ListN.{length, drop};
-ghost use Rattle.refusal.specs.Answers.{refusal};
+ghost use Rattle.refusal.specs.Internal.Answers.{refusal};
 ghost use Rattle.bac6_text.specs.Rules.{boneList, wholeList, bonesFault};
-ghost use Rattle.bac6_bone_rules.specs.Bones.{flagsIn, oneBone, Walked, Settled};
+ghost use Rattle.bac6_bone_rules.specs.Internal.Bones.{flagsIn, oneBone, Walked, Settled};
 use refusal::Checked;
 
 // The row after the bones that were walked; or the rows ran out.

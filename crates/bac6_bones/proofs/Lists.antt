@@ -19,12 +19,12 @@ use Rattle.refusal.specs.Faults.{Fault, clear, fault}
 use Rattle.text_tokens.specs.Tokens.{Lexeme, lexAt}
 use Rattle.parse_cursor.specs.declared.cursor.Cursor.{Cursor}
 use Rattle.parse_cursor.specs.Readers.{Got, got, Reader, after, _>>=_, _>>_, pure, open-bracket, keyword, wordOf, opened, openedOf, many, many⁺}
-use Rattle.parse_cursor.specs.Cursors.{reads, from}
-use Rattle.table_rows.specs.Overlay.{overlayAt}
+use Rattle.parse_cursor.specs.Internal.Cursors.{reads, from}
+use Rattle.table_rows.specs.Internal.Overlay.{overlayAt}
 use Rattle.table_rows.specs.Flat.{flat}
-use Rattle.parse_rows.specs.Folds.{fold, folded, stepped}
+use Rattle.parse_rows.specs.Internal.Folds.{fold, folded, stepped}
 use Rattle.parse_cursor.specs.Fields.{kind, fields}
-use Rattle.parse_cursor.specs.Branches.{itemOf}
+use Rattle.parse_cursor.specs.Internal.Branches.{itemOf}
 use Rattle.parse_cursor.proofs.Steps.{join, seq, passed, from-same}
 use Rattle.parse_cursor.proofs.Binds.{after-after, after-same, after-when, then-assoc, then-bind}
 use Rattle.parse_cursor.proofs.Counts.{falls, lexAt-some}
@@ -37,9 +37,9 @@ use Rattle.table_rows.proofs.Tables.{overlayAt-none, overlayAt-append, overlayA
 use Rattle.bac6_text.specs.Figure.{Bone}
 use Rattle.bac6_text.specs.Grammar.{BoneField, named, flag, several, boneOf, boneKinds, bone, word, truth}
 use Rattle.bac6_text.specs.Layout.{boneRow}
-use Rattle.bac6_bone_rules.specs.Claims.{claimedOne, claimed, faultAt, afterBone, claimedBone, claimedBones}
-use Rattle.bac6_bones.specs.Into.{faultOf, boneStep, bonesInto}
-use Rattle.bac6_bone.specs.Into.{boneTail, boneInto}
+use Rattle.bac6_bone_rules.specs.Internal.Claims.{claimedOne, claimed, faultAt, afterBone, claimedBone, claimedBones}
+use Rattle.bac6_bones.specs.Internal.Into.{faultOf, boneStep, bonesInto}
+use Rattle.bac6_bone.specs.Internal.Into.{boneTail, boneInto}
 use Rattle.bac6_text.proofs.Whole.{WholeBones, bone-whole}
 use Rattle.bac6_text.proofs.Rows.{bone-wide}
 

@@ -2,11 +2,11 @@
 ghost use mathlib.Core.Path.{_≡_};
 ghost use Prim.Native.Nat.{_+_, _*_, _^_, _<_, min};
 ghost use lib.ListN.{length};
-ghost use Rattle.parse_cursor.specs.Cursors.{reads, from};
-ghost use Rattle.parse_rows.specs.Folds.{folded, stepped};
+ghost use Rattle.parse_cursor.specs.Internal.Cursors.{reads, from};
+ghost use Rattle.parse_rows.specs.Internal.Folds.{folded, stepped};
 ghost use Rattle.bac6_text.specs.Grammar.{bone as boneRead};
-ghost use Rattle.bac6_bones.specs.Into.{faultOf, boneStep, bonesInto};
-ghost use Rattle.bac6_bone.specs.Into.{boneTail};
+ghost use Rattle.bac6_bones.specs.Internal.Into.{faultOf, boneStep, bonesInto};
+ghost use Rattle.bac6_bone.specs.Internal.Into.{boneTail};
 use bac6_bone::bone_tail;
 use bac6_entries::Claims;
 use parse_cursor::Cursor;

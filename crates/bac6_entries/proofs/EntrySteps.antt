@@ -8,10 +8,10 @@ use lib.ListN.{length}
 use Rattle.text_numbers.specs.Numbers.{INT}
 use Rattle.text_tokens.specs.Tokens.{Lexeme, lexeme, lexAt}
 use Rattle.text_tokens.specs.declared.token.Span.{Span}
-use Rattle.text_tokens.specs.Answers.{Next, lexemeOf}
+use Rattle.text_tokens.specs.Internal.Answers.{Next, lexemeOf}
 use Rattle.parse_cursor.specs.declared.cursor.Cursor.{Cursor}
 use Rattle.parse_cursor.specs.Readers.{Got, got, after, _>>=_, pure, tokenOf, rest, isClosing, number, many}
-use Rattle.parse_cursor.specs.Cursors.{reads, from}
+use Rattle.parse_cursor.specs.Internal.Cursors.{reads, from}
 use Rattle.parse_cursor.proofs.Steps.{from-on, reads-on, next-token, next-rest, live, after-reads}
 use Rattle.parse_cursor.proofs.Binds.{after-after, after-same}
 use Rattle.parse_cursor.proofs.Many.{number-takes, many-end, many-more}
@@ -19,8 +19,8 @@ use Rattle.parse_cursor.proofs.Counts.{falls}
 use mir.Syntax.{w64}
 use mir.Val.{SFits, toZ, ofZ}
 use mir.Facts.{toZ-ofZ}
-use Rattle.bac6_bone_rules.specs.Claims.{isFree, afterClaim, claimedOne, claimed}
-use Rattle.bac6_entries.specs.Into.{entriesInto}
+use Rattle.bac6_bone_rules.specs.Internal.Claims.{isFree, afterClaim, claimedOne, claimed}
+use Rattle.bac6_entries.specs.Internal.Into.{entriesInto}
 
 -- an entry, by whether every entry before it was free
 module _ (n : ℕ) (bone z : ℤ) (owners : List ℤ) (fine : Bool) where

@@ -1,9 +1,9 @@
 // The entries of `vertexIndices`, each tried as it is read (rule 11).
 ghost use mathlib.Core.Path.{_≡_};
 ghost use Rattle.text_tokens.specs.Tokens.{lexAt};
-ghost use Rattle.parse_cursor.specs.Cursors.{reads};
-ghost use Rattle.bac6_bone_rules.specs.Claims.{claimedOne};
-ghost use Rattle.bac6_entries.specs.Into.{entriesInto};
+ghost use Rattle.parse_cursor.specs.Internal.Cursors.{reads};
+ghost use Rattle.bac6_bone_rules.specs.Internal.Claims.{claimedOne};
+ghost use Rattle.bac6_entries.specs.Internal.Into.{entriesInto};
 use parse_cursor::Cursor;
 use parse_numbers::Form;
 

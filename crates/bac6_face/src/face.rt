@@ -1,8 +1,8 @@
 // A face: a row of eleven numbers.
 ghost use mathlib.Core.Path.{_≡_};
 ghost use Prim.Native.Nat.{_≤_};
-ghost use Rattle.parse_cursor.specs.Cursors.{reads, from};
-ghost use Rattle.bac6_face.specs.Into.{cornersInto, faceInto};
+ghost use Rattle.parse_cursor.specs.Internal.Cursors.{reads, from};
+ghost use Rattle.bac6_face.specs.Internal.Into.{cornersInto, faceInto};
 use parse_cursor::Cursor;
 use parse_numbers::Form;
 

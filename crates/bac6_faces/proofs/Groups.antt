@@ -10,10 +10,10 @@ use Rattle.text_bytes.specs.Bytes.{bytes}
 use Rattle.text_tokens.specs.Tokens.{Lexeme, lexAt}
 use Rattle.parse_cursor.specs.declared.cursor.Cursor.{Cursor}
 use Rattle.parse_cursor.specs.Readers.{Got, Reader, after, _>>=_, _>>_, pure, open-bracket, keyword, wordOf, opened, openedOf, closed, Name, absent, string, optional, many}
-use Rattle.parse_cursor.specs.Cursors.{reads, from}
-use Rattle.table_rows.specs.Overlay.{overlayAt}
-use Rattle.parse_cursor.specs.Places.{placeOf, optionalName}
-use Rattle.parse_rows.specs.Folds.{folded, stepped, rowStep}
+use Rattle.parse_cursor.specs.Internal.Cursors.{reads, from}
+use Rattle.table_rows.specs.Internal.Overlay.{overlayAt}
+use Rattle.parse_cursor.specs.Internal.Places.{placeOf, optionalName}
+use Rattle.parse_rows.specs.Internal.Folds.{folded, stepped, rowStep}
 use Rattle.text_numbers.proofs.Signed.{bits-pos}
 use Rattle.table_rows.proofs.Tables.{overlayAt-same}
 use Rattle.parse_cursor.proofs.Steps.{join, seq, reads-same, from-same}
@@ -22,7 +22,7 @@ use Rattle.parse_cursor.proofs.Many.{Keeps, Takes, takes-keeps, pure-keeps, bin
 use Rattle.bac6_text.specs.Figure.{Group}
 use Rattle.bac6_text.specs.Grammar.{face, group}
 use Rattle.bac6_text.specs.Layout.{nameNumbers}
-use Rattle.bac6_faces.specs.Into.{faceStep, groupTail, groupStep}
+use Rattle.bac6_faces.specs.Internal.Into.{faceStep, groupTail, groupStep}
 use Rattle.parse_cursor.proofs.Counts.{alive, short}
 use Rattle.parse_names.proofs.NameSteps.{name-keeps}
 use Rattle.bac6_faces.proofs.FaceLists.{face-takes}

@@ -7,14 +7,14 @@ use native.Mathlib.Numerals.{add-one}
 use native.Mathlib.Omega.{arith}
 use lib.IntN.{ℤ, pos, negsuc}
 use lib.ListN.{length, length-append}
-use Rattle.table_rows.specs.Overlay.{overlayAt}
+use Rattle.table_rows.specs.Internal.Overlay.{overlayAt}
 use Rattle.table_rows.specs.Flat.{flat}
-use Rattle.parse_rows.specs.Folds.{fold, rowStep}
+use Rattle.parse_rows.specs.Internal.Folds.{fold, rowStep}
 use Rattle.parse_rows.proofs.Folds.{fold-rows}
 use Rattle.parse_rows.proofs.Widths.{Wide, wide-append}
 use Rattle.bac6_text.specs.Figure.{Face, Group}
 use Rattle.bac6_text.specs.Layout.{corners, faceRow, groupRows, groupNames, nameNumbers}
-use Rattle.bac6_faces.specs.Into.{faceStep, groupStep, allRows, tablesOf}
+use Rattle.bac6_faces.specs.Internal.Into.{faceStep, groupStep, allRows, tablesOf}
 
 -- ---- rows of one width
 

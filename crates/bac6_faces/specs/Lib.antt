@@ -1,2 +1,1 @@
-pub mod Bounds
-pub mod Into
+pub mod Internal

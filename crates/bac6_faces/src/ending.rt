@@ -1,7 +1,7 @@
 // The end of a figure: its faces and its groups.
 ghost use mathlib.Core.Path.{_≡_};
-ghost use Rattle.parse_cursor.specs.Cursors.{reads, from};
-ghost use Rattle.bac6_faces.specs.Into.{polygonsInto};
+ghost use Rattle.parse_cursor.specs.Internal.Cursors.{reads, from};
+ghost use Rattle.bac6_faces.specs.Internal.Into.{polygonsInto};
 use crate::group::Polygons;
 use crate::group::group_list;
 use crate::list::face_list;

@@ -2,11 +2,11 @@
 ghost use mathlib.Core.Path.{_≡_};
 ghost use Prim.Native.Nat.{_+_, _≤_};
 ghost use lib.ListN.{length};
-ghost use Rattle.parse_cursor.specs.Cursors.{reads, from};
-ghost use Rattle.parse_rows.specs.Folds.{stepped, folded};
+ghost use Rattle.parse_cursor.specs.Internal.Cursors.{reads, from};
+ghost use Rattle.parse_rows.specs.Internal.Folds.{stepped, folded};
 ghost use Rattle.bac6_text.specs.Grammar.{group as groupRead};
-ghost use Rattle.bac6_faces.specs.Into.{groupTail, groupStep};
-ghost use Rattle.bac6_faces.specs.Bounds.{Bounded, Fewer};
+ghost use Rattle.bac6_faces.specs.Internal.Into.{groupTail, groupStep};
+ghost use Rattle.bac6_faces.specs.Internal.Bounds.{Bounded, Fewer};
 use crate::list::face_list;
 use crate::list::row_index;
 use parse_cursor::Cursor;

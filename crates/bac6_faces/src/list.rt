@@ -1,11 +1,11 @@
 // Faces one after another: each a row of eleven numbers.
 ghost use mathlib.Core.Path.{_≡_};
 ghost use Prim.Native.Nat.{_*_, _<_, min};
-ghost use Rattle.parse_cursor.specs.Cursors.{reads, from};
-ghost use Rattle.parse_rows.specs.Folds.{folded};
+ghost use Rattle.parse_cursor.specs.Internal.Cursors.{reads, from};
+ghost use Rattle.parse_rows.specs.Internal.Folds.{folded};
 ghost use Rattle.bac6_text.specs.Grammar.{face};
-ghost use Rattle.bac6_faces.specs.Into.{faceStep};
-ghost use Rattle.bac6_faces.specs.Bounds.{Bounded, Fewer};
+ghost use Rattle.bac6_faces.specs.Internal.Into.{faceStep};
+ghost use Rattle.bac6_faces.specs.Internal.Bounds.{Bounded, Fewer};
 use bac6_face::face_tail;
 use parse_cursor::Cursor;
 use parse_rows::Counted;

@@ -12,18 +12,18 @@ use Rattle.text_numbers.specs.Numbers.{Form}
 use Rattle.text_tokens.specs.Tokens.{Lexeme}
 use Rattle.parse_cursor.specs.declared.cursor.Cursor.{Cursor}
 use Rattle.parse_cursor.specs.Readers.{Got, got, refused, Reader, after, _>>=_, _>>_, pure, optional, starts, many, row}
-use Rattle.parse_cursor.specs.Cursors.{reads, from}
-use Rattle.parse_cursor.specs.Branches.{startOf}
+use Rattle.parse_cursor.specs.Internal.Cursors.{reads, from}
+use Rattle.parse_cursor.specs.Internal.Branches.{startOf}
 use Rattle.parse_cursor.proofs.Steps.{join, seq, from-same}
 use Rattle.parse_cursor.proofs.Binds.{bind-assoc, then-bind}
 use Rattle.table_rows.specs.Flat.{flat}
-use Rattle.table_rows.specs.Overlay.{overlayAt}
+use Rattle.table_rows.specs.Internal.Overlay.{overlayAt}
 use Rattle.table_rows.proofs.Tables.{overlayAt-none, overlayAt-length}
 use Rattle.table_rows.proofs.Chains.{middle}
 use Rattle.parse_rows.specs.declared.lists.Counted.{Counted}
 use Rattle.bac6_front.specs.declared.rows.Listed.{Listed}
-use Rattle.bac6_front.specs.Answers.{listedAt}
-use Rattle.bac6_front.specs.Lists.{rowsLaid, listInto, rowsIf, sectionOf}
+use Rattle.bac6_front.specs.Internal.Answers.{listedAt}
+use Rattle.bac6_front.specs.Internal.Lists.{rowsLaid, listInto, rowsIf, sectionOf}
 
 -- ---- readers
 

@@ -2,9 +2,9 @@
 ghost use mathlib.Core.Path.{_≡_};
 ghost use Prim.Native.Nat.{_≤_};
 ghost use lib.ListN.{length};
-ghost use Rattle.parse_cursor.specs.Cursors.{reads, from};
+ghost use Rattle.parse_cursor.specs.Internal.Cursors.{reads, from};
 ghost use Rattle.bac6_text.specs.Grammar.{materialSection, pointSection, normalSection};
-ghost use Rattle.bac6_front.specs.Lists.{listInto};
+ghost use Rattle.bac6_front.specs.Internal.Lists.{listInto};
 use crate::rows::Listed;
 use crate::rows::with_end;
 use parse_cursor::Cursor;

@@ -2,9 +2,9 @@
 ghost use mathlib.Core.Path.{_≡_};
 ghost use Prim.Native.Nat.{_≤_};
 ghost use lib.ListN.{length};
-ghost use Rattle.parse_cursor.specs.Cursors.{reads, from};
-ghost use Rattle.bac6_front.specs.Answers.{frontValue};
-ghost use Rattle.bac6_front.specs.Front.{frontInto};
+ghost use Rattle.parse_cursor.specs.Internal.Cursors.{reads, from};
+ghost use Rattle.bac6_front.specs.Internal.Answers.{frontValue};
+ghost use Rattle.bac6_front.specs.Internal.Front.{frontInto};
 use crate::lists::materials;
 use crate::lists::normals;
 use crate::lists::points;

@@ -2,10 +2,10 @@
 ghost use mathlib.Core.Path.{_≡_};
 ghost use Prim.Native.Nat.{_≤_};
 ghost use lib.ListN.{length};
-ghost use Rattle.parse_numbers.specs.Answers.{formNamed};
-ghost use Rattle.parse_cursor.specs.Cursors.{reads, from};
-ghost use Rattle.bac6_front.specs.Answers.{listedAt};
-ghost use Rattle.bac6_front.specs.Lists.{listInto, sectionOf};
+ghost use Rattle.parse_numbers.specs.Internal.Answers.{formNamed};
+ghost use Rattle.parse_cursor.specs.Internal.Cursors.{reads, from};
+ghost use Rattle.bac6_front.specs.Internal.Answers.{listedAt};
+ghost use Rattle.bac6_front.specs.Internal.Lists.{listInto, sectionOf};
 use parse_cursor::Cursor;
 use parse_numbers::Form;
 use parse_rows::Counted;

@@ -13,16 +13,17 @@ use Rattle.text_bytes.specs.Bytes.{bytes, same, inWord}
 use Rattle.text_tokens.specs.Tokens.{Lexeme, lexAt}
 use Rattle.parse_cursor.specs.declared.cursor.Cursor.{Cursor}
 use Rattle.parse_cursor.specs.Readers.{Got, after, _>>=_, _>>_, pure, open-bracket, keyword, wordOf, opened, openedOf, closed, number}
-use Rattle.parse_cursor.specs.Cursors.{reads, from}
-use Rattle.table_rows.specs.Overlay.{overlayAt}
+use Rattle.parse_cursor.specs.Internal.Cursors.{reads, from}
+use Rattle.table_rows.specs.Internal.Overlay.{overlayAt}
 use Rattle.parse_cursor.proofs.Many.{Keeps, Takes, takes-keeps, pure-keeps, bind-keeps, bind-takes, then-keeps, then-takes, keyword-takes, opened-takes, closed-keeps, number-takes, one-of-takes}
 use Rattle.parse_cursor.proofs.FieldKeeps.{AllKeep, fields-keeps}
 use Rattle.parse_cursor.proofs.Binds.{then-assoc, then-bind}
 use Rattle.parse_cursor.proofs.Steps.{join, seq, passed, from-on, from-off}
-use Rattle.parse_cursor.specs.Fields.{kind, insideAt, fieldOf, fieldsOf, unread, fields, fieldsIn}
-use Rattle.parse_words.specs.Words.{words, onto, keysOf, apart, differs}
+use Rattle.parse_cursor.specs.Fields.{kind, unread, fields, fieldsIn}
+use Rattle.parse_cursor.specs.Internal.Fields.{insideAt, fieldOf, fieldsOf}
+use Rattle.parse_words.specs.Internal.Words.{words, onto, keysOf, apart, differs}
 use Rattle.bac6_text.specs.Grammar.{materialKinds, truth, blend, orZero, material, word}
-use Rattle.bac6_materials.specs.Into.{Settled, materialTail, materialInto}
+use Rattle.bac6_materials.specs.Internal.Into.{Settled, materialTail, materialInto}
 use Rattle.parse_cursor.proofs.Choices.{fieldsOf-set}
 
 pub inside-truth : (k : ℕ) → (k ≡ 0 → ⊥) → k < 4 → insideAt materialKinds k ≡ closed truth

@@ -9,17 +9,18 @@ use mathlib.Core.Bool.{Bool, true, false}
 use mathlib.Core.Option.{Option}
 use Rattle.text_tokens.specs.Tokens.{Lexeme, lexAt}
 use Rattle.text_tokens.specs.declared.token.Span.{Span}
-use Rattle.text_tokens.specs.Answers.{Next, lexemeOf}
+use Rattle.text_tokens.specs.Internal.Answers.{Next, lexemeOf}
 use Rattle.parse_cursor.specs.declared.cursor.Cursor.{Cursor}
 use Rattle.parse_cursor.specs.Readers.{Reader, closed, isClosing}
-use Rattle.parse_words.specs.Words.{words, wordIn}
-use Rattle.parse_cursor.specs.Cursors.{reads, from, closedAt}
+use Rattle.parse_words.specs.Internal.Words.{words, wordIn}
+use Rattle.parse_cursor.specs.Internal.Cursors.{reads, from, closedAt}
 use Rattle.parse_cursor.proofs.Steps.{join, from-same}
-use Rattle.parse_cursor.specs.Fields.{Kind, kind, fieldsIn, fieldsOf, neededOf, coversAll}
+use Rattle.parse_cursor.specs.Fields.{Kind, kind, fieldsIn}
+use Rattle.parse_cursor.specs.Internal.Fields.{fieldsOf, neededOf, coversAll}
 use Rattle.parse_cursor.proofs.FieldSteps.{complete-flags, turn-ended}
 use Rattle.parse_words.proofs.Vocabulary.{wordList, one-word}
 use Rattle.bac6_text.specs.Grammar.{word, materialKinds}
-use Rattle.bac6_materials.specs.Closing.{closeWith}
+use Rattle.bac6_materials.specs.Internal.Closing.{closeWith}
 
 -- a reader and the closing bracket after it
 pub close-join : {A : Type 0} (text : List ℕ) (c d r : Cursor) (a b : A) (s : Reader A) → reads text d a ≡ from text c s → reads text r b ≡ from text d (closeWith a) → reads text r b ≡ from text c (closed s)

@@ -7,15 +7,15 @@ use lib.IntN.{ℤ}
 use lib.ListN.{length}
 use Rattle.text_tokens.specs.Tokens.{Lexeme}
 use Rattle.parse_cursor.specs.Readers.{got, after, _>>=_, pure, many, many⁺}
-use Rattle.parse_rows.specs.Folds.{fold, folded, stepped, rowStep}
+use Rattle.parse_rows.specs.Internal.Folds.{fold, folded, stepped, rowStep}
 use Rattle.parse_rows.proofs.Folds.{fold-rows}
 use Rattle.parse_cursor.proofs.Binds.{after-after, after-when}
 use Rattle.parse_cursor.proofs.Given.{Every, free, many-gives}
 use Rattle.table_rows.specs.Flat.{flat}
-use Rattle.table_rows.specs.Overlay.{overlayAt}
+use Rattle.table_rows.specs.Internal.Overlay.{overlayAt}
 use Rattle.bac6_text.specs.Grammar.{material}
 use Rattle.bac6_text.proofs.Whole.{material-gives}
-use Rattle.bac6_materials.specs.Into.{materialsInto}
+use Rattle.bac6_materials.specs.Internal.Into.{materialsInto}
 
 value : (t r : List ℤ) (rs : List (List ℤ)) → length r ≡ 9 → Every (λ x. length x ≡ 9) rs → (suc (length rs), overlayAt 0 (flat (r ∷ rs)) t) ≡ fold (rowStep 9) (rowStep 9 (0, t) r) rs
 unfolding fold

@@ -20,7 +20,7 @@ use Rattle.bac6_text.specs.Layout.{corners, faceRow}
 use Rattle.bac6_text.proofs.Rows.{length-corners}
 use Rattle.bac6_text.specs.Rules.{faceFine}
 use Rattle.text_numbers.proofs.Tests.{and3}
-use Rattle.bac6_row_rules.specs.Rows.{cornerCount, cornersKnown, faceRowFine}
+use Rattle.bac6_row_rules.specs.Internal.Rows.{cornerCount, cornersKnown, faceRowFine}
 
 -- ---- the corners of a row, one a turn
 

@@ -1,7 +1,7 @@
 // Rule 12: a material's indices and levels.
 ghost use mathlib.Core.Path.{_≡_};
 ghost use lib.ListN.{length};
-ghost use Rattle.refusal.specs.Answers.{refusal};
+ghost use Rattle.refusal.specs.Internal.Answers.{refusal};
 ghost use Rattle.bac6_text.specs.Rules.{isLevel, materialFine};
 ghost use Rattle.refusal.specs.FirstBad.{firstBad};
 ghost use Rattle.table_columns.specs.Parts.{rowsOf};

@@ -13,8 +13,8 @@ use Rattle.bac6_text.specs.Rules.{facesOf, countsOf, figureCounts, normalsFault
 use Rattle.refusal.specs.FirstBad.{firstBad}
 use Rattle.refusal.proofs.Rules.{or-fault, or-assoc, or-first, or-second}
 use Rattle.table_counts.specs.declared.counts.FigureCounts.{FigureCounts}
-use Rattle.bac6_bone_rules.specs.Bones.{flagsIn, Settled}
-use Rattle.bac6_rules.specs.Order.{countsFault, laterFault, tablesFault}
+use Rattle.bac6_bone_rules.specs.Internal.Bones.{flagsIn, Settled}
+use Rattle.bac6_rules.specs.Internal.Order.{countsFault, laterFault, tablesFault}
 use Rattle.parse_rows.proofs.Widths.{Wide}
 use Rattle.bac6_text.proofs.Whole.{WholeBones, WholeFaces}
 use Rattle.bac6_rules.proofs.Laid.{rows-laid, flags-laid, faces-laid, bones-laid}

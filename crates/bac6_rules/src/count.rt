@@ -1,6 +1,6 @@
 // Rule 9: normals as many as points.
 ghost use mathlib.Core.Path.{_≡_};
-ghost use Rattle.refusal.specs.Answers.{refusal};
+ghost use Rattle.refusal.specs.Internal.Answers.{refusal};
 ghost use Rattle.bac6_text.specs.Rules.{normalsFault};
 use refusal::Checked;
 

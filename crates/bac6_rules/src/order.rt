@@ -1,7 +1,7 @@
 // Rules 8, 9 and 11 to 13 in order: of a figure's faults the lowest number, with its lowest row. Rule 10 stands between them (`place_bones`).
 ghost use mathlib.Core.Path.{_≡_};
-ghost use Rattle.refusal.specs.Answers.{refusal};
-ghost use Rattle.bac6_rules.specs.Order.{countsFault, laterFault};
+ghost use Rattle.refusal.specs.Internal.Answers.{refusal};
+ghost use Rattle.bac6_rules.specs.Internal.Order.{countsFault, laterFault};
 use crate::count::normals_fault;
 use bac6_row_rules::face_fault;
 use bac6_row_rules::material_fault;

@@ -6,7 +6,7 @@ use native.Mathlib.Omega.{arith}
 use lib.IntN.{ℤ, pos}
 use lib.ListN.{length, replicate}
 use Rattle.table_rows.specs.Flat.{flat}
-use Rattle.table_rows.specs.Overlay.{overlayAt}
+use Rattle.table_rows.specs.Internal.Overlay.{overlayAt}
 use Rattle.table_rows.proofs.Tables.{overlayAt-none}
 use Rattle.table_rows.proofs.Chains.{Laid, laid-next}
 use Rattle.parse_rows.proofs.Widths.{Wide, flat-length}
@@ -14,10 +14,10 @@ use Rattle.bac6_text.specs.Figure.{Bone, Figure}
 use Rattle.bac6_text.specs.Layout.{boneRow, boneRows}
 use Rattle.bac6_text.proofs.Rows.{bones-wide}
 use Rattle.bac6_text.proofs.Whole.{WholeFigure}
-use Rattle.bac6_faces.specs.Into.{allRows}
+use Rattle.bac6_faces.specs.Internal.Into.{allRows}
 use Rattle.bac6_faces.proofs.PolygonSteps.{all-rows}
-use Rattle.bac6_front.specs.Lists.{rowsLaid}
-use Rattle.bac6_shape.specs.Parse.{blankBones, rowNumbers}
+use Rattle.bac6_front.specs.Internal.Lists.{rowsLaid}
+use Rattle.bac6_shape.specs.Internal.Parse.{blankBones, rowNumbers}
 
 -- rows that have no parent yet
 pub blank-rows : (bs : List Bone) → blankBones bs ≡ boneRows bs (replicate (length bs) (pos 0))

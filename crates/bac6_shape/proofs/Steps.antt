@@ -9,23 +9,23 @@ use Rattle.refusal.specs.Faults.{Fault, clear}
 use Rattle.text_tokens.specs.Tokens.{Lexeme}
 use Rattle.parse_cursor.specs.declared.cursor.Cursor.{Cursor}
 use Rattle.parse_cursor.specs.Readers.{_>>=_, _>>_, pure, opened, close-bracket, text-end, many⁺}
-use Rattle.parse_cursor.specs.Cursors.{reads, from}
+use Rattle.parse_cursor.specs.Internal.Cursors.{reads, from}
 use Rattle.parse_cursor.proofs.Steps.{seq, from-same, onward}
 use Rattle.parse_cursor.proofs.Sequences.{inside-bind, into-end}
 use Rattle.table_rows.specs.Flat.{flat}
-use Rattle.table_rows.specs.Overlay.{overlayAt}
+use Rattle.table_rows.specs.Internal.Overlay.{overlayAt}
 use Rattle.table_rows.proofs.Tables.{overlayAt-length}
 use Rattle.table_rows.proofs.Chains.{middle}
 use Rattle.bac6_text.specs.Figure.{Bone, Face, Group}
 use Rattle.bac6_text.specs.Grammar.{bone, boneSection, polygonSection}
 use Rattle.bac6_text.specs.Layout.{groupNames}
-use Rattle.bac6_bones.specs.Into.{bonesInto}
-use Rattle.bac6_bone_rules.specs.Claims.{claimedBones}
-use Rattle.bac6_faces.specs.Into.{allRows, tablesOf, polygonsInto}
-use Rattle.bac6_front.specs.Lists.{rowsLaid}
+use Rattle.bac6_bones.specs.Internal.Into.{bonesInto}
+use Rattle.bac6_bone_rules.specs.Internal.Claims.{claimedBones}
+use Rattle.bac6_faces.specs.Internal.Into.{allRows, tablesOf, polygonsInto}
+use Rattle.bac6_front.specs.Internal.Lists.{rowsLaid}
 use Rattle.bac6_front.proofs.Laid.{map-read, then-read}
-use Rattle.bac6_shape.specs.Parse.{blankBones}
-use Rattle.bac6_shape.specs.Steps.{bonesLaid, boneStep, facesLaid, endStep}
+use Rattle.bac6_shape.specs.Internal.Parse.{blankBones}
+use Rattle.bac6_shape.specs.Internal.Steps.{bonesLaid, boneStep, facesLaid, endStep}
 
 -- the whole table, where a part from an index on held some numbers over it
 abbrev whole : ℕ → List ℤ → List ℤ → List ℤ

@@ -1,3 +1,1 @@
-pub mod Parse
-pub mod Steps
-pub mod Answers
+pub mod Internal

@@ -2,9 +2,9 @@
 ghost use mathlib.Core.Path.{_≡_};
 ghost use Prim.Native.Nat.{_≤_};
 ghost use lib.ListN.{length};
-ghost use Rattle.parse_cursor.specs.Cursors.{reads, from};
-ghost use Rattle.bac6_bones.specs.Into.{faultOf};
-ghost use Rattle.bac6_shape.specs.Steps.{boneStep};
+ghost use Rattle.parse_cursor.specs.Internal.Cursors.{reads, from};
+ghost use Rattle.bac6_bones.specs.Internal.Into.{faultOf};
+ghost use Rattle.bac6_shape.specs.Internal.Steps.{boneStep};
 use parse_cursor::Cursor;
 use parse_cursor::opened;
 

@@ -2,8 +2,8 @@
 ghost use mathlib.Core.Path.{_≡_};
 ghost use Prim.Native.Nat.{_≤_};
 ghost use lib.ListN.{length};
-ghost use Rattle.parse_cursor.specs.Cursors.{reads, from};
-ghost use Rattle.bac6_shape.specs.Steps.{endStep};
+ghost use Rattle.parse_cursor.specs.Internal.Cursors.{reads, from};
+ghost use Rattle.bac6_shape.specs.Internal.Steps.{endStep};
 use bac6_faces::Polygons;
 use parse_cursor::Cursor;
 

@@ -1,9 +1,9 @@
 // The shape of a figure's text.
 ghost use mathlib.Core.Path.{_≡_};
 ghost use Rattle.text_tokens.specs.Tokens.{lex};
-ghost use Rattle.parse_cursor.specs.Cursors.{reads};
-ghost use Rattle.bac6_shape.specs.Answers.{keptBy};
-ghost use Rattle.bac6_shape.specs.Parse.{figureInto};
+ghost use Rattle.parse_cursor.specs.Internal.Cursors.{reads};
+ghost use Rattle.bac6_shape.specs.Internal.Answers.{keptBy};
+ghost use Rattle.bac6_shape.specs.Internal.Parse.{figureInto};
 use crate::bones::read_bones;
 use crate::ending::read_end;
 use parse_cursor::Cursor;

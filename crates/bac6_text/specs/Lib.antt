@@ -1,6 +1,6 @@
 pub mod Figure
-pub mod Names
 pub mod Grammar
 pub mod Rules
 pub mod Layout
 pub mod Answer
+pub mod Internal

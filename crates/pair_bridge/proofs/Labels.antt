@@ -8,7 +8,7 @@ use lib.Dec.{ltb}
 use lib.IntN.{ℤ}
 use lib.ListN.{length}
 use Rattle.refusal.specs.Faults.{clear}
-use Rattle.text_check.specs.Strings.{StringAt}
+use Rattle.text_check.specs.Internal.Strings.{StringAt}
 use Rattle.bac6_text.specs.Figure.{Figure}
 use Rattle.bac6_text.specs.Rules.{figureFault}
 use Rattle.bac6_text.specs.Layout as figures

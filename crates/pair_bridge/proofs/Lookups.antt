@@ -24,7 +24,7 @@ use Rattle.player_spec.specs.Fractions.{Fraction}
 use Rattle.table_sections.specs.Sections.{isClear, holdsFigure}
 use Rattle.table_columns.specs.Parts.{numberAt}
 use Rattle.player_spec.specs.Faces.{CornerOf}
-use Rattle.player_corners.specs.CornerRow.{rowCorner}
+use Rattle.player_corners.specs.Internal.CornerRow.{rowCorner}
 use Rattle.player_spec.specs.Lookups.{onlyIf, isAsked, faceSound, faceAt, sampleIn, cornerIn, shownIn}
 use Rattle.player_samples.proofs.Sampled as samples
 use Rattle.player_corners.proofs.CornerTests as corners

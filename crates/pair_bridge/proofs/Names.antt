@@ -8,7 +8,7 @@ use native.Mathlib.Omega.{arith}
 use borrow.Author.Tests.{le-leb}
 use lib.IntN.{ℤ, pos}
 use lib.ListN.{length, getD, length-map}
-use Rattle.text_check.specs.Strings.{StringAt}
+use Rattle.text_check.specs.Internal.Strings.{StringAt}
 use Rattle.refusal.specs.Faults.{clear}
 use Rattle.parse_cursor.specs.Readers.{Name, absent}
 use Rattle.parse_cursor.specs.Fields.{isSome}

@@ -12,8 +12,8 @@ use lib.ListN.{length, take, drop, getD, length-take}
 use lib.Seq.{take-all, length-take-le}
 use Rattle.text_bytes.specs.Bytes.{isDigit, run, part}
 use Rattle.text_numbers.specs.Numbers.{INT, value, beyond, wrong, numberOf, intOf, intMost, signed, allDigits, decimal, negative}
-use Rattle.text_numbers.specs.Answers.{numberNamed}
-use Rattle.text_bytes.specs.Answers.{testNamed}
+use Rattle.text_numbers.specs.Internal.Answers.{numberNamed}
+use Rattle.text_bytes.specs.Internal.Answers.{testNamed}
 use Rattle.text_bytes.specs.declared.bytes.Run.the-variants.{Digits}
 use Rattle.text_numbers.specs.declared.number.Parsed.{Parsed}
 use Rattle.text_numbers.specs.declared.number.Parsed.the-variants.{Value, Beyond, Malformed}

@@ -6,7 +6,7 @@ use Prim.Native.Nat.{ℕ, _<_}
 use native.Mathlib.Omega.{arith}
 use lib.IntN.{ℤ}
 use lib.ListN.{length, drop}
-use Rattle.text_check.specs.Strings.{StringAt}
+use Rattle.text_check.specs.Internal.Strings.{StringAt}
 use Rattle.refusal.specs.Outcomes.{rejected, accepted}
 use Rattle.bac6_text.specs.Figure.{Figure}
 use Rattle.bac6_text.specs.Layout as figures

@@ -8,7 +8,7 @@ use lib.IntN.{ℤ}
 use lib.ListN.{length}
 use Rattle.refusal.specs.Faults.{clear, fault}
 use Rattle.text_numbers.proofs.Numerals.{and-true}
-use Rattle.text_check.specs.Strings.{StringAt}
+use Rattle.text_check.specs.Internal.Strings.{StringAt}
 use Rattle.parse_cursor.specs.Fields.{isSome}
 use Rattle.refusal.specs.Outcomes.{rejected, accepted}
 use Rattle.tra4_text.specs.Movement.{Movement}
@@ -25,7 +25,7 @@ use Rattle.pair_text.specs.Answer.{Loaded, refused, loaded, ifPaired, withMovem
 use Rattle.pair_bridge.specs.Names.{namesFrom, allNamed, namesIn}
 use Rattle.pair_bridge.proofs.Names.{names-length, movement-names-in}
 use Rattle.pair_movement.specs.Moved.{withNames, movedAnswer, movedReply}
-use Rattle.pair_rules.specs.Tables.{rowsFault}
+use Rattle.pair_rules.specs.Internal.Tables.{rowsFault}
 use Rattle.tra4_text.specs.Rules.{movementCounts}
 
 -- ---- the figure's names

@@ -10,7 +10,7 @@ use lib.Seq.{take-at}
 use Rattle.text_check.specs.Faults.{bac, tra}
 use Rattle.refusal.specs.Faults.{clear}
 use Rattle.text_tokens.specs.Tokens.{lex}
-use Rattle.table_rows.specs.Overlay.{overlayAt}
+use Rattle.table_rows.specs.Internal.Overlay.{overlayAt}
 use Rattle.refusal.specs.Outcomes.{Outcome, rejected, accepted, fitted, laid}
 use Rattle.parse_text.proofs.Outcomes.{fitted-room, fitted-short, laid-accepted}
 use Rattle.refusal.proofs.Rules.{count-clear}

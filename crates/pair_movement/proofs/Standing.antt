@@ -5,8 +5,8 @@ use Prim.Native.Nat.{ℕ, zero, suc, _<_}
 use native.Mathlib.Nat.{le-refl}
 use native.Mathlib.Omega.{arith}
 use lib.ListN.{length, getD}
-use Rattle.text_bytes.specs.Every.{Every}
-use Rattle.text_check.specs.Strings.{StringAt}
+use Rattle.text_bytes.specs.Internal.Every.{Every}
+use Rattle.text_check.specs.Internal.Strings.{StringAt}
 use Rattle.text_check.specs.Faults.{bac, tra}
 use Rattle.parse_cursor.specs.Readers.{Name, absent}
 use Rattle.refusal.specs.Outcomes.{accepted, fitted}

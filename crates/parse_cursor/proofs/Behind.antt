@@ -8,7 +8,7 @@ use lib.Dec.{eqb}
 use Rattle.text_tokens.specs.Tokens.{Lexeme, lexAt}
 use Rattle.parse_cursor.specs.declared.cursor.Cursor.{Cursor}
 use Rattle.parse_cursor.specs.Readers.{Got, got, refused, Reader, after, pure}
-use Rattle.parse_cursor.specs.Cursors.{reads}
+use Rattle.parse_cursor.specs.Internal.Cursors.{reads}
 use Rattle.parse_cursor.proofs.Steps.{from-off, reads-on}
 use Rattle.parse_cursor.proofs.Many.{not-got, got-value}
 use Rattle.parse_cursor.proofs.Given.{GivesOn, AnyToken, free}

@@ -5,7 +5,7 @@ use Prim.Native.Nat.{ℕ}
 use Rattle.text_tokens.specs.Tokens.{Lexeme}
 use Rattle.parse_cursor.specs.declared.cursor.Cursor.{Cursor}
 use Rattle.parse_cursor.specs.Readers.{Got, got, refused, Reader, after, _>>=_, _>>_, pure, close-bracket, closed}
-use Rattle.parse_cursor.specs.Cursors.{from, reads}
+use Rattle.parse_cursor.specs.Internal.Cursors.{from, reads}
 use Rattle.parse_cursor.proofs.Steps.{join, seq}
 
 -- two steps are one

@@ -10,7 +10,8 @@ use lib.ListN.{length, getD, set}
 use Rattle.text_bytes.specs.Bytes.{bytes}
 use Rattle.text_tokens.specs.Tokens.{Lexeme, isKeyword}
 use Rattle.parse_cursor.specs.Readers.{Got, got, refused, Reader, after, _>>=_, _>>_, pure, stop, tokenOf, rest, isOpening, isClosing, take-if, open-bracket, oneFrom}
-use Rattle.parse_cursor.specs.Fields.{Kind, complete, kindFrom, fieldsIn, hits, single, insideAt, fieldOf, fieldsOf}
+use Rattle.parse_cursor.specs.Fields.{Kind, complete, kindFrom, fieldsIn}
+use Rattle.parse_cursor.specs.Internal.Fields.{hits, single, insideAt, fieldOf, fieldsOf}
 
 -- a refusal stays one
 pub after-stop : {A B : Type 0} (n : ℕ) (ms : List Lexeme) (f : A → Reader B) → after (stop n ms) f ≡ stop n ms

@@ -11,7 +11,7 @@ use Rattle.text_bytes.specs.Bytes.{Class, blank, opener, closer, quote, semicol
 use Rattle.text_tokens.specs.Tokens.{tokens, lexAt, lex}
 use Rattle.parse_cursor.specs.declared.cursor.Cursor.{Cursor}
 use Rattle.parse_cursor.specs.Readers.{Reader}
-use Rattle.parse_cursor.specs.Cursors.{reads, from}
+use Rattle.parse_cursor.specs.Internal.Cursors.{reads, from}
 use Rattle.parse_cursor.proofs.Steps.{from-on, from-off, reads-on}
 use Rattle.parse_cursor.proofs.Many.{Keeps, Takes, not-got}
 

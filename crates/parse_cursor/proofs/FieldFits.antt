@@ -10,7 +10,8 @@ use Rattle.text_bytes.specs.Bytes.{bytes}
 use Rattle.text_tokens.specs.Tokens.{Lexeme, isKeyword}
 use Rattle.text_numbers.proofs.Numerals.{and-true}
 use Rattle.parse_cursor.specs.Readers.{got, Reader, stop, tokenOf, rest, isClosing}
-use Rattle.parse_cursor.specs.Fields.{Kind, isSome, unread, complete, kindFrom, fieldsIn, fields, neededOf}
+use Rattle.parse_cursor.specs.Fields.{Kind, isSome, unread, complete, kindFrom, fieldsIn, fields}
+use Rattle.parse_cursor.specs.Internal.Fields.{neededOf}
 use Rattle.parse_cursor.proofs.Given.{GivesOn, pure-gives, stop-gives, next-gives, later-gives, same-gives, either-gives, bind-gives, then-gives, open-leaves}
 
 -- at the ) that ends the chunks

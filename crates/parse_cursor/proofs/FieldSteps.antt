@@ -8,11 +8,12 @@ use native.Mathlib.Omega.{arith}
 use lib.ListN.{length}
 use Rattle.text_tokens.specs.Tokens.{lexeme, lexAt}
 use Rattle.text_tokens.specs.declared.token.Span.{Span}
-use Rattle.text_tokens.specs.Answers.{Next, lexemeOf}
+use Rattle.text_tokens.specs.Internal.Answers.{Next, lexemeOf}
 use Rattle.parse_cursor.specs.declared.cursor.Cursor.{Cursor}
 use Rattle.parse_cursor.specs.Readers.{Got, got, pure, stop, isOpening, isClosing}
-use Rattle.parse_cursor.specs.Cursors.{reads, from, closedAt}
-use Rattle.parse_cursor.specs.Fields.{Kind, isSome, complete, kindFrom, fieldsIn, fieldOf, fieldsOf, neededOf, coversAll}
+use Rattle.parse_cursor.specs.Internal.Cursors.{reads, from, closedAt}
+use Rattle.parse_cursor.specs.Fields.{Kind, isSome, complete, kindFrom, fieldsIn}
+use Rattle.parse_cursor.specs.Internal.Fields.{fieldOf, fieldsOf, neededOf, coversAll}
 use Rattle.parse_cursor.proofs.Steps.{from-off, reads-on, next-token, next-stop, next-rest, live, after-reads}
 use Rattle.parse_cursor.proofs.Choices.{fields-close, fields-early, fields-full, fields-other, fields-chunk}
 

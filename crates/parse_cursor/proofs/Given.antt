@@ -6,7 +6,7 @@ use Prim.Native.Nat.{ℕ, zero, suc}
 use Prim.Native.String.{String}
 use lib.ListN.{length}
 use Rattle.text_bytes.specs.Bytes.{bytes, same}
-pub use Rattle.text_bytes.specs.Every.{Every}
+pub use Rattle.text_bytes.specs.Internal.Every.{Every}
 use Rattle.text_tokens.specs.Tokens.{Token, opening, closing, ending, quoted, plain, Lexeme, isKeyword}
 use Rattle.parse_cursor.specs.Readers.{Got, got, refused, Reader, after, _>>=_, _>>_, pure, stop, tokenOf, rest, take-if, isOpening, isClosing, isEnd, open-bracket, close-bracket, wordOf, text-end, openedOf, opened, closed, versionAt, version, Name, absent, nameAt, string, starts, optional, trailing, manyIn, many, many⁺, headOf, head}
 use Rattle.parse_cursor.proofs.Many.{not-got, stop-not, many-in-end, many-in-more}

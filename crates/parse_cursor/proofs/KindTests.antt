@@ -5,10 +5,10 @@ use mathlib.Core.Bool.{Bool}
 use Prim.Native.Nat.{ℕ}
 use lib.Dec.{eqb}
 use Rattle.text_tokens.specs.Tokens.{Token, opening, closing, ending, quoted, plain}
-use Rattle.text_tokens.specs.Answers.{tokenOf}
+use Rattle.text_tokens.specs.Internal.Answers.{tokenOf}
 use Rattle.text_tokens.specs.declared.token.Kind.{Kind}
 use Rattle.text_tokens.specs.declared.token.Kind.the-variants.{Opening, Closing, Quoted, Plain, Ending}
-use Rattle.parse_cursor.specs.KindNumbers.{kindNumber}
+use Rattle.parse_cursor.specs.Internal.KindNumbers.{kindNumber}
 
 -- a test that says of each kind whether its number is n
 pub record Told (n : ℕ) (test : Token → Bool) : Type 0 where

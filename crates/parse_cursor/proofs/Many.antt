@@ -11,7 +11,7 @@ use Rattle.text_bytes.specs.Bytes.{bytes, same}
 use Rattle.text_tokens.specs.Tokens.{Token, opening, closing, ending, quoted, plain, Lexeme, isKeyword}
 use Rattle.text_numbers.specs.Numbers.{Number, value, beyond, wrong, Form, INT, refusalOf}
 use Rattle.parse_cursor.specs.Readers.{Got, got, refused, Reader, after, _>>=_, _>>_, pure, stop, tokenOf, rest, isOpening, isClosing, isEnd, take-if, open-bracket, close-bracket, wordOf, keyword, text-end, openedOf, opened, closed, numberIn, numberAt, number, numbers, versionAt, version, Name, nameAt, string, oneFrom, oneOf, starts, optional, trailing, manyIn, many, many⁺, cells, rowOf, row, headOf, head}
-use Rattle.parse_cursor.specs.Tokens.{tokenNumber}
+use Rattle.parse_cursor.specs.Internal.Tokens.{tokenNumber}
 use Rattle.parse_cursor.proofs.NumberSteps.{number-of}
 
 -- what a reader leaves is no more than it found

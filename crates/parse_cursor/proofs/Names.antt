@@ -5,11 +5,11 @@ use Prim.Native.Nat.{ℕ, suc}
 use native.Mathlib.Omega.{arith}
 use Rattle.text_check.specs.Faults.{Format, textFault}
 use Rattle.refusal.specs.Faults.{clear}
-use Rattle.text_check.specs.Strings.{StandsAt, Stands}
+use Rattle.text_check.specs.Internal.Strings.{StandsAt, Stands}
 use Rattle.text_tokens.specs.Tokens.{quoted, Lexeme, lex}
 use Rattle.text_bytes.proofs.Parts.{part-none}
 use Rattle.text_check.proofs.Strings.{strings-stand}
-use Rattle.parse_cursor.specs.Names.{NameStands}
+use Rattle.parse_cursor.specs.Internal.Names.{NameStands}
 use Rattle.parse_cursor.specs.Readers.{got, Reader, absent}
 use Rattle.parse_cursor.proofs.Given.{GivesOn, Naming}
 

@@ -10,11 +10,11 @@ use Rattle.text_numbers.specs.Numbers.{value, beyond, wrong, Form, refusalOf}
 use Rattle.text_tokens.specs.declared.token.Kind.{Kind}
 use Rattle.text_tokens.specs.declared.token.Kind.the-variants.{Opening, Closing, Quoted, Plain, Ending}
 use Rattle.text_tokens.specs.declared.token.Span.{Span}
-use Rattle.text_tokens.specs.Answers.{Next, lexemeOf, isEnding, tokenOf as spanToken}
+use Rattle.text_tokens.specs.Internal.Answers.{Next, lexemeOf, isEnding, tokenOf as spanToken}
 use Rattle.parse_cursor.specs.declared.cursor.Cursor.{Cursor}
 use Rattle.parse_cursor.specs.Readers.{got, number, numberAt, numberIn, pure}
-use Rattle.parse_cursor.specs.Cursors.{reads, from}
-use Rattle.parse_cursor.specs.Tokens.{tokenNumber}
+use Rattle.parse_cursor.specs.Internal.Cursors.{reads, from}
+use Rattle.parse_cursor.specs.Internal.Tokens.{tokenNumber}
 use Rattle.parse_cursor.proofs.Steps.{from-on, from-off, reads-on, next-token, next-stop, next-rest}
 
 wrong-value : (z : ℤ) → wrong ≡ value z → ⊥

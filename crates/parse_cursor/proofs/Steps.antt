@@ -10,11 +10,11 @@ use Rattle.text_tokens.specs.Tokens.{Token, ending, Lexeme, lexeme, lexAt}
 use Rattle.text_tokens.specs.declared.token.Kind.{Kind}
 use Rattle.text_tokens.specs.declared.token.Kind.the-variants.{Opening, Closing, Quoted, Plain, Ending}
 use Rattle.text_tokens.specs.declared.token.Span.{Span}
-use Rattle.text_tokens.specs.Answers.{Next, lexemeOf, isEnding, tokenOf as spanToken}
+use Rattle.text_tokens.specs.Internal.Answers.{Next, lexemeOf, isEnding, tokenOf as spanToken}
 use Rattle.text_tokens.proofs.Spans.{after-more}
 use Rattle.parse_cursor.specs.declared.cursor.Cursor.{Cursor}
 use Rattle.parse_cursor.specs.Readers.{Got, got, refused, Reader, after, _>>=_, _>>_, pure, stop, tokenOf, rest, take-if}
-use Rattle.parse_cursor.specs.Cursors.{reads, from}
+use Rattle.parse_cursor.specs.Internal.Cursors.{reads, from}
 
 -- ---- cursors
 

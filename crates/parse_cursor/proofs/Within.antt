@@ -5,13 +5,13 @@ use Prim.Native.Nat.{ℕ, zero, suc, _+_, _≤_}
 use native.Mathlib.Omega.{arith}
 use lib.ListN.{length, drop, length-drop}
 use Rattle.text_bytes.specs.Bytes.{Class, blank, opener, closer, quote, semicolon, letter, other, classOf, isLetter, inLine, inString, run}
-use Rattle.text_bytes.specs.Every.{Every}
+use Rattle.text_bytes.specs.Internal.Every.{Every}
 use Rattle.text_tokens.specs.Tokens.{Token, opening, closing, ending, quoted, plain, Lexeme, lexeme, tokens, lex, lexAt, bytesOf}
 use Rattle.text_bytes.proofs.Runs.{run-length}
 use Rattle.parse_cursor.specs.declared.cursor.Cursor.{Cursor}
 use Rattle.parse_cursor.specs.Readers.{Reader, _>>=_, pure, closed, Name, absent, string, optional}
-use Rattle.parse_cursor.specs.Places.{placeOf, nameOf, optionalName}
-use Rattle.parse_cursor.specs.Cursors.{reads, from}
+use Rattle.parse_cursor.specs.Internal.Places.{placeOf, nameOf, optionalName}
+use Rattle.parse_cursor.specs.Internal.Cursors.{reads, from}
 use Rattle.parse_cursor.proofs.Steps.{from-on, reads-on}
 use Rattle.parse_cursor.proofs.Many.{got-value}
 use Rattle.parse_cursor.proofs.Given.{before, GivesOn, Naming, closed-gives, string-gives, name-gives}

@@ -1,7 +1,7 @@
 // A cursor goes from reader to reader. Once one refuses, the others pass the refusal on, so that a sequence has no branches.
 ghost use mathlib.Core.Path.{_≡_};
 ghost use Rattle.parse_cursor.specs.Readers.{open-bracket, close-bracket, wordOf, openedOf};
-ghost use Rattle.parse_cursor.specs.Cursors.{reads, from};
+ghost use Rattle.parse_cursor.specs.Internal.Cursors.{reads, from};
 use crate::kinds::is_closing;
 use crate::kinds::is_opening;
 

@@ -2,9 +2,9 @@
 ghost use mathlib.Core.Path.{_≡_};
 ghost use mathlib.Core.List.{List};
 ghost use Prim.Native.Nat.{ℕ};
-ghost use Rattle.text_tokens.specs.Answers.{tokenOf};
-ghost use Rattle.parse_cursor.specs.KindNumbers.{kindNumber};
-ghost use Rattle.parse_cursor.specs.Places.{isQuoted};
+ghost use Rattle.text_tokens.specs.Internal.Answers.{tokenOf};
+ghost use Rattle.parse_cursor.specs.Internal.KindNumbers.{kindNumber};
+ghost use Rattle.parse_cursor.specs.Internal.Places.{isQuoted};
 ghost use Rattle.parse_cursor.specs.Readers.{isOpening, isClosing, isPlain, isEnd};
 use text_tokens::Kind;
 

@@ -1,7 +1,7 @@
 // Names: where their bytes begin and how many they are.
 ghost use mathlib.Core.Path.{_≡_};
-ghost use Rattle.parse_cursor.specs.Cursors.{reads, from};
-ghost use Rattle.parse_cursor.specs.Places.{stringOf, nameOf, optionalName};
+ghost use Rattle.parse_cursor.specs.Internal.Cursors.{reads, from};
+ghost use Rattle.parse_cursor.specs.Internal.Places.{stringOf, nameOf, optionalName};
 use crate::optionals::optional;
 use parse_cursor::Cursor;
 use parse_cursor::closing;

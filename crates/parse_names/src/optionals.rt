@@ -1,7 +1,7 @@
 // Chunks that may be left out.
 ghost use mathlib.Core.Path.{_≡_};
-ghost use Rattle.parse_cursor.specs.Cursors.{reads, from};
-ghost use Rattle.parse_cursor.specs.Branches.{startOf, lastOf};
+ghost use Rattle.parse_cursor.specs.Internal.Cursors.{reads, from};
+ghost use Rattle.parse_cursor.specs.Internal.Branches.{startOf, lastOf};
 use parse_cursor::Cursor;
 use parse_cursor::is_opening;
 use parse_cursor::keyword;

@@ -1,7 +1,7 @@
 // Where an item of a list begins, or the list ends.
 ghost use mathlib.Core.Path.{_≡_};
-ghost use Rattle.parse_cursor.specs.Cursors.{reads, from};
-ghost use Rattle.parse_cursor.specs.Branches.{itemOf};
+ghost use Rattle.parse_cursor.specs.Internal.Cursors.{reads, from};
+ghost use Rattle.parse_cursor.specs.Internal.Branches.{itemOf};
 use parse_cursor::Cursor;
 use parse_cursor::is_closing;
 use parse_cursor::is_opening;

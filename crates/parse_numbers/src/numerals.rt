@@ -1,12 +1,12 @@
 // INT and FLOAT of the next token, alone and in rows.
 ghost use mathlib.Core.Path.{_≡_};
-ghost use Rattle.text_tokens.specs.Answers.{lexemeOf};
-ghost use Rattle.text_numbers.specs.Answers.{numberNamed};
+ghost use Rattle.text_tokens.specs.Internal.Answers.{lexemeOf};
+ghost use Rattle.text_numbers.specs.Internal.Answers.{numberNamed};
 ghost use Rattle.text_numbers.specs.Numbers.{numberOf};
 ghost use Rattle.parse_cursor.specs.Readers.{number as numberRead};
-ghost use Rattle.parse_cursor.specs.Cursors.{reads, from};
-ghost use Rattle.parse_numbers.specs.Answers.{formNamed};
-ghost use Rattle.parse_cursor.specs.Tokens.{tokenNumber};
+ghost use Rattle.parse_cursor.specs.Internal.Cursors.{reads, from};
+ghost use Rattle.parse_numbers.specs.Internal.Answers.{formNamed};
+ghost use Rattle.parse_cursor.specs.Internal.Tokens.{tokenNumber};
 use parse_cursor::Cursor;
 use text_numbers::Parsed;
 use text_tokens::Kind;

@@ -12,13 +12,13 @@ use Rattle.text_tokens.specs.Tokens.{Lexeme, lexAt}
 use Rattle.text_numbers.specs.Numbers.{Form, INT}
 use Rattle.parse_cursor.specs.declared.cursor.Cursor.{Cursor}
 use Rattle.parse_cursor.specs.Readers.{Got, got, Reader, after, _>>=_, _>>_, pure, number, numbers, cells, open-bracket, wordOf, rowOf, openedOf, closed, many, many⁺}
-use Rattle.parse_cursor.specs.Cursors.{from, reads}
-use Rattle.table_rows.specs.Overlay.{overlayAt}
-use Rattle.parse_rows.specs.Into.{numbersInto, cellsInto, rowInto, rowTail, rowsInto, someInto}
+use Rattle.parse_cursor.specs.Internal.Cursors.{from, reads}
+use Rattle.table_rows.specs.Internal.Overlay.{overlayAt}
+use Rattle.parse_rows.specs.Internal.Into.{numbersInto, cellsInto, rowInto, rowTail, rowsInto, someInto}
 use Rattle.table_rows.specs.Flat.{flat}
 use Rattle.parse_cursor.proofs.Steps.{join, seq, from-same, from-bind, after-reads}
 use Rattle.parse_cursor.proofs.Binds.{after-after, after-same, after-when, then-bind, then-same, then-assoc, closed-map}
-use Rattle.parse_cursor.specs.Branches.{itemOf}
+use Rattle.parse_cursor.specs.Internal.Branches.{itemOf}
 use Rattle.parse_cursor.proofs.Many.{Keeps, takes-keeps, pure-keeps, bind-keeps, then-keeps, then-takes, closed-keeps, word-takes, cells-keep, row-of-takes}
 use Rattle.parse_cursor.proofs.Counts.{falls}
 use Rattle.parse_cursor.proofs.Given.{free, then-gives, closed-gives, word-leaves}

@@ -12,9 +12,9 @@ use Rattle.text_tokens.specs.Tokens.{Lexeme, lexAt}
 use Rattle.text_numbers.specs.Numbers.{Form}
 use Rattle.parse_cursor.specs.declared.cursor.Cursor.{Cursor}
 use Rattle.parse_cursor.specs.Readers.{Got, got, refused, Reader, after, _>>=_, pure, tokenOf, rest, isClosing, manyIn, many, rowOf}
-use Rattle.parse_cursor.specs.Cursors.{reads, from}
-use Rattle.table_rows.specs.Overlay.{overlayAt}
-use Rattle.parse_rows.specs.Into.{rowsInto}
+use Rattle.parse_cursor.specs.Internal.Cursors.{reads, from}
+use Rattle.table_rows.specs.Internal.Overlay.{overlayAt}
+use Rattle.parse_rows.specs.Internal.Into.{rowsInto}
 use Rattle.table_rows.specs.Flat.{flat}
 use Rattle.parse_cursor.proofs.Steps.{from-on, from-off, reads-on}
 use Rattle.parse_cursor.proofs.Many.{not-got, got-value, stop-not}

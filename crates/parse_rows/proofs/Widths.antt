@@ -8,7 +8,7 @@ use lib.ListN.{length, take, drop, length-append}
 use lib.Seq.{take-at}
 use lib.IntN.{ℤ}
 use Rattle.text_bytes.proofs.Every.{every-append}
-use Rattle.table_rows.specs.Overlay.{overlayAt}
+use Rattle.table_rows.specs.Internal.Overlay.{overlayAt}
 use Rattle.table_rows.specs.Flat.{flat}
 use Rattle.table_rows.proofs.Chains.{overlay-whole}
 use Rattle.parse_cursor.proofs.Given.{Every}

@@ -1,9 +1,9 @@
 // Numbers and rows, written to a lent table. After a refusal the table's numbers from the index on are free; those before it stay.
 ghost use mathlib.Core.Path.{_≡_};
 ghost use lib.ListN.{take};
-ghost use Rattle.parse_cursor.specs.Cursors.{reads, from};
-ghost use Rattle.parse_numbers.specs.Answers.{formNamed};
-ghost use Rattle.parse_rows.specs.Into.{numbersInto, rowInto, rowTail, rowsInto, someInto};
+ghost use Rattle.parse_cursor.specs.Internal.Cursors.{reads, from};
+ghost use Rattle.parse_numbers.specs.Internal.Answers.{formNamed};
+ghost use Rattle.parse_rows.specs.Internal.Into.{numbersInto, rowInto, rowTail, rowsInto, someInto};
 use parse_cursor::Cursor;
 use parse_cursor::closing;
 use parse_cursor::keyword;

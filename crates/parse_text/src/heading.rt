@@ -2,7 +2,7 @@
 ghost use mathlib.Core.Path.{_≡_};
 ghost use Rattle.parse_cursor.specs.Readers.{headOf, text-end};
 ghost use Rattle.parse_cursor.specs.Readers.{version as versionOf};
-ghost use Rattle.parse_cursor.specs.Cursors.{reads, from};
+ghost use Rattle.parse_cursor.specs.Internal.Cursors.{reads, from};
 use parse_cursor::Cursor;
 use parse_cursor::closing;
 use parse_cursor::is_ending;

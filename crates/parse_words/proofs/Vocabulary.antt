@@ -15,14 +15,15 @@ use Rattle.text_bytes.specs.Bytes.{bytes, same, inWord, run, part}
 use lib.IntN.{ℤ, pos}
 use Rattle.text_tokens.specs.Tokens.{Token, opening, closing, ending, quoted, plain, Lexeme, lexeme, lexAt, isKeyword}
 use Rattle.text_tokens.specs.declared.token.Span.{Span}
-use Rattle.text_tokens.specs.Answers.{Next, lexemeOf}
+use Rattle.text_tokens.specs.Internal.Answers.{Next, lexemeOf}
 use Rattle.text_bytes.proofs.Runs.{run-yes, run-no, run-take}
 use Rattle.text_numbers.proofs.Numerals.{and-true}
 use Rattle.parse_cursor.specs.declared.cursor.Cursor.{Cursor}
 use Rattle.parse_cursor.specs.Readers.{Got, got, refused, after, _>>=_, pure, stop, tokenOf, rest, isPlain, oneFrom, oneOf}
-use Rattle.parse_cursor.specs.Cursors.{reads, from}
-use Rattle.parse_cursor.specs.Fields.{Kind, hits, single, kindFrom, insideAt}
-use Rattle.parse_words.specs.Words.{onto, words, indexIn, keysOf, differs, apart, among, wordIn}
+use Rattle.parse_cursor.specs.Internal.Cursors.{reads, from}
+use Rattle.parse_cursor.specs.Fields.{Kind, kindFrom}
+use Rattle.parse_cursor.specs.Internal.Fields.{hits, single, insideAt}
+use Rattle.parse_words.specs.Internal.Words.{onto, words, indexIn, keysOf, differs, apart, among, wordIn}
 use Rattle.parse_cursor.proofs.Choices.{after-stop, one-yes, one-no, kind-miss, kind-again, kind-hit}
 use Rattle.parse_cursor.proofs.Steps.{from-on, from-off, reads-on, next-token, next-stop, next-rest, live, after-reads}
 

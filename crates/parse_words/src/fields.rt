@@ -1,7 +1,7 @@
 // Flags that must be set, where a closing bracket asks for them.
 ghost use mathlib.Core.Path.{_≡_};
-ghost use Rattle.parse_cursor.specs.Fields.{coversAll};
-ghost use Rattle.parse_cursor.specs.Cursors.{closedAt};
+ghost use Rattle.parse_cursor.specs.Internal.Fields.{coversAll};
+ghost use Rattle.parse_cursor.specs.Internal.Cursors.{closedAt};
 use parse_cursor::Cursor;
 use text_tokens::Span;
 

@@ -1,8 +1,8 @@
 // Which of some keywords a token is.
 ghost use mathlib.Core.Path.{_≡_};
-ghost use Rattle.text_tokens.specs.Answers.{lexemeOf};
-ghost use Rattle.parse_words.specs.Words.{words, indexIn, wordIn};
-ghost use Rattle.parse_cursor.specs.Cursors.{reads, from};
+ghost use Rattle.text_tokens.specs.Internal.Answers.{lexemeOf};
+ghost use Rattle.parse_words.specs.Internal.Words.{words, indexIn, wordIn};
+ghost use Rattle.parse_cursor.specs.Internal.Cursors.{reads, from};
 use parse_cursor::Cursor;
 use parse_cursor::is_plain;
 use parse_numbers::Numeric;

@@ -13,7 +13,7 @@ use Rattle.table_counts.specs.declared.counts.FigureCounts.{FigureCounts}
 use Rattle.player_spec.specs.Faces.{CornerOf}
 use Rattle.table_sections.specs.Sections.{holdsFigure}
 use Rattle.player_spec.specs.Lookups.{onlyIf, allFloat, faceSound, faceAt, ownerAt, pointAt, uvRow, uvFine, uvIn, canCorner, cornerIn}
-use Rattle.player_corners.specs.CornerRow.{rowCorner}
+use Rattle.player_corners.specs.Internal.CornerRow.{rowCorner}
 
 no-uv : (n : FigureCounts) (table : List ℤ) (u : ℤ) → isNone u ≡ true → uvIn n table u ≡ none
 unfolding uvIn

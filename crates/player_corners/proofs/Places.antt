@@ -19,7 +19,7 @@ use Rattle.table_sections.specs.Sections.{pointsBegin, ownersBegin, uvsBegin, f
 use Rattle.table_sections.proofs.Indices.{owner-place, point-place, uv-place, owners-place}
 use Rattle.player_spec.specs.Lookups.{ownerAt}
 use Rattle.player_tests.proofs.Corners.{row-is}
-use Rattle.table_sections.specs.Found.{Found}
+use Rattle.table_sections.specs.Internal.Found.{Found}
 
 module _ (n : FigureCounts) (table : List ℤ) (s : FigureSections) (f : Found n table s) (z : ℤ) (k : SFits w64 z) where
   -- the index as the code computes it

@@ -5,7 +5,7 @@ ghost use mathlib.Core.Bool.{true, _&&_};
 ghost use Rattle.table_rows.specs.References.{isRow};
 ghost use Rattle.table_rows.specs.Index.{isIndex};
 ghost use Rattle.player_spec.specs.Lookups.{allFloat, ownerAt, pointAt, uvRow};
-ghost use Rattle.table_sections.specs.Found.{Found};
+ghost use Rattle.table_sections.specs.Internal.Found.{Found};
 use player_tests::is_float;
 use table_columns::UvRow;
 use table_columns::VertexRow;

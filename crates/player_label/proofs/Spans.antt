@@ -18,7 +18,7 @@ use Rattle.table_counts.specs.declared.counts.MovementCounts.{MovementCounts}
 use Rattle.table_counts.specs.declared.counts.FigureCounts.{FigureCounts}
 use Rattle.table_sections.specs.Sections.{bonesBegin, holdsMovement, holdsFigure}
 use Rattle.table_columns.specs.Parts.{numberAt, numbersAt}
-use Rattle.table_sections.specs.Bones.{rowIf, figureBone, movementBone}
+use Rattle.table_sections.specs.Internal.Bones.{rowIf, figureBone, movementBone}
 use Rattle.player_spec.specs.Lookups.{onlyIf}
 use Rattle.table_sections.proofs.Indices.{bone-place}
 use Rattle.table_sections.proofs.Mosts.{movement-room}

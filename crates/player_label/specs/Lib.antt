@@ -1,3 +1,3 @@
 pub mod Names
 pub mod Labels
-pub mod Answers
+pub mod Internal

@@ -2,7 +2,7 @@
 ghost use mathlib.Core.Path.{_≡_};
 ghost use Rattle.player_spec.specs.Answers.{numbered};
 ghost use Rattle.player_label.specs.Labels.{labelIn, orEmpty};
-ghost use Rattle.player_label.specs.Answers.{named};
+ghost use Rattle.player_label.specs.Internal.Answers.{named};
 use crate::names::Found;
 use crate::names::figure_name;
 use crate::names::movement_name;

@@ -2,7 +2,7 @@
 ghost use mathlib.Core.Path.{_≡_};
 ghost use lib.ListN.{length};
 ghost use Rattle.player_label.specs.Names.{nameSpan, figureNamed, movementNamed};
-ghost use Rattle.player_label.specs.Answers.{found};
+ghost use Rattle.player_label.specs.Internal.Answers.{found};
 use table_counts::FigureCounts;
 use table_counts::MovementCounts;
 

@@ -13,7 +13,7 @@ use Rattle.player_spec.specs.Fractions.{Fraction}
 use Rattle.player_spec.specs.Samples.{keyFrame, keyValue, sampleFrom, sampleOf}
 use Rattle.table_sections.specs.Sections.{isClear}
 use Rattle.player_spec.specs.Lookups.{onlyIf, isFloat, valuesFine}
-use Rattle.player_samples.specs.Pass.{mayFollow, decided, orLast, passFrom, passOver}
+use Rattle.player_samples.specs.Internal.Pass.{mayFollow, decided, orLast, passFrom, passOver}
 
 -- keys without a fault
 abbrev sound : ℤ → Option ℤ → ℕ → List Key → Bool

@@ -15,8 +15,8 @@ use Rattle.player_spec.specs.Fractions.{Fraction}
 use Rattle.player_spec.specs.Samples.{keyFrame, keyValue, line}
 use Rattle.player_spec.specs.Lookups.{isFloat}
 use Rattle.player_tests.proofs.Numbers.{float-size}
-use Rattle.player_samples.specs.Pass.{mayFollow, decided, passFrom}
-use Rattle.player_samples.specs.Passing.{keyOf, knownAs, stateOf, ifFine, thenFrom, Ready}
+use Rattle.player_samples.specs.Internal.Pass.{mayFollow, decided, passFrom}
+use Rattle.player_samples.specs.Internal.Passing.{keyOf, knownAs, stateOf, ifFine, thenFrom, Ready}
 
 -- what a sound frame is
 middle : (a b c : Bool) → (a && b && c) ≡ true → b ≡ true

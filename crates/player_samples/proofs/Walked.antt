@@ -16,8 +16,8 @@ use Rattle.player_spec.specs.Fractions.{Fraction}
 use Rattle.player_spec.specs.Samples.{keyValue}
 use Rattle.table_columns.specs.Parts.{numbersAt, rowsAt}
 use Rattle.player_spec.specs.Lookups.{isFloat}
-use Rattle.player_samples.specs.Pass.{mayFollow, orLast, passFrom, passOver}
-use Rattle.player_samples.specs.Passing.{keyOf, knownAs, stateOf, ifFine, thenFrom, finished, KeyRows}
+use Rattle.player_samples.specs.Internal.Pass.{mayFollow, orLast, passFrom, passOver}
+use Rattle.player_samples.specs.Internal.Passing.{keyOf, knownAs, stateOf, ifFine, thenFrom, finished, KeyRows}
 use Rattle.table_columns.proofs.Parts.{two-at}
 use Rattle.player_tests.proofs.Numbers.{zero-is, float-size}
 

@@ -1,3 +1,2 @@
 pub mod Answers
-pub mod Pass
-pub mod Passing
+pub mod Internal

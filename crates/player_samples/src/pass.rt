@@ -6,9 +6,9 @@ ghost use mathlib.Core.Bool.{true};
 ghost use lib.IntN.{ℤ, pos};
 ghost use Rattle.tra4_text.specs.Movement.{Key};
 ghost use Rattle.tra4_text.specs.Rules.{keyFine};
-ghost use Rattle.player_samples.specs.Pass.{passFrom, passOver};
+ghost use Rattle.player_samples.specs.Internal.Pass.{passFrom, passOver};
 ghost use Rattle.table_columns.specs.Parts.{rowsAt};
-ghost use Rattle.player_samples.specs.Passing.{keyOf, stateOf, Ready, thenFrom, finished, KeyRows};
+ghost use Rattle.player_samples.specs.Internal.Passing.{keyOf, stateOf, Ready, thenFrom, finished, KeyRows};
 use crate::line::line;
 use player_tests::is_float;
 

@@ -12,7 +12,7 @@ use Rattle.table_rows.specs.References.{isNone}
 use Rattle.table_rows.specs.Index.{isIndex}
 use Rattle.table_counts.specs.declared.counts.FigureCounts.{FigureCounts}
 use Rattle.player_spec.specs.Lookups.{onlyIf, sizeFine, cornersFine, ownerAt, ownersFine, ownedCorners}
-use Rattle.player_shown.specs.Rows.{ownedIn, rowOwned}
+use Rattle.player_shown.specs.Internal.Rows.{ownedIn, rowOwned}
 
 module _ (n : FigureCounts) (table : List ℤ) where
   -- what the corners left settle, where those before have all an owner, or not

@@ -19,7 +19,7 @@ use Rattle.player_spec.specs.Faces.{lastFlag}
 use Rattle.table_sections.specs.Sections.{isClear, holdsMovement, holdsFigure}
 use Rattle.table_columns.specs.Parts.{numberAt}
 use Rattle.player_spec.specs.Lookups.{onlyIf, isAsked, sizeFine, cornersFine, linesFine, faceAt, ownersFine, ownedCorners, patternRows, patternsFine, canShow, groupFlag, shownIn}
-use Rattle.player_shown.specs.Rows.{rowOwned, rowShown, bothShown}
+use Rattle.player_shown.specs.Internal.Rows.{rowOwned, rowShown, bothShown}
 use Rattle.player_spec.specs.Answers.{numbered}
 use Rattle.player_shown.specs.Answers.{showed, visible}
 

@@ -7,7 +7,7 @@ ghost use lib.IntN.{pos, natAbs};
 ghost use lib.ListN.{length};
 ghost use Rattle.player_shown.specs.Answers.{visible};
 ghost use Rattle.table_columns.specs.Parts.{rowsAt};
-ghost use Rattle.player_shown.specs.Flags.{lineFine, nextFlag, flagOver};
+ghost use Rattle.player_shown.specs.Internal.Flags.{lineFine, nextFlag, flagOver};
 use table_counts::PATTERN_WIDTH;
 
 // Whether it is shown, or refusal 21.

@@ -9,7 +9,7 @@ use Rattle.table_counts.specs.declared.counts.FigureCounts.{FigureCounts}
 use Rattle.table_columns.specs.Parts.{numberAt}
 use Rattle.table_columns.proofs.Rows.{part-rest}
 use Rattle.table_sections.specs.declared.sections.FigureSections.{FigureSections}
-use Rattle.table_sections.specs.Found.{Found}
+use Rattle.table_sections.specs.Internal.Found.{Found}
 use Rattle.table_sections.proofs.Founds.{owners-are}
 use Rattle.player_spec.specs.Lookups.{ownerAt}
 

@@ -8,7 +8,7 @@ use borrow.Author.Tests.{le-leb, lt-leb, leb-true}
 use lib.ListN.{length, drop, getD, drop-of-length-le}
 use lib.Seq.{drop-cons}
 use Rattle.refusal.specs.Faults.{Fault, clear, fault}
-use Rattle.refusal.specs.Answers.{refusal}
+use Rattle.refusal.specs.Internal.Answers.{refusal}
 use Rattle.refusal.specs.declared.checked.Checked.{Checked}
 use Rattle.refusal.specs.declared.checked.Checked.the-variants.{Clear, Refused}
 use Rattle.refusal.proofs.Faults.{fault-not-clear}

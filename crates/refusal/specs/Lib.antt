@@ -1,5 +1,5 @@
-pub mod Answers
 pub mod Faults
 pub mod FirstBad
 pub mod Outcomes
 pub mod Rules
+pub mod Internal

@@ -1,6 +1,6 @@
 // Rule 8: how many rows each list has.
 ghost use mathlib.Core.Path.{_≡_};
-ghost use Rattle.refusal.specs.Answers.{refusal};
+ghost use Rattle.refusal.specs.Internal.Answers.{refusal};
 ghost use Rattle.refusal.specs.Rules.{tooMany};
 use crate::checked::Checked;
 

@@ -5,7 +5,7 @@ use Prim.Native.Nat.{ℕ, zero, suc, _+_, _-_, _≤_, min}
 use native.Mathlib.Omega.{arith}
 use lib.IntN.{ℤ}
 use lib.ListN.{length, take, drop, length-drop, length-append, take-append-drop}
-use Rattle.table_rows.specs.Overlay.{overlay, overlayAt}
+use Rattle.table_rows.specs.Internal.Overlay.{overlay, overlayAt}
 use Rattle.table_rows.proofs.Tables.{overlayAt-append, overlayAt-length, overlayAt-past, overlayAt-same}
 
 -- a list, and then another from the index after it

@@ -9,7 +9,7 @@ use borrow.Author.Tests.{leb-true, leb-false}
 use lib.Dec.{leb}
 use lib.IntN.{ℤ}
 use lib.ListN.{length, set, take, drop}
-use Rattle.table_rows.specs.Overlay.{overlay, overlayAt}
+use Rattle.table_rows.specs.Internal.Overlay.{overlay, overlayAt}
 
 overlay-length : (zs t : List ℤ) → length (overlay zs t) ≡ length t
 unfolding overlay

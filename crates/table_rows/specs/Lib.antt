@@ -1,4 +1,4 @@
 pub mod Flat
 pub mod Index
-pub mod Overlay
 pub mod References
+pub mod Internal

@@ -2,7 +2,7 @@
 ghost use mathlib.Core.Path.{_≡_};
 ghost use Prim.Native.Nat.{_+_, min};
 ghost use lib.ListN.{length};
-ghost use Rattle.table_rows.specs.Overlay.{overlayAt};
+ghost use Rattle.table_rows.specs.Internal.Overlay.{overlayAt};
 
 // Sets a row's numbers down from index `at` on; those past the table's end are dropped.
 pub fn store(out: &mut [i64], at: usize, row: &[i64])

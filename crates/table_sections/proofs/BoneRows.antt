@@ -9,7 +9,7 @@ use Rattle.table_counts.specs.declared.counts.MovementCounts.{MovementCounts}
 use Rattle.table_counts.specs.declared.counts.FigureCounts.{FigureCounts}
 use Rattle.table_sections.specs.Sections.{holdsMovement, bonesBegin, holdsFigure}
 use Rattle.table_columns.specs.Parts.{numbersAt}
-use Rattle.table_sections.specs.Bones.{rowIf, figureBone, movementBone}
+use Rattle.table_sections.specs.Internal.Bones.{rowIf, figureBone, movementBone}
 
 module _ (n : FigureCounts) (table : List ℤ) (bone : ℕ) where
   pub no-figure : holdsFigure n table ≡ false → [] ≡ figureBone n table bone

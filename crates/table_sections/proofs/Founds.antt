@@ -7,7 +7,7 @@ use lib.ListN.{length}
 use Rattle.table_counts.specs.declared.counts.FigureCounts.{FigureCounts}
 use Rattle.table_sections.specs.declared.sections.FigureSections.{FigureSections}
 use Rattle.table_sections.specs.Sections.{ownersBegin, facesBegin, figureSections, figureIn}
-use Rattle.table_sections.specs.Found.{Found}
+use Rattle.table_sections.specs.Internal.Found.{Found}
 use Rattle.table_sections.proofs.Mosts.{figure-held, figure-found}
 use Rattle.table_sections.proofs.Indices.{owners-place}
 

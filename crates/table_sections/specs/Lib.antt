@@ -1,3 +1,2 @@
-pub mod Bones
 pub mod Sections
-pub mod Found
+pub mod Internal

@@ -1,6 +1,6 @@
 // A bone's row: nothing where the table does not hold what its counts say, or has no such row.
 ghost use mathlib.Core.Path.{_≡_};
-ghost use Rattle.table_sections.specs.Bones.{figureBone, movementBone};
+ghost use Rattle.table_sections.specs.Internal.Bones.{figureBone, movementBone};
 use crate::sections::figure_in;
 use crate::sections::movement_in;
 use table_counts::BONE_WIDTH;

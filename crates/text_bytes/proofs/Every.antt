@@ -3,7 +3,7 @@ use mathlib.Core.List.{List, [], _∷_, _++_}
 use Prim.Native.Nat.{ℕ, zero, suc, _<_}
 use native.Mathlib.Omega.{arith}
 use lib.ListN.{length, getD}
-use Rattle.text_bytes.specs.Every.{Every}
+use Rattle.text_bytes.specs.Internal.Every.{Every}
 
 -- by what follows of each
 pub every-as : {A : Type 0} {P S : A → Type 0} → ((a : A) → P a → S a) → (l : List A) → Every P l → Every S l

@@ -1,3 +1,2 @@
-pub mod Answers
 pub mod Bytes
-pub mod Every
+pub mod Internal

@@ -4,7 +4,7 @@ ghost use Prim.Native.Nat.{_+_};
 ghost use lib.ListN.{length, drop};
 ghost use Rattle.text_bytes.specs.Bytes.{isBlank, between, isLetter, classOf, run};
 ghost use Rattle.text_bytes.specs.Bytes.{part as partOf, same as sameBytes};
-ghost use Rattle.text_bytes.specs.Answers.{classNamed, testNamed};
+ghost use Rattle.text_bytes.specs.Internal.Answers.{classNamed, testNamed};
 
 // What a byte is outside strings and comments.
 pub enum Class {

@@ -10,9 +10,9 @@ use lib.Dec.{leb, ltb, eqb}
 use lib.ListN.{length, drop, length-drop}
 use lib.Seq.{drop-drop}
 use Rattle.text_bytes.specs.Bytes.{Class, blank, opener, closer, quote, semicolon, letter, other, classOf, isBlank, between, isLetter, inLine, inString, isContent, run, part}
-use Rattle.text_bytes.specs.Every.{Every}
+use Rattle.text_bytes.specs.Internal.Every.{Every}
 use Rattle.text_tokens.specs.Tokens.{lexeme, tokens, lex}
-use Rattle.text_check.specs.Strings.{StringAt, Stands}
+use Rattle.text_check.specs.Internal.Strings.{StringAt, Stands}
 use Rattle.text_check.specs.Faults.{outside, string, faultIn, Format, marked, textFault}
 use Rattle.refusal.specs.Faults.{clear}
 use Rattle.text_bytes.proofs.Runs.{run-yes, run-no, run-take}

@@ -1,3 +1,2 @@
-pub mod Answers
 pub mod Faults
-pub mod Strings
+pub mod Internal

@@ -7,7 +7,7 @@ ghost use lib.ListN.{length};
 ghost use Rattle.text_bytes.specs.Bytes.{part};
 ghost use Rattle.text_numbers.specs.Numbers.{numberOf, INT, FLOAT, floatOf, allDigits, negative, signed, intMost};
 ghost use Rattle.text_numbers.specs.Numbers.{decimal as decimalOf};
-ghost use Rattle.text_numbers.specs.Answers.{numberNamed, Leads};
+ghost use Rattle.text_numbers.specs.Internal.Answers.{numberNamed, Leads};
 use text_bytes::Run;
 use text_bytes::run_end;
 

@@ -14,7 +14,7 @@ use Rattle.text_tokens.specs.Tokens.{Token, opening, closing, ending, qu
 use Rattle.text_tokens.specs.declared.token.Kind.{Kind}
 use Rattle.text_tokens.specs.declared.token.Kind.the-variants.{Ending}
 use Rattle.text_tokens.specs.declared.token.Span.{Span}
-use Rattle.text_tokens.specs.Answers.{Next, spanOf, spanAt, kindOf, tokenOf, isEnding, heldBytes, lexemeOf, after}
+use Rattle.text_tokens.specs.Internal.Answers.{Next, spanOf, spanAt, kindOf, tokenOf, isEnding, heldBytes, lexemeOf, after}
 use Rattle.text_bytes.proofs.Runs.{run-take, run-within}
 use Rattle.text_tokens.proofs.Lexing.{lexAt-end, lexAt-opening, lexAt-closing, lexAt-quoted, lexAt-plain}
 

@@ -4,7 +4,7 @@ ghost use Prim.Native.Nat.{_<_};
 ghost use lib.ListN.{length, getD};
 ghost use Rattle.text_bytes.specs.Bytes.{classOf, quote, letter};
 ghost use Rattle.text_tokens.specs.Tokens.{isKeyword};
-ghost use Rattle.text_tokens.specs.Answers.{Next, lexemeOf};
+ghost use Rattle.text_tokens.specs.Internal.Answers.{Next, lexemeOf};
 use text_bytes::Class;
 use text_bytes::Run;
 use text_bytes::class_of;

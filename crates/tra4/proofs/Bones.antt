@@ -10,15 +10,15 @@ use lib.Dec.{leb}
 use lib.IntN.{ℤ}
 use lib.ListN.{length, length-append}
 use Rattle.table_rows.specs.Flat.{flat}
-use Rattle.table_rows.specs.Overlay.{overlayAt}
-use Rattle.parse_rows.specs.Folds.{fold}
+use Rattle.table_rows.specs.Internal.Overlay.{overlayAt}
+use Rattle.parse_rows.specs.Internal.Folds.{fold}
 use Rattle.parse_cursor.proofs.Given.{Every}
 use Rattle.table_rows.proofs.Tables.{overlayAt-none, overlayAt-append}
 use Rattle.tra4_text.specs.Movement.{Bone}
 use Rattle.tra4_text.specs.Rules.{allKeys, channelsOf}
 use Rattle.tra4_text.specs.Layout.{boneRow, boneRows}
-use Rattle.tra4_bones.specs.Into.{boneStep}
-use Rattle.tra4_bone.specs.Into.{Kept, keyCount, boneKept}
+use Rattle.tra4_bones.specs.Internal.Into.{boneStep}
+use Rattle.tra4_bone.specs.Internal.Into.{Kept, keyCount, boneKept}
 use Rattle.parse_rows.proofs.Widths.{Wide, flat-append, flat-length}
 use Rattle.tra4_text.proofs.Whole.{WholeBone}
 use Rattle.tra4_text.proofs.Layouts.{keys-append, keys-wide, row-length}

@@ -11,11 +11,11 @@ use lib.IntN.{ℤ, pos}
 use lib.ListN.{length, take}
 use Rattle.refusal.specs.Faults.{clear, fault}
 use Rattle.text_tokens.specs.Tokens.{lex}
-use Rattle.parse_cursor.specs.Places.{placeOf}
+use Rattle.parse_cursor.specs.Internal.Places.{placeOf}
 use Rattle.table_rows.specs.Flat.{flat}
-use Rattle.parse_cursor.specs.Cursors.{reads}
-use Rattle.table_rows.specs.Overlay.{overlayAt}
-use Rattle.parse_rows.specs.Folds.{fold}
+use Rattle.parse_cursor.specs.Internal.Cursors.{reads}
+use Rattle.table_rows.specs.Internal.Overlay.{overlayAt}
+use Rattle.parse_rows.specs.Internal.Folds.{fold}
 use Rattle.refusal.specs.Rules.{tooMany}
 use Rattle.refusal.specs.Outcomes.{rejected, accepted, fitted, laid}
 use Rattle.parse_text.specs.Texts.{shaped}
@@ -27,14 +27,15 @@ use Rattle.tra4_text.specs.Movement.{Bone, Movement}
 use Rattle.tra4_text.specs.Grammar.{movement}
 use Rattle.tra4_text.specs.Rules.{allKeys, channelsOf, keyRows, countsOf, movementCounts, movementFault}
 use Rattle.tra4_text.specs.Layout.{nameNumbers, boneRows, layoutOf}
-use Rattle.tra4_bones.specs.Into.{boneStep}
-use Rattle.tra4_bone.specs.Into.{Kept, kept}
+use Rattle.tra4_bones.specs.Internal.Into.{boneStep}
+use Rattle.tra4_bone.specs.Internal.Into.{Kept, kept}
 use Rattle.tra4_parse.specs.declared.shape.Parsed.{Parsed}
-use Rattle.tra4_parse.specs.Parse.{MovementValue, movementValue, movementInto}
-use Rattle.tra4_rules.specs.Order.{tablesFault}
+use Rattle.tra4_parse.specs.Internal.Parse.{MovementValue, movementValue, movementInto}
+use Rattle.tra4_rules.specs.Internal.Order.{tablesFault}
 use Rattle.tra4_rules.proofs.Laid.{Tenfold, inTables, keys-beyond, tables-over, tables-within, tables-laid}
-use Rattle.tra4.specs.Parse.{valueOf}
-use Rattle.tra4.specs.Answers.{answerOf, totalOf, countsAnswer, downAnswer, downTable, partsOf, Fits, keyCount, rulesFault, Blank}
+use Rattle.tra4.specs.Internal.Parse.{valueOf}
+use Rattle.tra4.specs.Answers.{answerOf}
+use Rattle.tra4.specs.Internal.Answers.{totalOf, countsAnswer, downAnswer, downTable, partsOf, Fits, keyCount, rulesFault, Blank}
 use Rattle.tra4_text.proofs.Names.{movement-placed}
 use Rattle.tra4_text.proofs.Whole.{WholeBone, WholeMovement, movement-whole}
 use Rattle.tra4_text.proofs.Layouts.{all-wide, rows-wide, rows-count, layout-length}

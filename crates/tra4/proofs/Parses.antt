@@ -9,22 +9,22 @@ use Rattle.text_numbers.specs.Numbers.{INT}
 use Rattle.text_tokens.specs.Tokens.{Lexeme, lex, lexAt}
 use Rattle.parse_cursor.specs.declared.cursor.Cursor.{Cursor}
 use Rattle.parse_cursor.specs.Readers.{Name, absent, Got, got, refused, Reader, after, _>>=_, _>>_, pure, head, opened, closed, string, number, optional, trailing, many, close-bracket, text-end}
-use Rattle.parse_cursor.specs.Places.{placeOf, optionalName}
-use Rattle.parse_cursor.specs.Cursors.{reads}
-use Rattle.table_rows.specs.Overlay.{overlayAt}
+use Rattle.parse_cursor.specs.Internal.Places.{placeOf, optionalName}
+use Rattle.parse_cursor.specs.Internal.Cursors.{reads}
+use Rattle.table_rows.specs.Internal.Overlay.{overlayAt}
 use Rattle.table_rows.specs.Flat.{flat}
-use Rattle.parse_rows.specs.Folds.{fold}
+use Rattle.parse_rows.specs.Internal.Folds.{fold}
 use Rattle.parse_cursor.proofs.Steps.{from-on, from-off}
 use Rattle.parse_cursor.proofs.Many.{not-got, got-value}
 use Rattle.parse_cursor.proofs.Given.{before}
 use Rattle.parse_cursor.proofs.Sequences.{into-then, into-bind}
 use Rattle.tra4_text.specs.Movement.{Bone, Pattern, Movement}
 use Rattle.tra4_text.specs.Grammar.{bone, pattern, repeated⁺, movement}
-use Rattle.tra4_bones.specs.Into.{boneStep, bonesInto}
-use Rattle.tra4_bone.specs.Into.{Kept}
-use Rattle.tra4_parse.specs.Patterns.{patternsInto}
-use Rattle.tra4_parse.specs.Parse.{MovementValue, movementValue, movementInto}
-use Rattle.tra4.specs.Parse.{valueOf}
+use Rattle.tra4_bones.specs.Internal.Into.{boneStep, bonesInto}
+use Rattle.tra4_bone.specs.Internal.Into.{Kept}
+use Rattle.tra4_parse.specs.Internal.Patterns.{patternsInto}
+use Rattle.tra4_parse.specs.Internal.Parse.{MovementValue, movementValue, movementInto}
+use Rattle.tra4.specs.Internal.Parse.{valueOf}
 
 pure-after : {A : Type 0} (g : Got A) → after g (λ a. pure a) ≡ g
 unfolding after pure

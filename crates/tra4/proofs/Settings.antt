@@ -11,13 +11,14 @@ use lib.IntN.{ℤ, pos}
 use native.Mathlib.Omega.{arith}
 use lib.ListN.{length, take, length-take}
 use Rattle.text_numbers.proofs.Signed.{bits-pos}
-use Rattle.table_rows.specs.Overlay.{overlayAt}
+use Rattle.table_rows.specs.Internal.Overlay.{overlayAt}
 use Rattle.refusal.specs.Outcomes.{Outcome, rejected, accepted, fitted, laid}
 use Rattle.parse_text.proofs.Outcomes.{fitted-room, fitted-short, fitted-rejected, laid-rejected, laid-accepted}
 use Rattle.tra4_text.specs.Movement.{Movement}
 use Rattle.tra4_text.specs.Layout.{layoutOf}
 use Rattle.tra4_parse.specs.declared.shape.Parsed.{Parsed}
-use Rattle.tra4.specs.Answers.{totalOf, countsAnswer, refusedWith, answerOf, downAnswer, downTable}
+use Rattle.tra4.specs.Answers.{refusedWith, answerOf}
+use Rattle.tra4.specs.Internal.Answers.{totalOf, countsAnswer, downAnswer, downTable}
 
 -- a part that is lent
 pub part-length : (n : ℕ) (l : List ℤ) → n ≤ length l → n ≡ length (take n l)

@@ -1,2 +1,2 @@
-pub mod Parse
 pub mod Answers
+pub mod Internal

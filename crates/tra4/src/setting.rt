@@ -1,7 +1,8 @@
 // A parsed movement's lists set down in the lent table.
 ghost use mathlib.Core.Path.{_≡_};
 ghost use lib.ListN.{length};
-ghost use Rattle.tra4.specs.Answers.{Fits, refusedWith, downAnswer, downTable, partsOf};
+ghost use Rattle.tra4.specs.Answers.{refusedWith};
+ghost use Rattle.tra4.specs.Internal.Answers.{Fits, downAnswer, downTable, partsOf};
 use table_counts::MovementCounts;
 use table_counts::no_movement;
 use table_rows::put;

@@ -12,9 +12,9 @@ use Rattle.parse_rows.proofs.Widths.{flat-append}
 use Rattle.tra4_text.specs.Movement.{Channel}
 use Rattle.tra4_text.specs.Rules.{allKeys}
 use Rattle.tra4_text.specs.Layout.{keyRanges}
-use Rattle.tra4_channels.specs.Held.{Stored, Held}
+use Rattle.tra4_channels.specs.Internal.Held.{Stored, Held}
 use Rattle.tra4_bone.proofs.Whole.{keys-read-some}
-use Rattle.tra4_bone.specs.Laying.{rangeRows, gathered, rangesTotal, renumbered, RangeIn, Within}
+use Rattle.tra4_bone.specs.Internal.Laying.{rangeRows, gathered, rangesTotal, renumbered, RangeIn, Within}
 use Rattle.tra4_bone.proofs.Ranges.{natural-is}
 
 -- ---- one channel

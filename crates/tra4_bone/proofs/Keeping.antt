@@ -11,10 +11,10 @@ use lib.ListN.{length}
 use Rattle.text_tokens.specs.Tokens.{Lexeme, lexAt}
 use Rattle.parse_cursor.specs.declared.cursor.Cursor.{Cursor}
 use Rattle.parse_cursor.specs.Readers.{got, Reader, after, _>>=_, pure, absent, closed, string, optional}
-use Rattle.parse_cursor.specs.Places.{placeOf, optionalName}
+use Rattle.parse_cursor.specs.Internal.Places.{placeOf, optionalName}
 use Rattle.parse_cursor.specs.Fields.{fields}
-use Rattle.parse_cursor.specs.Cursors.{from, reads}
-use Rattle.table_rows.specs.Overlay.{overlayAt}
+use Rattle.parse_cursor.specs.Internal.Cursors.{from, reads}
+use Rattle.table_rows.specs.Internal.Overlay.{overlayAt}
 use Rattle.table_rows.specs.Flat.{flat}
 use Rattle.parse_cursor.proofs.Steps.{join, from-on, from-same, passed}
 use Rattle.parse_cursor.proofs.Binds.{after-after, after-same}
@@ -23,9 +23,9 @@ use Rattle.tra4_text.specs.Movement.{Channel, Bone}
 use Rattle.tra4_text.specs.Grammar.{channelKinds, keysIn, bone}
 use Rattle.tra4_text.specs.Rules.{allKeys}
 use Rattle.tra4_text.specs.Layout.{nameNumbers, keyRanges, boneRow}
-use Rattle.tra4_channels.specs.Held.{Held, AllHeld}
-use Rattle.tra4_bone.specs.Laying.{gathered, renumbered}
-use Rattle.tra4_bone.specs.Into.{Kept, kept, keyCount, boneKept, keptBy, boneInto}
+use Rattle.tra4_channels.specs.Internal.Held.{Held, AllHeld}
+use Rattle.tra4_bone.specs.Internal.Laying.{gathered, renumbered}
+use Rattle.tra4_bone.specs.Internal.Into.{Kept, kept, keyCount, boneKept, keptBy, boneInto}
 use Rattle.tra4_bone.proofs.Whole.{AllRead, read-all, keys-in-some}
 use Rattle.tra4_bone.proofs.Gathered.{held-ranged, held-count, held-over}
 

@@ -11,9 +11,9 @@ use lib.Seq.{drop-cons, take-suc, take-all, take-suc-set, drop-set-lt, getD-set-
 use mir.Syntax.{w64}
 use mir.Val.{Fits, SFits, toZ, ofZ}
 use mir.Facts.{toZ-ofZ, fits-natAbs}
-use Rattle.table_rows.specs.Overlay.{overlayAt}
+use Rattle.table_rows.specs.Internal.Overlay.{overlayAt}
 use Rattle.table_rows.proofs.Tables.{overlayAt-none, overlayAt-append, overlayAt-length}
-use Rattle.tra4_bone.specs.Laying.{rangeRows, gathered, rangesTotal, renumbered, RangeIn, Within}
+use Rattle.tra4_bone.specs.Internal.Laying.{rangeRows, gathered, rangesTotal, renumbered, RangeIn, Within}
 
 -- a natural number is what a cast gives
 pub natural-is : (z : ℤ) (n : ℕ) → z ≡ pos n → natAbs z ≡ n

@@ -9,7 +9,7 @@ use native.Mathlib.Omega.{arith}
 use lib.ListN.{length, getD}
 use Rattle.text_tokens.specs.Tokens.{Lexeme}
 use Rattle.parse_cursor.specs.declared.cursor.Cursor.{Cursor}
-use Rattle.parse_cursor.specs.Cursors.{reads}
+use Rattle.parse_cursor.specs.Internal.Cursors.{reads}
 use Rattle.parse_cursor.specs.Fields.{kind, isSome, complete, fields}
 use Rattle.parse_cursor.proofs.Behind.{given}
 use Rattle.parse_cursor.proofs.Given.{GivesOn, AnyToken, gives-as, Every}
@@ -17,7 +17,7 @@ use Rattle.parse_cursor.proofs.FieldFits.{AllGive, AllFit, Whole, fields-fit}
 use Rattle.tra4_text.specs.Movement.{Channel}
 use Rattle.tra4_text.specs.Grammar.{channel, channelNames, channelKinds, keysIn}
 use Rattle.tra4_text.specs.Rules.{allKeys}
-use Rattle.tra4_channels.specs.Held.{keysRead}
+use Rattle.tra4_channels.specs.Internal.Held.{keysRead}
 use Rattle.tra4_channels.proofs.Counts.{Pairs, keys-give}
 
 -- the channels behind fields that have all been read

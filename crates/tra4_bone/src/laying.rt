@@ -3,8 +3,8 @@ ghost use mathlib.Core.Path.{_≡_};
 ghost use Prim.Native.Nat.{_+_, _*_, _≤_, _<_};
 ghost use lib.IntN.{pos, natAbs};
 ghost use lib.ListN.{length, getD, set};
-ghost use Rattle.table_rows.specs.Overlay.{overlayAt};
-ghost use Rattle.tra4_bone.specs.Laying.{rangeRows, gathered, rangesTotal, renumbered, RangeIn, Within};
+ghost use Rattle.table_rows.specs.Internal.Overlay.{overlayAt};
+ghost use Rattle.tra4_bone.specs.Internal.Laying.{rangeRows, gathered, rangesTotal, renumbered, RangeIn, Within};
 use table_rows::store;
 
 // Copies the key rows of ten ranges (first row, count) to a table, one after the other from a row on; the ranges

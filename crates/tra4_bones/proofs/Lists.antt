@@ -13,8 +13,8 @@ use Rattle.text_numbers.specs.Numbers.{FLOAT}
 use Rattle.text_tokens.specs.Tokens.{Lexeme}
 use Rattle.parse_cursor.specs.declared.cursor.Cursor.{Cursor}
 use Rattle.parse_cursor.specs.Readers.{Got, got, Reader, after, _>>=_, _>>_, pure, opened, openedOf, absent}
-use Rattle.parse_cursor.specs.Cursors.{from, reads}
-use Rattle.parse_rows.specs.Folds.{fold, stepped}
+use Rattle.parse_cursor.specs.Internal.Cursors.{from, reads}
+use Rattle.parse_rows.specs.Internal.Folds.{fold, stepped}
 use Rattle.parse_cursor.specs.Fields.{kind}
 use Rattle.parse_cursor.proofs.Steps.{join, seq, from-same}
 use Rattle.parse_cursor.proofs.Binds.{after-after, after-same}
@@ -24,8 +24,8 @@ use Rattle.parse_cursor.proofs.FieldKeeps.{AllKeep, fields-keeps}
 use Rattle.tra4_text.specs.Movement.{Bone}
 use Rattle.tra4_text.specs.Grammar.{key, channel, channelNames, channelKinds, keysIn, bone, repeated, repeated⁺}
 use Rattle.tra4_text.specs.Layout.{boneRow}
-use Rattle.tra4_bones.specs.Into.{boneStep, moreInto, bonesInto}
-use Rattle.tra4_bone.specs.Into.{Kept, kept, keyCount, boneKept, boneInto}
+use Rattle.tra4_bones.specs.Internal.Into.{boneStep, moreInto, bonesInto}
+use Rattle.tra4_bone.specs.Internal.Into.{Kept, kept, keyCount, boneKept, boneInto}
 
 -- ---- a bone takes no token back
 

@@ -10,9 +10,9 @@ use Rattle.text_bytes.specs.Bytes.{bytes}
 use Rattle.text_tokens.specs.Tokens.{Lexeme, lexAt}
 use Rattle.parse_cursor.specs.declared.cursor.Cursor.{Cursor}
 use Rattle.parse_cursor.specs.Readers.{Got, got, Reader, after, _>>=_, _>>_, pure, tokenOf, rest, isOpening, starts}
-use Rattle.parse_cursor.specs.Cursors.{from, reads}
-use Rattle.parse_cursor.specs.Branches.{startOf}
-use Rattle.parse_rows.specs.Folds.{fold, stepped}
+use Rattle.parse_cursor.specs.Internal.Cursors.{from, reads}
+use Rattle.parse_cursor.specs.Internal.Branches.{startOf}
+use Rattle.parse_rows.specs.Internal.Folds.{fold, stepped}
 use Rattle.parse_cursor.proofs.Steps.{from-on, reads-on, from-same, from-bind, after-reads, passed}
 use Rattle.parse_cursor.proofs.Binds.{after-after, after-same}
 use Rattle.parse_cursor.proofs.Counts.{alive, short}

@@ -2,11 +2,11 @@
 ghost use mathlib.Core.Path.{_≡_};
 ghost use Prim.Native.Nat.{_+_, _*_, _^_, _<_, min};
 ghost use lib.ListN.{length};
-ghost use Rattle.parse_cursor.specs.Cursors.{reads, from};
-ghost use Rattle.parse_rows.specs.Folds.{stepped};
+ghost use Rattle.parse_cursor.specs.Internal.Cursors.{reads, from};
+ghost use Rattle.parse_rows.specs.Internal.Folds.{stepped};
 ghost use Rattle.tra4_text.specs.Grammar.{bone as boneRead};
-ghost use Rattle.tra4_bones.specs.Into.{boneStep, moreInto, bonesInto};
-ghost use Rattle.tra4_bone.specs.Into.{kept};
+ghost use Rattle.tra4_bones.specs.Internal.Into.{boneStep, moreInto, bonesInto};
+ghost use Rattle.tra4_bone.specs.Internal.Into.{kept};
 use parse_cursor::Cursor;
 use tra4_bone::bone_tail;
 use tra4_channels::Keyed;

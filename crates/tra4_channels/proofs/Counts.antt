@@ -7,7 +7,8 @@ use Prim.Native.String.{String}
 use native.Mathlib.Omega.{arith}
 use lib.ListN.{length, getD, set, length-append}
 use Rattle.parse_cursor.specs.Readers.{many⁺}
-use Rattle.parse_cursor.specs.Fields.{kind, insideAt}
+use Rattle.parse_cursor.specs.Fields.{kind}
+use Rattle.parse_cursor.specs.Internal.Fields.{insideAt}
 use Rattle.table_rows.specs.Flat.{flat}
 use Rattle.parse_cursor.proofs.Given.{GivesOn, AnyToken, gives-as}
 use Rattle.parse_rows.proofs.Widths.{Wide, flat-length}
@@ -15,7 +16,7 @@ use Rattle.tra4_text.specs.Movement.{Channel}
 use Rattle.tra4_text.specs.Grammar.{key, channel, channelNames, channelKinds, keysIn}
 use Rattle.tra4_text.specs.Rules.{allKeys}
 use Rattle.tra4_text.proofs.Whole.{channel-gives}
-use Rattle.tra4_channels.specs.Held.{keysRead}
+use Rattle.tra4_channels.specs.Internal.Held.{keysRead}
 
 -- ---- keys are two numbers wide
 

@@ -11,12 +11,12 @@ use lib.IntN.{ℤ, pos}
 use lib.ListN.{length, getD, set, take, drop, length-set}
 use lib.Seq.{getD-set-same, getD-set-other}
 use Rattle.parse_cursor.specs.Fields.{isSome}
-use Rattle.table_rows.specs.Overlay.{overlayAt}
+use Rattle.table_rows.specs.Internal.Overlay.{overlayAt}
 use Rattle.table_rows.specs.Flat.{flat}
 use Rattle.parse_cursor.proofs.FieldFlags.{flags-set}
 use Rattle.table_rows.proofs.Tables.{overlayAt-length, overlayAt-part, overlayAt-below}
 use Rattle.tra4_text.specs.Movement.{Channel}
-use Rattle.tra4_channels.specs.Held.{keysRead, Stored, Held}
+use Rattle.tra4_channels.specs.Internal.Held.{keysRead, Stored, Held}
 use Rattle.tra4_channels.proofs.Counts.{Pairs, flat-pairs, keys-set}
 
 some-same : {A : Type 0} (a b : A) → some a ≡ some b → a ≡ b

@@ -12,15 +12,16 @@ use Rattle.text_bytes.specs.Bytes.{bytes, same, inWord}
 use Rattle.text_numbers.specs.Numbers.{FLOAT}
 use Rattle.text_tokens.specs.Tokens.{lexAt}
 use Rattle.text_tokens.specs.declared.token.Span.{Span}
-use Rattle.text_tokens.specs.Answers.{Next, lexemeOf}
+use Rattle.text_tokens.specs.Internal.Answers.{Next, lexemeOf}
 use Rattle.parse_cursor.specs.declared.cursor.Cursor.{Cursor}
 use Rattle.parse_cursor.specs.Readers.{_>>=_, many⁺}
-use Rattle.parse_cursor.specs.Cursors.{reads, from}
-use Rattle.table_rows.specs.Overlay.{overlayAt}
-use Rattle.parse_cursor.specs.Fields.{kind, insideAt}
-use Rattle.parse_rows.specs.Into.{someInto}
+use Rattle.parse_cursor.specs.Internal.Cursors.{reads, from}
+use Rattle.table_rows.specs.Internal.Overlay.{overlayAt}
+use Rattle.parse_cursor.specs.Fields.{kind}
+use Rattle.parse_cursor.specs.Internal.Fields.{insideAt}
+use Rattle.parse_rows.specs.Internal.Into.{someInto}
 use Rattle.table_rows.specs.Flat.{flat}
-use Rattle.parse_words.specs.Words.{words, onto, keysOf, apart, differs, indexIn}
+use Rattle.parse_words.specs.Internal.Words.{words, onto, keysOf, apart, differs, indexIn}
 use Rattle.parse_cursor.proofs.Steps.{from-on}
 use Rattle.parse_cursor.proofs.Behind.{Behind, behind, given}
 use Rattle.parse_cursor.proofs.FieldFlags.{flag-unread, flag-read}
@@ -28,7 +29,7 @@ use Rattle.parse_words.proofs.Vocabulary.{chunk-other, chunk-again, chunk-took}
 use Rattle.table_rows.proofs.Tables.{overlayAt-cons, overlayAt-none}
 use Rattle.tra4_text.specs.Movement.{Channel}
 use Rattle.tra4_text.specs.Grammar.{key, channel, channelNames, channelKinds}
-use Rattle.tra4_channels.specs.Held.{KeysRead, ChunkRead}
+use Rattle.tra4_channels.specs.Internal.Held.{KeysRead, ChunkRead}
 use Rattle.tra4_channels.proofs.Counts.{Pairs, keys-give, inside-is}
 use Rattle.tra4_channels.proofs.Holding.{held-over, held-many, held-more}
 

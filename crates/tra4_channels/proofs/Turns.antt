@@ -9,18 +9,19 @@ use lib.IntN.{ℤ}
 use lib.ListN.{length, getD, replicate}
 use Rattle.text_tokens.specs.Tokens.{lexAt}
 use Rattle.text_tokens.specs.declared.token.Span.{Span}
-use Rattle.text_tokens.specs.Answers.{Next, lexemeOf}
+use Rattle.text_tokens.specs.Internal.Answers.{Next, lexemeOf}
 use Rattle.parse_cursor.specs.declared.cursor.Cursor.{Cursor}
 use Rattle.parse_cursor.specs.Readers.{Got, isClosing, isOpening}
-use Rattle.parse_cursor.specs.Cursors.{from, closedAt}
-use Rattle.parse_cursor.specs.Fields.{kind, isSome, kindFrom, fieldsIn, fields, unread, neededOf, coversAll}
+use Rattle.parse_cursor.specs.Internal.Cursors.{from, closedAt}
+use Rattle.parse_cursor.specs.Fields.{kind, isSome, kindFrom, fieldsIn, fields, unread}
+use Rattle.parse_cursor.specs.Internal.Fields.{neededOf, coversAll}
 use Rattle.parse_cursor.proofs.Steps.{passed, from-on}
 use Rattle.parse_cursor.proofs.FieldFlags.{flags-length}
 use Rattle.parse_cursor.proofs.FieldSteps.{complete-seen, turn-ended, turn-full, turn-other, turn-chunk}
 use Rattle.tra4_text.specs.Movement.{Channel}
 use Rattle.tra4_text.specs.Grammar.{channel, channelNames, channelKinds, keysIn}
 use Rattle.tra4_text.specs.Rules.{allKeys}
-use Rattle.tra4_channels.specs.Held.{keysRead, Held, Reached, ChunkRead}
+use Rattle.tra4_channels.specs.Internal.Held.{keysRead, Held, Reached, ChunkRead}
 
 -- the flags that a bone needs
 abbrev ten : List Bool

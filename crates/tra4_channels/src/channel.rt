@@ -7,7 +7,7 @@ ghost use lib.ListN.{length, replicate};
 ghost use Rattle.text_tokens.specs.Tokens.{lexAt};
 ghost use Rattle.parse_cursor.specs.Fields.{isSome, fields};
 ghost use Rattle.tra4_text.specs.Grammar.{channelKinds};
-ghost use Rattle.tra4_channels.specs.Held.{Held, Reached, KeysRead, ChunkRead};
+ghost use Rattle.tra4_channels.specs.Internal.Held.{Held, Reached, KeysRead, ChunkRead};
 use parse_cursor::Cursor;
 use parse_numbers::Form;
 

@@ -11,13 +11,13 @@ use Rattle.text_numbers.specs.Numbers.{INT}
 use Rattle.text_tokens.specs.Tokens.{Lexeme}
 use Rattle.parse_cursor.specs.declared.cursor.Cursor.{Cursor}
 use Rattle.parse_cursor.specs.Readers.{Got, got, Reader, after, _>>=_, _>>_, pure, open-bracket, close-bracket, wordOf, openedOf, opened, closed, numbers, trailing, many}
-use Rattle.parse_words.specs.Words.{words, onto, wordIn}
-use Rattle.parse_cursor.specs.Branches.{lastOf}
-use Rattle.parse_cursor.specs.Cursors.{from, reads}
-use Rattle.table_rows.specs.Overlay.{overlayAt}
-use Rattle.parse_rows.specs.Into.{numbersInto}
+use Rattle.parse_words.specs.Internal.Words.{words, onto, wordIn}
+use Rattle.parse_cursor.specs.Internal.Branches.{lastOf}
+use Rattle.parse_cursor.specs.Internal.Cursors.{from, reads}
+use Rattle.table_rows.specs.Internal.Overlay.{overlayAt}
+use Rattle.parse_rows.specs.Internal.Into.{numbersInto}
 use Rattle.table_rows.specs.Flat.{flat}
-use Rattle.parse_rows.specs.Folds.{fold, folded, rowStep}
+use Rattle.parse_rows.specs.Internal.Folds.{fold, folded, rowStep}
 use Rattle.parse_cursor.proofs.Steps.{join, seq, from-same}
 use Rattle.parse_cursor.proofs.Binds.{after-after, after-same, after-when, then-assoc}
 use Rattle.parse_cursor.proofs.Branches.{trailing-yes, trailing-no, trailing-map}
@@ -30,7 +30,7 @@ use Rattle.parse_cursor.proofs.Many.{Keeps, Takes, takes-keeps, pure-keeps, bin
 use Rattle.tra4_text.specs.Movement.{Pattern}
 use Rattle.tra4_text.specs.Grammar.{word, truth, pattern}
 use Rattle.tra4_text.proofs.Whole.{pattern-wide}
-use Rattle.tra4_parse.specs.Patterns.{patternTail, patternInto, patternsInto}
+use Rattle.tra4_parse.specs.Internal.Patterns.{patternTail, patternInto, patternsInto}
 
 -- ---- a line begins with ( and takes tokens
 

@@ -1,9 +1,9 @@
 // The pattern lines of a movement.
 ghost use mathlib.Core.Path.{_≡_};
-ghost use Rattle.parse_cursor.specs.Cursors.{reads, from};
-ghost use Rattle.parse_rows.specs.Folds.{folded, rowStep};
+ghost use Rattle.parse_cursor.specs.Internal.Cursors.{reads, from};
+ghost use Rattle.parse_rows.specs.Internal.Folds.{folded, rowStep};
 ghost use Rattle.tra4_text.specs.Grammar.{pattern as patternRead};
-ghost use Rattle.tra4_parse.specs.Patterns.{patternInto, patternsInto};
+ghost use Rattle.tra4_parse.specs.Internal.Patterns.{patternInto, patternsInto};
 use parse_cursor::Cursor;
 use parse_numbers::Form;
 use parse_rows::Counted;

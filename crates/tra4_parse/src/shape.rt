@@ -1,9 +1,9 @@
 // The shape of a movement's text.
 ghost use mathlib.Core.Path.{_≡_};
 ghost use Rattle.text_tokens.specs.Tokens.{lex};
-ghost use Rattle.parse_cursor.specs.Cursors.{reads};
-ghost use Rattle.tra4_bone.specs.Into.{kept};
-ghost use Rattle.tra4_parse.specs.Parse.{movementValue, movementInto};
+ghost use Rattle.parse_cursor.specs.Internal.Cursors.{reads};
+ghost use Rattle.tra4_bone.specs.Internal.Into.{kept};
+ghost use Rattle.tra4_parse.specs.Internal.Parse.{movementValue, movementInto};
 use crate::pattern::patterns;
 use parse_cursor::Cursor;
 use parse_cursor::opened;

@@ -21,7 +21,7 @@ use Rattle.tra4_text.specs.Rules.{isFrame, isZero, rises, neverFalls, framesFau
 use Rattle.tra4_rules.specs.declared.frame.Timed.{Timed}
 use Rattle.tra4_rules.specs.declared.frame.Timed.the-variants.{Key, Pattern}
 use Rattle.table_columns.specs.Parts.{rowsOf}
-use Rattle.tra4_rules.specs.Frames.{widthOf, numberOf, rowFine, beforeOf, follows, frameFits}
+use Rattle.tra4_rules.specs.Internal.Frames.{widthOf, numberOf, rowFine, beforeOf, follows, frameFits}
 use Rattle.table_columns.proofs.Rows.{rows-more, rows-short, row-part, part-rest}
 use Rattle.text_numbers.proofs.Tests.{most-above}
 

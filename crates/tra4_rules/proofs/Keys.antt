@@ -14,9 +14,9 @@ use Rattle.refusal.specs.Rules.{orElse}
 use Rattle.tra4_text.specs.Rules.{framesFault, keyFine, keysFault}
 use Rattle.tra4_rules.specs.declared.key.Walk.{Walk}
 use Rattle.tra4_rules.specs.declared.key.Walk.the-variants.{At, Refused}
-use Rattle.tra4_rules.specs.Rows.{wholeRows}
+use Rattle.tra4_rules.specs.Internal.Rows.{wholeRows}
 use Rattle.table_columns.specs.Parts.{rowsOf}
-use Rattle.tra4_rules.specs.Keys.{countOf, pairCounts, boneCounts, rowCounts, keyCounts, cut, channelsIn, keysFrom, Walked}
+use Rattle.tra4_rules.specs.Internal.Keys.{countOf, pairCounts, boneCounts, rowCounts, keyCounts, cut, channelsIn, keysFrom, Walked}
 use Rattle.table_columns.proofs.Rows.{rows-more, rows-short, rows-drop, rows-take, pairs-count, take-least, drop-least}
 
 pub negative-count : (z : ℤ) → z ≡ negsuc (mag z) → countOf z ≡ 0

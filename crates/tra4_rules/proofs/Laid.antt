@@ -18,10 +18,10 @@ use Rattle.tra4_text.specs.Movement.{Key, Channel, Bone, Movement}
 use Rattle.tra4_text.specs.Layout.{nameNumbers, keyRanges, boneRow, boneRows}
 use Rattle.refusal.specs.Rules.{tooMany}
 use Rattle.tra4_text.specs.Rules.{channelsOf, allKeys, keyRows, countsOf, movementCounts, movementFault}
-use Rattle.tra4_rules.specs.Rows.{wholeRows}
+use Rattle.tra4_rules.specs.Internal.Rows.{wholeRows}
 use Rattle.table_columns.specs.Parts.{rowsOf}
-use Rattle.tra4_rules.specs.Keys.{countOf, pairCounts, boneCounts, rowCounts, keyCounts, cut, channelsIn}
-use Rattle.tra4_rules.specs.Order.{tablesFault}
+use Rattle.tra4_rules.specs.Internal.Keys.{countOf, pairCounts, boneCounts, rowCounts, keyCounts, cut, channelsIn}
+use Rattle.tra4_rules.specs.Internal.Order.{tablesFault}
 use Rattle.table_columns.proofs.Rows.{rows-more}
 use Rattle.tra4_rules.proofs.Counts.{count-beyond}
 use Rattle.refusal.proofs.Rules.{or-fault}

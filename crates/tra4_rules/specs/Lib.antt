@@ -1,4 +1,1 @@
-pub mod Rows
-pub mod Frames
-pub mod Keys
-pub mod Order
+pub mod Internal

@@ -1,7 +1,7 @@
 // Rules 8 and 14: how many rows each list has, and how many frames a movement has.
 ghost use mathlib.Core.Path.{_≡_};
 ghost use mathlib.Core.List.{[], _∷_};
-ghost use Rattle.refusal.specs.Answers.{refusal};
+ghost use Rattle.refusal.specs.Internal.Answers.{refusal};
 ghost use Rattle.refusal.specs.Rules.{tooMany};
 ghost use Rattle.tra4_text.specs.Rules.{totalFault};
 ghost use Rattle.table_counts.specs.Counts.{movementMosts};

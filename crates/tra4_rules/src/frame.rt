@@ -3,10 +3,10 @@ ghost use mathlib.Core.Path.{_≡_};
 ghost use mathlib.Core.Option.{none};
 ghost use Prim.Native.Nat.{_-_, _≤_};
 ghost use lib.ListN.{length};
-ghost use Rattle.refusal.specs.Answers.{refusal};
+ghost use Rattle.refusal.specs.Internal.Answers.{refusal};
 ghost use Rattle.tra4_text.specs.Rules.{framesFault, patternsFault};
 ghost use Rattle.table_columns.specs.Parts.{rowsOf};
-ghost use Rattle.tra4_rules.specs.Frames.{widthOf, numberOf, rowFine, beforeOf, frameFits};
+ghost use Rattle.tra4_rules.specs.Internal.Frames.{widthOf, numberOf, rowFine, beforeOf, frameFits};
 use refusal::Checked;
 
 // The rows that have a frame, in column 0.

@@ -2,9 +2,9 @@
 ghost use mathlib.Core.Path.{_≡_};
 ghost use Prim.Native.Nat.{_*_, _≤_, min};
 ghost use lib.ListN.{length};
-ghost use Rattle.refusal.specs.Answers.{refusal};
+ghost use Rattle.refusal.specs.Internal.Answers.{refusal};
 ghost use Rattle.tra4_text.specs.Rules.{keysFault};
-ghost use Rattle.tra4_rules.specs.Keys.{countOf, boneCounts, channelsIn, Walked};
+ghost use Rattle.tra4_rules.specs.Internal.Keys.{countOf, boneCounts, channelsIn, Walked};
 use crate::frame::Timed;
 use crate::frame::frames_fault;
 use refusal::Checked;

@@ -1,7 +1,7 @@
 // Rules 8 and 14 to 16 in order: of a movement's faults the lowest number, with its lowest row.
 ghost use mathlib.Core.Path.{_≡_};
-ghost use Rattle.refusal.specs.Answers.{refusal};
-ghost use Rattle.tra4_rules.specs.Order.{tablesFault};
+ghost use Rattle.refusal.specs.Internal.Answers.{refusal};
+ghost use Rattle.tra4_rules.specs.Internal.Order.{tablesFault};
 use crate::count::counts_fault;
 use crate::count::total_fault;
 use crate::frame::patterns_fault;

@@ -10,7 +10,7 @@ use lib.ListN.{length, getD, drop, length-map, length-append}
 use lib.Seq.{getD-at}
 use lib.IntN.{ℤ, pos}
 use Rattle.text_bytes.specs.Bytes.{bytes}
-use Rattle.text_bytes.specs.Every.{Every}
+use Rattle.text_bytes.specs.Internal.Every.{Every}
 use Rattle.text_numbers.specs.Numbers.{INT, FLOAT}
 use Rattle.text_tokens.specs.Tokens.{Lexeme}
 use Rattle.text_bytes.proofs.Every.{every-as}
@@ -22,7 +22,7 @@ use Rattle.parse_cursor.proofs.Ranges.{InForm, number-gives, numbers-give, row-
 use Rattle.parse_rows.proofs.Widths.{Wide}
 use Rattle.tra4_text.specs.Movement.{Key, Channel, Bone, Pattern, Movement}
 use Rattle.tra4_text.specs.Grammar.{repeatedIn, repeated, repeated⁺, key, channel, channelNames, channelKinds, keysIn, bone, word, truth, pattern, movement}
-use Rattle.tra4_text.specs.Names.{NamedMovement}
+use Rattle.tra4_text.specs.Internal.Names.{NamedMovement}
 
 -- a key's value is in FLOAT's range
 abbrev pub FloatValue : Key → Type 0

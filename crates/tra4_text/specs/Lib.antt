@@ -1,6 +1,6 @@
 pub mod Movement
-pub mod Names
 pub mod Grammar
 pub mod Rules
 pub mod Layout
 pub mod Answer
+pub mod Internal

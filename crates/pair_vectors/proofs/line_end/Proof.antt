@@ -2,7 +2,7 @@
 use native.Mathlib.Omega.{arith}
 use denote.Ref.{now}
 use borrow.Author.Needs.{needs}
-use Rattle.text_bytes.specs.Answers.{testNamed}
+use Rattle.text_bytes.specs.Internal.Answers.{testNamed}
 use Rattle.text_bytes.specs.declared.bytes.Run.the-variants.{Line}
 use Rattle.text_bytes.proofs.Runs.{run-within}
 use Rattle.pair_vectors.proofs.line_end.Statement.{statement}

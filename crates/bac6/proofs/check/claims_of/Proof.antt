@@ -1,6 +1,6 @@
 -- `claims_of` is the fault that the parsed flag and row name, by the flag.
-use Rattle.refusal.specs.Answers.{refusal}
-use Rattle.bac6_bones.specs.Into.{faultOf}
+use Rattle.refusal.specs.Internal.Answers.{refusal}
+use Rattle.bac6_bones.specs.Internal.Into.{faultOf}
 use Rattle.bac6.proofs.check.claims_of.Statement.{statement}
 use Rattle.bac6.proofs.check.claims_of.Tie as tie
 

@@ -1,7 +1,7 @@
 -- `placed_fault` is the first of two faults, by the law of each branch, and the bones' part is put back.
 use mathlib.Core.Path.{sym, _∙_}
 use denote.Ref.{now}
-use Rattle.refusal.specs.Answers.{refusal}
+use Rattle.refusal.specs.Internal.Answers.{refusal}
 use Rattle.refusal.proofs.Rules.{refused-by, clear-by, or-clear, or-fault}
 use Rattle.bac6.proofs.Parts.{bones-by, placed-in}
 use borrow.Author.Needs.{needs}

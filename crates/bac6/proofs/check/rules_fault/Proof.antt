@@ -1,9 +1,9 @@
 -- `rules_fault` is the first of two faults, by the law of each branch.
 use mathlib.Core.Path.{sym, _∙_}
-use Rattle.refusal.specs.Answers.{refusal}
+use Rattle.refusal.specs.Internal.Answers.{refusal}
 use Rattle.refusal.proofs.Rules.{refused-by, clear-by, or-clear, or-fault}
-use Rattle.bac6_rules.specs.Order.{tablesFault}
-use Rattle.bac6.specs.Checks.{rulesFault}
+use Rattle.bac6_rules.specs.Internal.Order.{tablesFault}
+use Rattle.bac6.specs.Internal.Checks.{rulesFault}
 use Rattle.bac6.proofs.Parts.{within-counts, no-rows}
 use borrow.Author.Needs.{needs}
 use Rattle.bac6.proofs.check.rules_fault.Statement.{statement}

@@ -7,7 +7,7 @@ use denote.Ref.{now}
 use lib.ListN.{length, take, length-take}
 use Rattle.text_numbers.proofs.Signed.{bits-pos}
 use Rattle.table_rows.proofs.Tables.{overlayAt-none}
-use Rattle.bac6.specs.Places.{uvsFrom}
+use Rattle.bac6.specs.Internal.Places.{uvsFrom}
 use Rattle.bac6.proofs.Lays.{lays-none, lays-list, lays-part, numbers-are}
 use borrow.Author.Needs.{needs}
 use Rattle.bac6.proofs.lay.lay.Statement.{statement}

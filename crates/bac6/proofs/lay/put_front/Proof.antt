@@ -2,7 +2,7 @@
 use mathlib.Core.Path.{refl}
 use denote.Ref.{now}
 use lib.ListN.{length}
-use Rattle.bac6.specs.Places.{uvsFrom}
+use Rattle.bac6.specs.Internal.Places.{uvsFrom}
 use Rattle.bac6.proofs.Sums.{front-sum, front-room}
 use Rattle.bac6.proofs.Lays.{content-by, next-by}
 use borrow.Author.Needs.{needs}

@@ -7,9 +7,9 @@ use native.Mathlib.Omega.{arith}
 use lib.ListN.{length, take, drop}
 use lib.Seq.{take-all}
 use borrow.Author.Needs.{needs}
-use Rattle.table_rows.specs.Overlay.{overlayAt}
+use Rattle.table_rows.specs.Internal.Overlay.{overlayAt}
 use Rattle.table_rows.proofs.Tables.{overlayAt-none, overlayAt-length}
-use Rattle.bac6.specs.Places.{sumOf}
+use Rattle.bac6.specs.Internal.Places.{sumOf}
 use Rattle.bac6.proofs.Sums.{sum-more, sum-room, lists-more, next-more}
 use Rattle.bac6.proofs.lay.put_lists.Statement.{statement}
 use Rattle.bac6.proofs.lay.put_lists.Tie as tie

@@ -2,7 +2,7 @@
 use mathlib.Core.Path.{ap, sym, _∙_}
 use lib.ListN.{length}
 use denote.Ref.{now}
-use Rattle.text_check.specs.Answers.{formatNamed}
+use Rattle.text_check.specs.Internal.Answers.{formatNamed}
 use Rattle.refusal.specs.Outcomes.{fitted, laid}
 use Rattle.parse_text.proofs.Outcomes.{text-short, text-refused, text-clear}
 use Rattle.bac6_text.specs.Layout.{layoutOf}

@@ -7,7 +7,7 @@ use lib.ListN.{length}
 use mir.Syntax.{w64}
 use mir.Val.{toZ}
 use Rattle.text_tokens.specs.Tokens.{lexeme}
-use Rattle.text_tokens.specs.Answers.{lexemeOf}
+use Rattle.text_tokens.specs.Internal.Answers.{lexemeOf}
 use Rattle.bac6_bone.proofs.Turns.{Midway, midway-start, turn-ends, turn-none, turn-stray, turn-on, turn-off, state-bits}
 use Rattle.bac6_bone.proofs.bone.bone_fields.Statement.{statement}
 use Rattle.bac6_bone.proofs.bone.bone_fields.Tie as tie

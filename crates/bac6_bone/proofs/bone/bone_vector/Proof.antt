@@ -1,5 +1,5 @@
 -- `bone_vector` sets down three numbers in the columns of its kind.
-use Rattle.parse_numbers.specs.Answers.{formNamed}
+use Rattle.parse_numbers.specs.Internal.Answers.{formNamed}
 use Rattle.bac6_bone.proofs.Values.{vector-read}
 use borrow.Author.Needs.{needs}
 use Rattle.bac6_bone.proofs.bone.bone_vector.Statement.{statement}

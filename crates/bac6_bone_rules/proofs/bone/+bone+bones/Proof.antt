@@ -12,7 +12,7 @@ use mir.Val.{toZ, ofZ}
 use mir.Facts.{toZ-ofZ, toZ-pos}
 use Rattle.bac6_text.specs.Rules.{isSet}
 use Rattle.bac6_bone_rules.specs.declared.bone.Walk.the-variants.{At}
-use Rattle.bac6_bone_rules.specs.Bones.{flagsIn, oneBone, Walked}
+use Rattle.bac6_bone_rules.specs.Internal.Bones.{flagsIn, oneBone, Walked}
 use Rattle.bac6_bone_rules.proofs.Walks.{walked-as, child-kept, no-bone, bone-leaf, bone-child, list-short, list-last, list-more, row-there, next-within, clear-bits, set-bits}
 use borrow.Fn.Kinds.{In}
 use borrow.Fn.PlainCycle.{Measures, is, falls, and}

@@ -2,10 +2,10 @@
 use mathlib.Core.Path.{_≡_, refl, sym}
 use borrow.Author.Needs.{needs}
 use denote.Ref.{now}
-use Rattle.refusal.specs.Answers.{refusal}
+use Rattle.refusal.specs.Internal.Answers.{refusal}
 use Rattle.bac6_text.specs.Rules.{wholeList, bonesFault}
 use Rattle.bac6_bone_rules.specs.declared.bone.Walk.{Walk}
-use Rattle.bac6_bone_rules.specs.Bones.{flagsIn, Walked}
+use Rattle.bac6_bone_rules.specs.Internal.Bones.{flagsIn, Walked}
 use Rattle.bac6_bone_rules.proofs.Walks.{walked-as}
 use Rattle.bac6_bone_rules.proofs.Whole.{rows-whole, rows-most, whole-flags, whole-walk, settled-short, settled-at, fault-short, fault-left, fault-none}
 use Rattle.bac6_bone_rules.proofs.bone.place_bones.Statement.{statement}

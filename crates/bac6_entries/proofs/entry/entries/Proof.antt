@@ -5,13 +5,13 @@ use lib.ListN.{length}
 use mir.Syntax.{w64}
 use mir.Val.{toZ, ofZ}
 use denote.Ref.{now}
-use Rattle.parse_numbers.specs.Answers.{formNamed}
-use Rattle.parse_cursor.specs.Cursors.{from}
+use Rattle.parse_numbers.specs.Internal.Answers.{formNamed}
+use Rattle.parse_cursor.specs.Internal.Cursors.{from}
 use Rattle.parse_cursor.proofs.Steps.{passed, from-on}
-use Rattle.bac6_bone_rules.specs.Claims.{claimedOne}
+use Rattle.bac6_bone_rules.specs.Internal.Claims.{claimedOne}
 use Rattle.text_tokens.specs.Tokens.{lexAt, lexeme}
-use Rattle.text_tokens.specs.Answers.{lexemeOf}
-use Rattle.bac6_entries.specs.Into.{entriesInto}
+use Rattle.text_tokens.specs.Internal.Answers.{lexemeOf}
+use Rattle.bac6_entries.specs.Internal.Into.{entriesInto}
 use Rattle.bac6_entries.proofs.EntrySteps.{entries-end, entries-more, entry-falls, entries-bits, entries-tried}
 use Rattle.bac6_entries.proofs.entry.entries.Statement.{statement}
 use Rattle.bac6_entries.proofs.entry.entries.Tie as tie

@@ -1,5 +1,5 @@
 -- `corners` fills a row of eleven and sets it down in the table.
-use Rattle.parse_numbers.specs.Answers.{formNamed}
+use Rattle.parse_numbers.specs.Internal.Answers.{formNamed}
 use Rattle.bac6_face.proofs.Faces.{blank-bits, corners-joined}
 use borrow.Author.Needs.{needs}
 use Rattle.bac6_face.proofs.face.corners.Statement.{statement}

@@ -2,7 +2,7 @@
 use mir.Syntax.{w64}
 use mir.Val.{SFits}
 use Rattle.text_bytes.specs.Bytes.{bytes}
-use Rattle.parse_numbers.specs.Answers.{formNamed}
+use Rattle.parse_numbers.specs.Internal.Answers.{formNamed}
 use Rattle.bac6_face.proofs.Faces.{zero-bits, other-bits, by-first, by-second, face-joined}
 use borrow.Author.Needs.{needs}
 use Rattle.bac6_face.proofs.face.face_tail.Statement.{statement}

@@ -6,16 +6,16 @@ use borrow.Author.Needs.{needs}
 use denote.Ref.{now}
 use lib.ListN.{length}
 use Rattle.text_tokens.specs.Tokens.{lexAt}
-use Rattle.parse_cursor.specs.Branches.{itemOf}
-use Rattle.parse_cursor.specs.Cursors.{from}
-use Rattle.parse_rows.specs.Folds.{folded}
+use Rattle.parse_cursor.specs.Internal.Branches.{itemOf}
+use Rattle.parse_cursor.specs.Internal.Cursors.{from}
+use Rattle.parse_rows.specs.Internal.Folds.{folded}
 use Rattle.parse_cursor.proofs.Branches.{item-takes}
 use Rattle.parse_cursor.proofs.Steps.{passed}
 use Rattle.parse_cursor.proofs.Counts.{alive, lexAt-some, lexAt-count, falls}
 use Rattle.parse_rows.proofs.Folds.{folded-end, folded-more, folded-fall}
 use Rattle.bac6_text.specs.Grammar.{group}
-use Rattle.bac6_faces.specs.Bounds.{Bounded}
-use Rattle.bac6_faces.specs.Into.{groupTail, groupStep}
+use Rattle.bac6_faces.specs.Internal.Bounds.{Bounded}
+use Rattle.bac6_faces.specs.Internal.Into.{groupTail, groupStep}
 use Rattle.bac6_faces.proofs.Groups.{group-keeps, group-takes, group-opens}
 use Rattle.bac6_faces.proofs.group.group_list.Statement.{statement}
 use Rattle.bac6_faces.proofs.group.group_list.Tie as tie

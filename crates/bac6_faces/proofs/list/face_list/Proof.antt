@@ -9,17 +9,17 @@ use mir.Val.{toZ, ofZ}
 use mir.Facts.{toZ-ofZ}
 use lib.ListN.{length}
 use Rattle.text_tokens.specs.Tokens.{lexAt}
-use Rattle.parse_cursor.specs.Branches.{itemOf}
-use Rattle.parse_cursor.specs.Cursors.{reads, from}
-use Rattle.parse_rows.specs.Folds.{folded, stepped}
+use Rattle.parse_cursor.specs.Internal.Branches.{itemOf}
+use Rattle.parse_cursor.specs.Internal.Cursors.{reads, from}
+use Rattle.parse_rows.specs.Internal.Folds.{folded, stepped}
 use Rattle.parse_cursor.proofs.Branches.{item-takes}
 use Rattle.parse_cursor.proofs.Steps.{passed}
 use Rattle.parse_cursor.proofs.Counts.{alive, falls}
 use Rattle.parse_rows.proofs.Folds.{folded-end, folded-more, folded-fall}
 use Rattle.bac6_text.specs.Grammar.{face}
-use Rattle.bac6_faces.specs.Bounds.{Bounded, Fewer}
-use Rattle.bac6_faces.specs.Into.{faceStep}
-use Rattle.bac6_face.specs.Into.{faceTail}
+use Rattle.bac6_faces.specs.Internal.Bounds.{Bounded, Fewer}
+use Rattle.bac6_faces.specs.Internal.Into.{faceStep}
+use Rattle.bac6_face.specs.Internal.Into.{faceTail}
 use Rattle.bac6_face.proofs.Faces.{face-opens}
 use Rattle.bac6_faces.proofs.FaceLists.{face-keeps, face-takes, face-stepped}
 use Rattle.bac6_faces.proofs.list.face_list.Statement.{statement}

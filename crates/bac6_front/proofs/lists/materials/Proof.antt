@@ -2,7 +2,7 @@
 use denote.Ref.{now}
 use Rattle.text_bytes.specs.Bytes.{bytes}
 use Rattle.parse_cursor.specs.Readers.{opened}
-use Rattle.bac6_materials.specs.Into.{materialsInto}
+use Rattle.bac6_materials.specs.Internal.Into.{materialsInto}
 use Rattle.bac6_text.specs.Grammar.{materialSection}
 use Rattle.bac6_front.proofs.Laid.{then-read, list-read, lent-read, ended}
 use borrow.Author.Needs.{needs}

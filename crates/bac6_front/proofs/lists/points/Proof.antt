@@ -1,10 +1,10 @@
 -- `points` is the points' section, laid.
 use denote.Ref.{now}
 use Rattle.text_bytes.specs.Bytes.{bytes}
-use Rattle.parse_numbers.specs.Answers.{formNamed}
+use Rattle.parse_numbers.specs.Internal.Answers.{formNamed}
 use Rattle.parse_cursor.specs.Readers.{opened, row}
 use Rattle.parse_cursor.proofs.Steps.{seq}
-use Rattle.parse_rows.specs.Into.{someInto}
+use Rattle.parse_rows.specs.Internal.Into.{someInto}
 use Rattle.bac6_text.specs.Grammar.{pointSection}
 use Rattle.bac6_front.proofs.Laid.{then-read, list-read, ended}
 use borrow.Author.Needs.{needs}

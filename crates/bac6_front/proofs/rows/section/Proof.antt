@@ -1,8 +1,8 @@
 -- `section` goes by whether its chunk stands.
 use denote.Ref.{now}
-use Rattle.parse_numbers.specs.Answers.{formNamed}
-use Rattle.parse_rows.specs.Into.{rowsInto}
-use Rattle.bac6_front.specs.Lists.{rowsIf}
+use Rattle.parse_numbers.specs.Internal.Answers.{formNamed}
+use Rattle.parse_rows.specs.Internal.Into.{rowsInto}
+use Rattle.bac6_front.specs.Internal.Lists.{rowsIf}
 use Rattle.bac6_front.proofs.Laid.{list-read, ended, ends-within, section-read, none-read}
 use borrow.Author.Needs.{needs}
 use Rattle.bac6_front.proofs.rows.section.Statement.{statement}

@@ -2,7 +2,7 @@
 use mathlib.Core.Path.{ap}
 use Prim.Native.Nat.{ℕ}
 use borrow.Author.Needs.{needs}
-use Rattle.bac6_front.specs.Answers.{listedAt}
+use Rattle.bac6_front.specs.Internal.Answers.{listedAt}
 use Rattle.bac6_front.proofs.rows.with_end.Statement.{statement}
 use Rattle.bac6_front.proofs.rows.with_end.Tie as tie
 

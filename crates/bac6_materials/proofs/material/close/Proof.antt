@@ -2,9 +2,9 @@
 use mathlib.Core.Path.{refl}
 use mir.Syntax.{w64}
 use mir.Facts.{toZ-ofZ}
-use Rattle.parse_cursor.specs.Cursors.{reads}
+use Rattle.parse_cursor.specs.Internal.Cursors.{reads}
 use Rattle.parse_cursor.proofs.Steps.{seq}
-use Rattle.bac6_materials.specs.Closing.{closeWith}
+use Rattle.bac6_materials.specs.Internal.Closing.{closeWith}
 use borrow.Author.Needs.{needs}
 use Rattle.bac6_materials.proofs.material.close.Statement.{statement}
 use Rattle.bac6_materials.proofs.material.close.Tie as tie

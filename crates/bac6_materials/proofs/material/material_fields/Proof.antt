@@ -6,13 +6,14 @@ use borrow.Author.Tests.{not-true, not-false}
 use denote.Ref.{now}
 use lib.ListN.{length}
 use Rattle.text_tokens.specs.Tokens.{lexAt, lexeme}
-use Rattle.text_tokens.specs.Answers.{lexemeOf}
-use Rattle.parse_cursor.specs.Fields.{fieldsIn, fieldsOf}
-use Rattle.parse_cursor.specs.Cursors.{from}
+use Rattle.text_tokens.specs.Internal.Answers.{lexemeOf}
+use Rattle.parse_cursor.specs.Fields.{fieldsIn}
+use Rattle.parse_cursor.specs.Internal.Fields.{fieldsOf}
+use Rattle.parse_cursor.specs.Internal.Cursors.{from}
 use Rattle.parse_cursor.proofs.Steps.{passed, from-on}
 use Rattle.parse_cursor.proofs.FieldSteps.{turn-full, turn-other, turn-chunk}
 use Rattle.bac6_text.specs.Grammar.{materialKinds}
-use Rattle.bac6_materials.specs.Into.{Settled}
+use Rattle.bac6_materials.specs.Internal.Into.{Settled}
 use Rattle.bac6_materials.proofs.Closings.{closed-turn, fields-count}
 use borrow.Author.Needs.{needs}
 use Rattle.bac6_materials.proofs.material.material_fields.Statement.{statement}

@@ -2,9 +2,10 @@
 use mathlib.Core.Path.{refl}
 use mathlib.Core.List.{[], _∷_}
 use Rattle.text_bytes.specs.Bytes.{bytes, inWord}
-use Rattle.parse_numbers.specs.Answers.{formNamed}
-use Rattle.parse_cursor.specs.Fields.{insideAt, kind}
-use Rattle.parse_words.specs.Words.{words, onto}
+use Rattle.parse_numbers.specs.Internal.Answers.{formNamed}
+use Rattle.parse_cursor.specs.Fields.{kind}
+use Rattle.parse_cursor.specs.Internal.Fields.{insideAt}
+use Rattle.parse_words.specs.Internal.Words.{words, onto}
 use Rattle.parse_words.proofs.Vocabulary.{wordList}
 use Rattle.bac6_text.specs.Grammar.{materialKinds, blend, truth}
 use Rattle.bac6_materials.proofs.Closings.{close-join, close-word}

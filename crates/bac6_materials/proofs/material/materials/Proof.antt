@@ -1,9 +1,9 @@
 -- `materials` is the first material and then the others.
 use mathlib.Core.Path.{refl, sym, _∙_}
-use Rattle.parse_rows.specs.Folds.{rowStep}
+use Rattle.parse_rows.specs.Internal.Folds.{rowStep}
 use Rattle.parse_rows.proofs.Folds.{folded-first, row-stepped}
 use Rattle.bac6_text.specs.Grammar.{material}
-use Rattle.bac6_materials.specs.Into.{materialTail, materialInto}
+use Rattle.bac6_materials.specs.Internal.Into.{materialTail, materialInto}
 use Rattle.parse_cursor.proofs.Steps.{from-same}
 use Rattle.bac6_materials.proofs.Chunks.{material-opens}
 use Rattle.bac6_materials.proofs.Rows.{materials-same}

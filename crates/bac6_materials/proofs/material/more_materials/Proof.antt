@@ -6,13 +6,13 @@ use borrow.Author.Needs.{needs}
 use denote.Ref.{now}
 use lib.ListN.{length}
 use Rattle.text_tokens.specs.Tokens.{lexAt}
-use Rattle.parse_cursor.specs.Cursors.{reads, from}
-use Rattle.parse_rows.specs.Folds.{folded, stepped, rowStep}
+use Rattle.parse_cursor.specs.Internal.Cursors.{reads, from}
+use Rattle.parse_rows.specs.Internal.Folds.{folded, stepped, rowStep}
 use Rattle.parse_cursor.proofs.Steps.{passed}
 use Rattle.parse_cursor.proofs.Counts.{lexAt-count}
 use Rattle.parse_rows.proofs.Folds.{folded-end, folded-more, folded-fall, row-stepped}
 use Rattle.bac6_text.specs.Grammar.{material}
-use Rattle.bac6_materials.specs.Into.{materialTail, materialInto}
+use Rattle.bac6_materials.specs.Internal.Into.{materialTail, materialInto}
 use Rattle.bac6_materials.proofs.Chunks.{material-opens, material-keeps, material-takes}
 use Rattle.bac6_materials.proofs.material.more_materials.Statement.{statement}
 use Rattle.bac6_materials.proofs.material.more_materials.Tie as tie

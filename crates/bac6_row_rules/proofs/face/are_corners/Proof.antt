@@ -10,7 +10,7 @@ use borrow.Author.Needs.{needs}
 use borrow.Author.Tests.{not-true, not-false}
 use Rattle.table_rows.specs.References.{isRow, isNone}
 use Rattle.table_columns.specs.Columns.{cornerAt}
-use Rattle.bac6_row_rules.specs.Rows.{cornersKnown}
+use Rattle.bac6_row_rules.specs.Internal.Rows.{cornersKnown}
 use Rattle.bac6_row_rules.proofs.Faces.{left, left-all, from, turn-broken, turn-on, turn-end}
 use Rattle.bac6_row_rules.proofs.face.are_corners.Statement.{statement}
 use Rattle.bac6_row_rules.proofs.face.are_corners.Tie as tie

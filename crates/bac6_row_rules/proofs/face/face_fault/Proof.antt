@@ -7,9 +7,9 @@ use borrow.Author.Needs.{needs}
 use borrow.Author.Tests.{not-true, not-false}
 use lib.ListN.{length, take, drop}
 use denote.Ref.{now}
-use Rattle.refusal.specs.Answers.{refusal}
+use Rattle.refusal.specs.Internal.Answers.{refusal}
 use Rattle.refusal.specs.FirstBad.{firstBad}
-use Rattle.bac6_row_rules.specs.Rows.{faceRowFine}
+use Rattle.bac6_row_rules.specs.Internal.Rows.{faceRowFine}
 use Rattle.table_columns.specs.Parts.{rowsOf}
 use Rattle.bac6_row_rules.proofs.Tables.{badFrom, walk-start, walk-done, walk-short, walk-passed, walk-found}
 use Rattle.table_columns.proofs.Rows.{row-length, row-part}

@@ -7,7 +7,7 @@ use borrow.Author.Needs.{needs}
 use borrow.Author.Tests.{not-true, not-false}
 use lib.ListN.{length, take, drop}
 use denote.Ref.{now}
-use Rattle.refusal.specs.Answers.{refusal}
+use Rattle.refusal.specs.Internal.Answers.{refusal}
 use Rattle.bac6_text.specs.Rules.{materialFine}
 use Rattle.refusal.specs.FirstBad.{firstBad}
 use Rattle.table_columns.specs.Parts.{rowsOf}

@@ -1,6 +1,6 @@
 -- `normals_fault` is the definition, by its one test.
 use mathlib.Core.Path.{sym}
-use Rattle.refusal.specs.Answers.{refusal}
+use Rattle.refusal.specs.Internal.Answers.{refusal}
 use Rattle.bac6_rules.proofs.Counts.{normals-same, normals-other}
 use Rattle.bac6_rules.proofs.count.normals_fault.Statement.{statement}
 use Rattle.bac6_rules.proofs.count.normals_fault.Tie as tie

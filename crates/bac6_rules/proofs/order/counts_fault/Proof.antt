@@ -1,7 +1,7 @@
 -- `counts_fault` is the first of two faults, by the law of each branch.
 use mathlib.Core.Path.{sym, _∙_}
-use Rattle.refusal.specs.Answers.{refusal}
-use Rattle.bac6_rules.specs.Order.{countsFault}
+use Rattle.refusal.specs.Internal.Answers.{refusal}
+use Rattle.bac6_rules.specs.Internal.Order.{countsFault}
 use Rattle.refusal.proofs.Rules.{refused-by, clear-by, or-clear, or-fault}
 use borrow.Author.Needs.{needs}
 use Rattle.bac6_rules.proofs.order.counts_fault.Statement.{statement}

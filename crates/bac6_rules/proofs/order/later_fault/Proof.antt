@@ -1,7 +1,7 @@
 -- `later_fault` is the first of three faults, by the law of each branch.
 use mathlib.Core.Path.{refl, sym, _∙_}
-use Rattle.refusal.specs.Answers.{refusal}
-use Rattle.bac6_rules.specs.Order.{laterFault}
+use Rattle.refusal.specs.Internal.Answers.{refusal}
+use Rattle.bac6_rules.specs.Internal.Order.{laterFault}
 use Rattle.refusal.proofs.Rules.{refused-by, clear-by, or-clear, or-fault}
 use borrow.Author.Needs.{needs}
 use Rattle.bac6_rules.proofs.order.later_fault.Statement.{statement}

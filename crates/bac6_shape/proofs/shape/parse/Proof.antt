@@ -3,14 +3,14 @@ use mathlib.Core.Path.{refl, _∙_}
 use denote.Ref.{now}
 use Rattle.text_bytes.specs.Bytes.{bytes}
 use Rattle.text_numbers.specs.Numbers.{FLOAT}
-use Rattle.parse_numbers.specs.Answers.{formNamed}
-use Rattle.parse_cursor.specs.Cursors.{reads}
+use Rattle.parse_numbers.specs.Internal.Answers.{formNamed}
+use Rattle.parse_cursor.specs.Internal.Cursors.{reads}
 use Rattle.parse_cursor.proofs.Counts.{whole-text}
 use Rattle.parse_cursor.proofs.Steps.{join}
 use Rattle.bac6_text.specs.Grammar.{uvSection}
-use Rattle.bac6_front.specs.Answers.{frontValue}
+use Rattle.bac6_front.specs.Internal.Answers.{frontValue}
 use Rattle.bac6_front.proofs.Laid.{section-list}
-use Rattle.bac6_shape.specs.Answers.{keptBy}
+use Rattle.bac6_shape.specs.Internal.Answers.{keptBy}
 use Rattle.bac6_shape.proofs.Figures.{kept, backSteps, figure-steps}
 use borrow.Author.Needs.{needs}
 use Rattle.bac6_shape.proofs.shape.parse.Statement.{statement}

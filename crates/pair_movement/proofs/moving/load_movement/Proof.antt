@@ -21,7 +21,7 @@ use Rattle.pair_text.specs.Rules.{pairFault}
 use Rattle.pair_text.specs.Answer.{movementLeft}
 use Rattle.pair_bridge.specs.Names.{namesIn}
 use Rattle.pair_movement.specs.Moved.{movedReply}
-use Rattle.pair_rules.specs.Tables.{rowsFault, tablesFault}
+use Rattle.pair_rules.specs.Internal.Tables.{rowsFault, tablesFault}
 use Rattle.pair_rules.proofs.Faults.{held-tables}
 use Rattle.pair_movement.proofs.Rooms.{movement-held, movement-small, Read, read-refused, read-taken, total-is, read-whole, room-short, room-enough, left-is}
 use Rattle.pair_movement.proofs.Standing.{movement-stands}

@@ -6,7 +6,7 @@ use borrow.Author.Needs.{needs}
 use borrow.Author.Tests.{not-true, not-false}
 use mir.Syntax.{w64}
 use mir.Facts.{toZ-ofZ}
-use Rattle.refusal.specs.Answers.{refusal}
+use Rattle.refusal.specs.Internal.Answers.{refusal}
 use Rattle.table_rows.specs.References.{isRow}
 use Rattle.table_columns.specs.Parts.{rowsAt}
 use Rattle.pair_text.specs.Rules.{groupsFault}

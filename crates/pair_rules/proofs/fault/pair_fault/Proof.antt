@@ -3,7 +3,7 @@ use mathlib.Core.Path.{_≡_, sym, _∙_}
 use mathlib.Core.Bool.{true}
 use borrow.Author.Tests.{not-true, not-false}
 use denote.Ref.{now}
-use Rattle.refusal.specs.Answers.{refusal}
+use Rattle.refusal.specs.Internal.Answers.{refusal}
 use Rattle.table_sections.specs.Sections.{holdsFigure, holdsMovement}
 use Rattle.pair_rules.proofs.Faults.{unheld-figure, unheld-movement, held-tables}
 use borrow.Author.Needs.{needs}

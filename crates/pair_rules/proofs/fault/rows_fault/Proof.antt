@@ -4,7 +4,7 @@ use Prim.Native.Nat.{_+_, _-_, _*_, _≤_}
 use native.Mathlib.Omega.{arith}
 use denote.Ref.{now}
 use lib.ListN.{length}
-use Rattle.refusal.specs.Answers.{refusal}
+use Rattle.refusal.specs.Internal.Answers.{refusal}
 use Rattle.refusal.proofs.Rules.{refused-by, clear-by}
 use Rattle.table_sections.proofs.Mosts.{movement-room}
 use Rattle.table_columns.proofs.Parts.{part-length}

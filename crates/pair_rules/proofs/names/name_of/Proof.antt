@@ -2,7 +2,7 @@
 use mathlib.Core.Path.{_∙_}
 use native.Mathlib.Omega.{arith}
 use Rattle.text_bytes.proofs.Parts.{part-none}
-use Rattle.player_label.specs.Answers.{found}
+use Rattle.player_label.specs.Internal.Answers.{found}
 use Rattle.player_label.specs.Names.{partAt}
 use Rattle.player_label.specs.Labels.{orEmpty}
 use borrow.Author.Needs.{needs}

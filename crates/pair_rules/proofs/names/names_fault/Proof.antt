@@ -4,7 +4,7 @@ use Prim.Native.Nat.{_-_, _≤_}
 use native.Mathlib.Omega.{arith}
 use borrow.Author.Needs.{needs}
 use borrow.Author.Tests.{not-true, not-false}
-use Rattle.refusal.specs.Answers.{refusal}
+use Rattle.refusal.specs.Internal.Answers.{refusal}
 use Rattle.player_label.specs.Names.{figureName, movementName}
 use Rattle.pair_text.specs.Rules.{namesFault}
 use Rattle.pair_bridge.specs.Names.{namesFrom}

@@ -1,6 +1,6 @@
 -- `is_quoted` compares the kind's number with 2: one law for every such test.
 use mathlib.Core.Path.{refl}
-use Rattle.parse_cursor.specs.Places.{isQuoted}
+use Rattle.parse_cursor.specs.Internal.Places.{isQuoted}
 use Rattle.parse_cursor.proofs.KindTests.{by-number}
 use borrow.Author.Needs.{needs}
 use Rattle.parse_cursor.proofs.kinds.is_quoted.Statement.{statement}

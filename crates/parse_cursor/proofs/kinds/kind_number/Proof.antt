@@ -1,5 +1,5 @@
 -- `kind_number` is the definition at each kind.
-use Rattle.parse_cursor.specs.KindNumbers.{kindNumber}
+use Rattle.parse_cursor.specs.Internal.KindNumbers.{kindNumber}
 use borrow.Author.Needs.{needs}
 use Rattle.parse_cursor.proofs.kinds.kind_number.Statement.{statement}
 use Rattle.parse_cursor.proofs.kinds.kind_number.Tie as tie

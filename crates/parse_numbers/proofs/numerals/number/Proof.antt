@@ -1,5 +1,5 @@
 -- `number` goes by what the next token is as a number.
-use Rattle.text_numbers.specs.Answers.{numberNamed}
+use Rattle.text_numbers.specs.Internal.Answers.{numberNamed}
 use Rattle.parse_cursor.specs.Readers.{number}
 use Rattle.parse_cursor.proofs.Steps.{passed}
 use Rattle.parse_cursor.proofs.NumberSteps.{number-value, number-beyond, number-wrong}

@@ -1,5 +1,5 @@
 -- `parsed` is the definition at each form.
-use Rattle.parse_numbers.specs.Answers.{formNamed}
+use Rattle.parse_numbers.specs.Internal.Answers.{formNamed}
 use borrow.Author.Needs.{needs}
 use Rattle.parse_numbers.proofs.numerals.parsed.Statement.{statement}
 use Rattle.parse_numbers.proofs.numerals.parsed.Tie as tie

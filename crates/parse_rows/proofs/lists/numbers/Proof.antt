@@ -8,9 +8,9 @@ use mir.Syntax.{w64}
 use mir.Facts.{toZ-ofZ}
 use lib.ListN.{length, take, length-set}
 use lib.Seq.{take-set-le}
-use Rattle.parse_cursor.specs.Cursors.{from}
-use Rattle.parse_numbers.specs.Answers.{formNamed}
-use Rattle.parse_rows.specs.Into.{numbersInto}
+use Rattle.parse_cursor.specs.Internal.Cursors.{from}
+use Rattle.parse_numbers.specs.Internal.Answers.{formNamed}
+use Rattle.parse_rows.specs.Internal.Into.{numbersInto}
 use Rattle.parse_cursor.proofs.Steps.{passed}
 use Rattle.parse_rows.proofs.Into.{numbers-none, numbers-store, numbers-drop}
 use Rattle.parse_rows.proofs.lists.numbers.Statement.{statement}

@@ -1,7 +1,7 @@
 -- `row_tail` is the keyword, the numbers in front and those after them, and the closing bracket.
 use mathlib.Core.Path.{_∙_}
-use Rattle.parse_numbers.specs.Answers.{formNamed}
-use Rattle.parse_rows.specs.Into.{rowTail}
+use Rattle.parse_numbers.specs.Internal.Answers.{formNamed}
+use Rattle.parse_rows.specs.Internal.Into.{rowTail}
 use Rattle.parse_cursor.proofs.Steps.{seq}
 use Rattle.parse_cursor.proofs.Binds.{closed-at}
 use Rattle.parse_rows.proofs.Before.{before-step}

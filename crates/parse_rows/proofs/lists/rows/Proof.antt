@@ -6,9 +6,9 @@ use native.Mathlib.Omega.{arith}
 use borrow.Author.Needs.{needs}
 use lib.ListN.{length, take}
 use Rattle.text_tokens.specs.Tokens.{lexAt}
-use Rattle.parse_cursor.specs.Cursors.{from}
-use Rattle.parse_numbers.specs.Answers.{formNamed}
-use Rattle.parse_rows.specs.Into.{rowsInto}
+use Rattle.parse_cursor.specs.Internal.Cursors.{from}
+use Rattle.parse_numbers.specs.Internal.Answers.{formNamed}
+use Rattle.parse_rows.specs.Internal.Into.{rowsInto}
 use Rattle.parse_cursor.proofs.Steps.{passed, from-same}
 use Rattle.parse_cursor.proofs.Counts.{lexAt-count}
 use Rattle.parse_rows.proofs.Before.{earlier}

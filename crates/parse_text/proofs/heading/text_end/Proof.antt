@@ -1,7 +1,7 @@
 -- `text_end` goes by whether the next token is the last.
 use mathlib.Core.Path.{sym, _∙_}
 use Rattle.text_tokens.specs.Tokens.{lexeme}
-use Rattle.text_tokens.specs.Answers.{lexemeOf}
+use Rattle.text_tokens.specs.Internal.Answers.{lexemeOf}
 use Rattle.parse_cursor.specs.Readers.{text-end}
 use Rattle.parse_cursor.proofs.Steps.{passed}
 use Rattle.parse_text.proofs.HeadSteps.{end-here, end-later}

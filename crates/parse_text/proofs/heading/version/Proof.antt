@@ -1,7 +1,7 @@
 -- `version` goes by whether the next token is the word wanted, and else by whether it is plain.
 use mathlib.Core.Path.{sym, _∙_}
 use Rattle.text_tokens.specs.Tokens.{lexeme}
-use Rattle.text_tokens.specs.Answers.{lexemeOf}
+use Rattle.text_tokens.specs.Internal.Answers.{lexemeOf}
 use Rattle.parse_cursor.specs.Readers.{version}
 use Rattle.parse_cursor.proofs.Steps.{passed}
 use Rattle.parse_text.proofs.HeadSteps.{version-right, version-wrong, version-missing}

@@ -1,6 +1,6 @@
 -- `closed_at` is the definition, by whether the flags cover those that are needed.
 use mathlib.Core.Path.{sym, _∙_}
-use Rattle.parse_cursor.specs.Cursors.{closedAt}
+use Rattle.parse_cursor.specs.Internal.Cursors.{closedAt}
 use borrow.Author.Needs.{needs}
 use Rattle.parse_words.proofs.fields.closed_at.Statement.{statement}
 use Rattle.parse_words.proofs.fields.closed_at.Tie as tie

@@ -4,9 +4,9 @@ use Prim.Native.Nat.{_<_, _^_}
 use native.Mathlib.Omega.{arith}
 use borrow.Author.Tests.{not-true, not-false}
 use Rattle.text_tokens.specs.Tokens.{lexeme}
-use Rattle.text_tokens.specs.Answers.{lexemeOf}
+use Rattle.text_tokens.specs.Internal.Answers.{lexemeOf}
 use Rattle.text_numbers.proofs.Signed.{bits-pos}
-use Rattle.parse_words.specs.Words.{wordIn}
+use Rattle.parse_words.specs.Internal.Words.{wordIn}
 use Rattle.parse_cursor.proofs.Steps.{passed}
 use Rattle.parse_words.proofs.Vocabulary.{among-other, among-past, among-yes, word-took, word-balked}
 use borrow.Author.Needs.{needs}

@@ -9,10 +9,10 @@ use denote.Ref.{now}
 use lib.ListN.{length, drop}
 use Rattle.text_bytes.specs.Bytes.{part, run, inWord}
 use Rattle.text_tokens.specs.Tokens.{isKeyword}
-use Rattle.text_tokens.specs.Answers.{lexemeOf}
-use Rattle.text_bytes.specs.Answers.{testNamed}
+use Rattle.text_tokens.specs.Internal.Answers.{lexemeOf}
+use Rattle.text_bytes.specs.Internal.Answers.{testNamed}
 use Rattle.text_bytes.proofs.Runs.{run-within}
-use Rattle.parse_words.specs.Words.{words, indexIn}
+use Rattle.parse_words.specs.Internal.Words.{words, indexIn}
 use Rattle.parse_words.proofs.Vocabulary.{first-yes, last-no, more-no}
 use Rattle.parse_words.proofs.words.word_index.Statement.{statement}
 use Rattle.parse_words.proofs.words.word_index.Tie as tie

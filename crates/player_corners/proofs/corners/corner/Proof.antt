@@ -13,8 +13,8 @@ use Rattle.table_sections.proofs.Indices.{small-fits, byte-fits, face-place}
 use Rattle.player_spec.specs.Lookups.{faceAt}
 use Rattle.player_spec.specs.Answers.{numbered}
 use Rattle.player_corners.specs.Answers.{cornered}
-use Rattle.player_corners.specs.CornerRow.{rowCorner}
-use Rattle.table_sections.specs.Found.{Found}
+use Rattle.player_corners.specs.Internal.CornerRow.{rowCorner}
+use Rattle.table_sections.specs.Internal.Found.{Found}
 use Rattle.table_sections.proofs.Founds.{found, faces-are}
 use Rattle.player_corners.proofs.CornerTests.{not-held, no-face, by-row}
 use borrow.Author.Needs.{needs}

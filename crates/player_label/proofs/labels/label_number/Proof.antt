@@ -1,7 +1,7 @@
 -- `label_number` is 21 where `find` refuses, else 0.
 use borrow.Author.Needs.{needs}
 use Rattle.player_spec.specs.Answers.{numbered}
-use Rattle.player_label.specs.Answers.{named}
+use Rattle.player_label.specs.Internal.Answers.{named}
 use Rattle.player_label.proofs.labels.label_number.Statement.{statement}
 use Rattle.player_label.proofs.labels.label_number.Tie as tie
 

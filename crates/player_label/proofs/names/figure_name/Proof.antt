@@ -8,9 +8,9 @@ use mir.Syntax.{w64}
 use mir.Facts.{toZ-ofZ}
 use native.Mathlib.Omega.{arith}
 use borrow.Author.Needs.{needs}
-use Rattle.table_sections.specs.Bones.{figureBone}
+use Rattle.table_sections.specs.Internal.Bones.{figureBone}
 use Rattle.player_label.specs.Names.{nameSpan}
-use Rattle.player_label.specs.Answers.{found}
+use Rattle.player_label.specs.Internal.Answers.{found}
 use Rattle.player_label.proofs.Spans.{figure-none, figure-length, figure-pair}
 use Rattle.player_label.proofs.names.figure_name.Statement.{statement}
 use Rattle.player_label.proofs.names.figure_name.Tie as tie

@@ -8,9 +8,9 @@ use mir.Syntax.{w64}
 use mir.Facts.{toZ-ofZ}
 use native.Mathlib.Omega.{arith}
 use borrow.Author.Needs.{needs}
-use Rattle.table_sections.specs.Bones.{movementBone}
+use Rattle.table_sections.specs.Internal.Bones.{movementBone}
 use Rattle.player_label.specs.Names.{nameSpan}
-use Rattle.player_label.specs.Answers.{found}
+use Rattle.player_label.specs.Internal.Answers.{found}
 use Rattle.player_label.proofs.Spans.{movement-none, movement-length, movement-pair}
 use Rattle.player_label.proofs.names.movement_name.Statement.{statement}
 use Rattle.player_label.proofs.names.movement_name.Tie as tie

@@ -2,7 +2,7 @@
 use mir.Facts.{toZ-ofZ}
 use Rattle.text_numbers.proofs.Signed.{from-zero}
 use Rattle.table_columns.proofs.Casts.{natural-cast}
-use Rattle.player_label.specs.Answers.{found}
+use Rattle.player_label.specs.Internal.Answers.{found}
 use Rattle.player_label.proofs.Spans.{end-fits, place-below, length-below, length-over, end-over, end-within}
 use Rattle.player_label.proofs.names.name_span.Statement.{statement}
 use Rattle.player_label.proofs.names.name_span.Tie as tie

@@ -15,8 +15,8 @@ use mir.Val.{toZ}
 use mir.Facts.{toZ-ofZ}
 use Rattle.table_columns.specs.Parts.{rowsAt}
 use Rattle.player_spec.specs.Lookups.{isFloat}
-use Rattle.player_samples.specs.Pass.{passFrom, passOver}
-use Rattle.player_samples.specs.Passing.{keyOf, stateOf, thenFrom, Ready}
+use Rattle.player_samples.specs.Internal.Pass.{passFrom, passOver}
+use Rattle.player_samples.specs.Internal.Passing.{keyOf, stateOf, thenFrom, Ready}
 use Rattle.player_samples.proofs.Walked.{left-more, first-late, first-wide, first-on, ended, stopped, goes-on, float-below}
 use Rattle.player_tests.proofs.Numbers.{zero-no, zero-yes}
 use Rattle.player_samples.proofs.pass.pass_over.Statement.{statement}

@@ -14,7 +14,7 @@ use Rattle.tra4_text.specs.Rules.{keyFine}
 use Rattle.player_spec.specs.Lookups.{isFloat}
 use Rattle.player_tests.proofs.Numbers.{float-size}
 use Rattle.player_samples.specs.Answers.{ratio}
-use Rattle.player_samples.specs.Passing.{keyOf}
+use Rattle.player_samples.specs.Internal.Passing.{keyOf}
 use Rattle.table_columns.proofs.Casts.{natural-cast}
 use Rattle.player_samples.proofs.Stepping.{refute, frame-facts, not-following, not-float, known-on, open-on, passed-on, ready-on}
 use borrow.Author.Needs.{needs}

@@ -14,8 +14,8 @@ use borrow.Author.Tests.{not-true, not-false}
 use Rattle.table_sections.specs.Sections.{keysBegin, holdsMovement}
 use Rattle.table_columns.specs.Parts.{numberAt}
 use Rattle.player_spec.specs.Lookups.{isAsked, isRange, pairAt, channelKeys, sampleIn}
-use Rattle.player_samples.specs.Pass.{passOver}
-use Rattle.player_samples.specs.Passing.{finished}
+use Rattle.player_samples.specs.Internal.Pass.{passOver}
+use Rattle.player_samples.specs.Internal.Passing.{finished}
 use Rattle.player_spec.specs.Answers.{numbered}
 use Rattle.player_samples.specs.Answers.{sampled}
 use Rattle.table_columns.proofs.Casts.{natural-cast}

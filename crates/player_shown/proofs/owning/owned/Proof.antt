@@ -18,7 +18,7 @@ use Rattle.table_sections.proofs.Founds.{owners-room}
 use Rattle.table_sections.proofs.Indices.{byte-fits}
 use Rattle.player_spec.specs.Lookups.{ownerAt}
 use Rattle.player_tests.proofs.Owners.{owner-part}
-use Rattle.player_shown.specs.Rows.{ownedIn}
+use Rattle.player_shown.specs.Internal.Rows.{ownedIn}
 use Rattle.player_shown.specs.Answers.{visible}
 use Rattle.player_shown.proofs.OwnedCorners.{left, left-all, left-end, turn-broken, turn-none, turn-owned}
 use Rattle.player_shown.proofs.owning.owned.Statement.{statement}

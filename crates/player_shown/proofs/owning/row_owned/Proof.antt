@@ -12,7 +12,7 @@ use native.Mathlib.Omega.{arith}
 use borrow.Author.Tests.{not-true, not-false}
 use Rattle.text_numbers.proofs.Tests.{tested}
 use Rattle.player_spec.specs.Lookups.{sizeFine, cornersFine}
-use Rattle.player_shown.specs.Rows.{ownedIn}
+use Rattle.player_shown.specs.Internal.Rows.{ownedIn}
 use Rattle.player_shown.specs.Answers.{visible}
 use Rattle.table_columns.proofs.Casts.{natural-cast}
 use Rattle.player_tests.proofs.Corners.{size-is}

@@ -1,5 +1,5 @@
 -- `both` is the definition, by the constructors.
-use Rattle.player_shown.specs.Rows.{bothShown}
+use Rattle.player_shown.specs.Internal.Rows.{bothShown}
 use Rattle.player_shown.specs.Answers.{visible}
 use Rattle.player_shown.proofs.ShownTests.{shown-with}
 use borrow.Author.Needs.{needs}

@@ -13,7 +13,7 @@ use Rattle.table_rows.specs.References.{isNone}
 use Rattle.table_rows.specs.Index.{isIndex}
 use Rattle.text_numbers.proofs.Tests.{tested}
 use Rattle.table_rows.proofs.Numbers.{index-row}
-use Rattle.player_shown.specs.Rows.{bothShown}
+use Rattle.player_shown.specs.Internal.Rows.{bothShown}
 use Rattle.player_shown.specs.Answers.{visible}
 use Rattle.table_columns.proofs.Casts.{natural-cast}
 use Rattle.player_tests.proofs.Corners.{row-is}

@@ -17,13 +17,13 @@ use Rattle.table_columns.specs.Parts.{numberAt, rowsAt}
 use Rattle.table_columns.proofs.Parts.{part-length, part-numbers}
 use Rattle.table_sections.specs.declared.sections.MovementSections.{MovementSections}
 use Rattle.table_sections.specs.Sections.{keysBegin, patternsBegin, movementSections, holdsMovement, facesBegin}
-use Rattle.table_sections.specs.Found.{Found}
+use Rattle.table_sections.specs.Internal.Found.{Found}
 use Rattle.table_sections.proofs.Founds.{found, faces-are}
 use Rattle.table_sections.proofs.Mosts.{movement-room, movement-none, movement-held, movement-found, figure-none}
 use Rattle.table_sections.proofs.Indices.{small-fits, byte-fits, index-within, face-place}
 use Rattle.player_spec.specs.Lookups.{isAsked, faceAt, patternRows}
 use Rattle.player_spec.specs.Answers.{numbered}
-use Rattle.player_shown.specs.Rows.{rowShown}
+use Rattle.player_shown.specs.Internal.Rows.{rowShown}
 use Rattle.player_shown.specs.Answers.{showed}
 use Rattle.player_shown.proofs.FlagRows.{lent, lent-rows, lent-length}
 use Rattle.player_shown.proofs.ShownTests.{showed-is, no-figure, no-movement, no-face, not-asked, by-row}

@@ -6,7 +6,7 @@ use native.Mathlib.Numerals.{add-one}
 use borrow.Author.Needs.{needs}
 use denote.Ref.{now}
 use lib.ListN.{length, drop}
-use Rattle.refusal.specs.Answers.{refusal}
+use Rattle.refusal.specs.Internal.Answers.{refusal}
 use Rattle.refusal.specs.Rules.{tooMany}
 use Rattle.refusal.proofs.Rules.{counts-end, mosts-end, count-within, count-beyond}
 use Rattle.refusal.proofs.limits.too_many.Statement.{statement}

@@ -9,7 +9,7 @@ use lib.IntN.{pos}
 use mir.Syntax.{w64}
 use mir.Facts.{toZ-ofZ}
 use lib.ListN.{length, take, getD, length-set}
-use Rattle.table_rows.specs.Overlay.{overlayAt}
+use Rattle.table_rows.specs.Internal.Overlay.{overlayAt}
 use Rattle.table_rows.proofs.Tables.{overlayAt-none}
 use Rattle.table_rows.proofs.Stores.{store-more, store-full, store-all}
 use Rattle.table_rows.proofs.rows.store.Statement.{statement}

@@ -1,6 +1,6 @@
 -- `belongs` is the test that its kind names.
 use Rattle.text_bytes.specs.Bytes.{inLine, inString, inWord, isDigit}
-use Rattle.text_bytes.specs.Answers.{testNamed}
+use Rattle.text_bytes.specs.Internal.Answers.{testNamed}
 use borrow.Author.Needs.{needs}
 use Rattle.text_bytes.proofs.bytes.belongs.Statement.{statement}
 use Rattle.text_bytes.proofs.bytes.belongs.Tie as tie

@@ -3,7 +3,7 @@ use borrow.Author.Needs.{needs}
 use borrow.Author.Tests.{eq-eqb, ne-eqb}
 use mathlib.Core.Path.{sym, _∙_}
 use Rattle.text_bytes.specs.Bytes.{classOf}
-use Rattle.text_bytes.specs.Answers.{classNamed}
+use Rattle.text_bytes.specs.Internal.Answers.{classNamed}
 use Rattle.text_bytes.proofs.bytes.class_of.Statement.{statement}
 use Rattle.text_bytes.proofs.bytes.class_of.Tie as tie
 

@@ -8,7 +8,7 @@ use borrow.Author.Tests.{not-true, not-false}
 use lib.ListN.{length, drop}
 use denote.Ref.{now}
 use Rattle.text_bytes.specs.Bytes.{run}
-use Rattle.text_bytes.specs.Answers.{testNamed}
+use Rattle.text_bytes.specs.Internal.Answers.{testNamed}
 use Rattle.text_bytes.proofs.Runs.{run-more, run-stop, run-past}
 use Rattle.text_bytes.proofs.bytes.run_end.Statement.{statement}
 use Rattle.text_bytes.proofs.bytes.run_end.Tie as tie

@@ -2,7 +2,7 @@
 use mathlib.Core.Path.{sym, _∙_}
 use borrow.Author.Tests.{le-leb, lt-leb, not-true, not-false}
 use Rattle.text_check.specs.Faults.{textFault}
-use Rattle.refusal.specs.Answers.{refusal}
+use Rattle.refusal.specs.Internal.Answers.{refusal}
 use borrow.Author.Needs.{needs}
 use Rattle.text_check.proofs.check.check_text.Statement.{statement}
 use Rattle.text_check.proofs.check.check_text.Tie as tie

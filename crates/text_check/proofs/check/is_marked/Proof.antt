@@ -1,7 +1,7 @@
 -- `is_marked` is the definition at each format's mark.
 use Rattle.text_bytes.specs.Bytes.{bytes}
 use Rattle.text_check.specs.Faults.{marked, markOf}
-use Rattle.text_check.specs.Answers.{formatNamed}
+use Rattle.text_check.specs.Internal.Answers.{formatNamed}
 use borrow.Author.Needs.{needs}
 use Rattle.text_check.proofs.check.is_marked.Statement.{statement}
 use Rattle.text_check.proofs.check.is_marked.Tie as tie

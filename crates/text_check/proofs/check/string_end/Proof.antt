@@ -8,7 +8,7 @@ use borrow.Author.Tests.{not-true, not-false}
 use lib.ListN.{length, drop}
 use Rattle.text_check.specs.Faults.{faultIn, string}
 use Rattle.text_bytes.specs.Bytes.{isContent}
-use Rattle.text_check.specs.Answers.{scanned, Ahead}
+use Rattle.text_check.specs.Internal.Answers.{scanned, Ahead}
 use Rattle.text_check.proofs.Scanning.{string-closed, string-long, string-stray, string-more, string-open, string-same}
 use Rattle.text_check.proofs.check.string_end.Statement.{statement}
 use Rattle.text_check.proofs.check.string_end.Tie as tie

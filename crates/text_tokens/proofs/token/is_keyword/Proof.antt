@@ -5,7 +5,7 @@ use Prim.Native.Nat.{ℕ}
 use denote.Ref.{now}
 use Rattle.text_bytes.specs.Bytes.{same}
 use Rattle.text_tokens.specs.Tokens.{isKeyword, lexeme}
-use Rattle.text_tokens.specs.Answers.{lexemeOf, tokenOf, heldBytes}
+use Rattle.text_tokens.specs.Internal.Answers.{lexemeOf, tokenOf, heldBytes}
 use borrow.Author.Needs.{needs}
 use Rattle.text_tokens.proofs.token.is_keyword.Statement.{statement}
 use Rattle.text_tokens.proofs.token.is_keyword.Tie as tie

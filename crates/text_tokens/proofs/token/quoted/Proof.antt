@@ -9,8 +9,8 @@ use denote.Ref.{now}
 use lib.ListN.{length, drop}
 use Rattle.text_bytes.specs.Bytes.{run, inString}
 use Rattle.text_tokens.specs.Tokens.{quoted, widthOf, bytesOf}
-use Rattle.text_tokens.specs.Answers.{kindOf}
-use Rattle.text_bytes.specs.Answers.{testNamed}
+use Rattle.text_tokens.specs.Internal.Answers.{kindOf}
+use Rattle.text_bytes.specs.Internal.Answers.{testNamed}
 use Rattle.text_bytes.proofs.Runs.{run-within}
 use Rattle.text_tokens.proofs.Spans.{spanned, next-quoted}
 use Rattle.text_tokens.proofs.token.quoted.Statement.{statement}

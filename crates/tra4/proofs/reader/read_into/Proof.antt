@@ -4,9 +4,9 @@ use mir.Syntax.{w64}
 use mir.Facts.{toZ-ofZ}
 use lib.ListN.{length}
 use denote.Ref.{now}
-use Rattle.refusal.specs.Answers.{refusal}
+use Rattle.refusal.specs.Internal.Answers.{refusal}
 use Rattle.refusal.proofs.Rules.{refused-by, clear-by}
-use Rattle.tra4.specs.Answers.{rulesFault}
+use Rattle.tra4.specs.Internal.Answers.{rulesFault}
 use Rattle.tra4.proofs.Settings.{refused-answer, refused-table}
 use Rattle.tra4.proofs.Ends.{parsedAs, shape-refused, rule-refused, rows-fit, down-answer, down-table}
 use borrow.Author.Needs.{needs}

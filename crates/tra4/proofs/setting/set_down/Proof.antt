@@ -7,9 +7,9 @@ use mir.Syntax.{w64}
 use mir.Facts.{toZ-ofZ}
 use lib.ListN.{length}
 use denote.Ref.{now}
-use Rattle.table_rows.specs.Overlay.{overlayAt}
+use Rattle.table_rows.specs.Internal.Overlay.{overlayAt}
 use Rattle.table_rows.proofs.Chains.{laid-first, laid-next}
-use Rattle.tra4.specs.Answers.{totalOf, countsAnswer, partsOf}
+use Rattle.tra4.specs.Internal.Answers.{totalOf, countsAnswer, partsOf}
 use Rattle.tra4.proofs.Settings.{part-length, short-answer, short-table, long-answer, long-table, first-numbers}
 use borrow.Author.Needs.{needs}
 use Rattle.tra4.proofs.setting.set_down.Statement.{statement}

@@ -10,7 +10,7 @@ use lib.ListN.{getD, set}
 use mir.Syntax.{w64}
 use mir.Val.{toZ, ofZ}
 use Rattle.text_numbers.proofs.Signed.{bits-pos, pos-fits}
-use Rattle.table_rows.specs.Overlay.{overlayAt}
+use Rattle.table_rows.specs.Internal.Overlay.{overlayAt}
 use Rattle.tra4_bone.proofs.Ranges.{cast-is, cast-fits, part-is}
 use Rattle.tra4_bone.proofs.laying.lay_range.Statement.{statement}
 use Rattle.tra4_bone.proofs.laying.lay_range.Tie as tie

@@ -8,12 +8,12 @@ use denote.Ref.{now}
 use lib.ListN.{length}
 use Rattle.text_bytes.specs.Bytes.{bytes}
 use Rattle.text_tokens.specs.Tokens.{lexAt}
-use Rattle.parse_cursor.specs.Cursors.{from}
+use Rattle.parse_cursor.specs.Internal.Cursors.{from}
 use Rattle.parse_cursor.proofs.Steps.{passed}
 use Rattle.parse_cursor.proofs.Counts.{lexAt-count, lexAt-some}
 use Rattle.tra4_text.specs.Grammar.{bone}
-use Rattle.tra4_bones.specs.Into.{boneStep, moreInto}
-use Rattle.tra4_bone.specs.Into.{kept}
+use Rattle.tra4_bones.specs.Internal.Into.{boneStep, moreInto}
+use Rattle.tra4_bone.specs.Internal.Into.{kept}
 use Rattle.tra4_bones.proofs.Repeats.{repeats-end, repeats-more, repeats-refused, repeats-fall, start-falls}
 use Rattle.tra4_bones.proofs.Lists.{bone-keeps}
 use Rattle.tra4_bones.proofs.list.more_bones.Statement.{statement}

@@ -5,7 +5,7 @@ use borrow.Author.Needs.{needs}
 use borrow.Author.Tests.{not-true, not-false}
 use lib.ListN.{length}
 use Rattle.text_tokens.specs.Tokens.{lexeme}
-use Rattle.text_tokens.specs.Answers.{lexemeOf}
+use Rattle.text_tokens.specs.Internal.Answers.{lexemeOf}
 use Rattle.tra4_channels.proofs.Turns.{Midway, midway-start, midway-sizes, turn-ends, turn-none, turn-stray, turn-on, turn-off}
 use Rattle.tra4_channels.proofs.channel.channel_chunks.Statement.{statement}
 use Rattle.tra4_channels.proofs.channel.channel_chunks.Tie as tie

@@ -6,13 +6,13 @@ use borrow.Author.Needs.{needs}
 use denote.Ref.{now}
 use lib.ListN.{length}
 use Rattle.text_tokens.specs.Tokens.{lexAt}
-use Rattle.parse_cursor.specs.Cursors.{reads, from}
-use Rattle.parse_rows.specs.Folds.{folded, stepped, rowStep}
+use Rattle.parse_cursor.specs.Internal.Cursors.{reads, from}
+use Rattle.parse_rows.specs.Internal.Folds.{folded, stepped, rowStep}
 use Rattle.parse_cursor.proofs.Steps.{passed}
 use Rattle.parse_cursor.proofs.Counts.{lexAt-count}
 use Rattle.parse_rows.proofs.Folds.{folded-end, folded-more, folded-fall, row-stepped}
 use Rattle.tra4_text.specs.Grammar.{pattern}
-use Rattle.tra4_parse.specs.Patterns.{patternTail, patternInto}
+use Rattle.tra4_parse.specs.Internal.Patterns.{patternTail, patternInto}
 use Rattle.tra4_parse.proofs.Patterns.{pattern-opens, pattern-keeps, pattern-takes}
 use Rattle.tra4_parse.proofs.pattern.pattern_list.Statement.{statement}
 use Rattle.tra4_parse.proofs.pattern.pattern_list.Tie as tie

@@ -2,7 +2,7 @@
 use mir.Syntax.{w64}
 use mir.Facts.{toZ-ofZ}
 use Rattle.text_bytes.specs.Bytes.{bytes}
-use Rattle.parse_numbers.specs.Answers.{formNamed}
+use Rattle.parse_numbers.specs.Internal.Answers.{formNamed}
 use Rattle.tra4_parse.proofs.Patterns.{pattern-read}
 use borrow.Author.Needs.{needs}
 use Rattle.tra4_parse.proofs.pattern.pattern_tail.Statement.{statement}

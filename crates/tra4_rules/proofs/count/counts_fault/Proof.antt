@@ -1,7 +1,7 @@
 -- `counts_fault` is the definition, count by count.
 use mathlib.Core.Path.{sym, _∙_}
 use mathlib.Core.List.{[]}
-use Rattle.refusal.specs.Answers.{refusal}
+use Rattle.refusal.specs.Internal.Answers.{refusal}
 use Rattle.tra4_rules.proofs.Counts.{count-within, count-beyond, counts-end}
 use Rattle.tra4_rules.proofs.count.counts_fault.Statement.{statement}
 use Rattle.tra4_rules.proofs.count.counts_fault.Tie as tie

@@ -1,7 +1,7 @@
 -- `total_fault` is the definition, by its two bounds.
 use mathlib.Core.Path.{sym}
 use mir.Facts.{toZ-ofZ}
-use Rattle.refusal.specs.Answers.{refusal}
+use Rattle.refusal.specs.Internal.Answers.{refusal}
 use Rattle.tra4_rules.proofs.Counts.{total-low, total-high, total-fine}
 use Rattle.tra4_rules.proofs.count.total_fault.Statement.{statement}
 use Rattle.tra4_rules.proofs.count.total_fault.Tie as tie

@@ -12,10 +12,10 @@ use lib.ListN.{length, take, drop}
 use mir.Syntax.{w64}
 use mir.Val.{toZ}
 use mir.Facts.{toZ-ofZ}
-use Rattle.refusal.specs.Answers.{refusal}
+use Rattle.refusal.specs.Internal.Answers.{refusal}
 use Rattle.tra4_text.specs.Rules.{framesFault}
 use Rattle.table_columns.specs.Parts.{rowsOf}
-use Rattle.tra4_rules.specs.Frames.{widthOf, numberOf, rowFine, beforeOf}
+use Rattle.tra4_rules.specs.Internal.Frames.{widthOf, numberOf, rowFine, beforeOf}
 use Rattle.table_columns.proofs.Rows.{row-part, row-length}
 use Rattle.tra4_rules.proofs.Frames.{width-least, before-later, framesFrom, walk-start, walk-done, walk-short, walk-passed, walk-found}
 use Rattle.tra4_rules.proofs.frame.frames_fault.Statement.{statement}

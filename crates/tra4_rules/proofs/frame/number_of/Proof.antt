@@ -1,6 +1,6 @@
 -- `number_of` is the definition, kind by kind.
 use borrow.Author.Needs.{needs}
-use Rattle.tra4_rules.specs.Frames.{numberOf}
+use Rattle.tra4_rules.specs.Internal.Frames.{numberOf}
 use Rattle.tra4_rules.proofs.frame.number_of.Statement.{statement}
 use Rattle.tra4_rules.proofs.frame.number_of.Tie as tie
 

@@ -6,7 +6,7 @@ use denote.Ref.{now}
 use lib.ListN.{getD}
 use lib.IntN.{pos}
 use lib.Signed.{leZ}
-use Rattle.tra4_rules.specs.Frames.{beforeOf, frameFits}
+use Rattle.tra4_rules.specs.Internal.Frames.{beforeOf, frameFits}
 use Rattle.text_numbers.proofs.Tests.{tested, failed, passed}
 use Rattle.tra4_rules.proofs.Frames.{frame-told, key-row, pattern-row}
 use Rattle.tra4_rules.proofs.frame.row_fits.Statement.{statement}

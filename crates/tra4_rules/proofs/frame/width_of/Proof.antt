@@ -1,6 +1,6 @@
 -- `width_of` is the definition, kind by kind.
 use borrow.Author.Needs.{needs}
-use Rattle.tra4_rules.specs.Frames.{widthOf}
+use Rattle.tra4_rules.specs.Internal.Frames.{widthOf}
 use Rattle.tra4_rules.proofs.frame.width_of.Statement.{statement}
 use Rattle.tra4_rules.proofs.frame.width_of.Tie as tie
 

@@ -10,11 +10,11 @@ use lib.ListN.{length, drop}
 use mir.Syntax.{w64}
 use mir.Val.{toZ}
 use mir.Facts.{toZ-ofZ}
-use Rattle.refusal.specs.Answers.{refusal}
+use Rattle.refusal.specs.Internal.Answers.{refusal}
 use Rattle.refusal.specs.Rules.{orElse}
 use Rattle.tra4_text.specs.Rules.{framesFault, keyFine}
 use Rattle.table_columns.specs.Parts.{rowsOf}
-use Rattle.tra4_rules.specs.Keys.{pairCounts, boneCounts, keysFrom, Walked}
+use Rattle.tra4_rules.specs.Internal.Keys.{pairCounts, boneCounts, keysFrom, Walked}
 use Rattle.tra4_rules.proofs.Frames.{keys-frames}
 use Rattle.tra4_rules.proofs.Keys.{pairs-more, pairs-end, bone-counts, keys-step}
 use Rattle.refusal.proofs.Rules.{refused-by, clear-by, or-clear, or-fault}

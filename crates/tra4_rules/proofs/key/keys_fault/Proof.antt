@@ -9,9 +9,9 @@ use lib.ListN.{length, take, drop}
 use mir.Syntax.{w64}
 use mir.Val.{toZ}
 use mir.Facts.{toZ-ofZ}
-use Rattle.refusal.specs.Answers.{refusal}
+use Rattle.refusal.specs.Internal.Answers.{refusal}
 use Rattle.tra4_text.specs.Rules.{keysFault}
-use Rattle.tra4_rules.specs.Keys.{boneCounts, keyCounts, channelsIn, keysFrom, Walked}
+use Rattle.tra4_rules.specs.Internal.Keys.{boneCounts, keyCounts, channelsIn, keysFrom, Walked}
 use Rattle.table_columns.proofs.Rows.{row-part, row-length}
 use Rattle.tra4_rules.proofs.Keys.{keys-end, walked-within, walked-on, walked-fault, bones-start, bones-done, bones-short, bones-more}
 use Rattle.tra4_rules.proofs.key.keys_fault.Statement.{statement}

@@ -1,0 +1,35 @@
+-- What a figure's answer says, and how it follows from what was parsed.
+use mathlib.Core.List.{List, [], _∷_, _++_}
+use mathlib.Core.Bool.{true, false}
+use Prim.Native.Nat.{ℕ, _+_, _*_}
+use lib.Dec.{leb}
+use lib.IntN.{ℤ, pos}
+use lib.ListN.{length, take, drop}
+use Rattle.table_rows.specs.Internal.Overlay.{overlayAt}
+use Rattle.table_counts.specs.declared.counts.FigureCounts.{FigureCounts}
+use Rattle.bac6_shape.specs.declared.shape.Parsed.{Parsed}
+use Rattle.bac6.specs.declared.setting.FigureAnswer.{FigureAnswer}
+use Rattle.bac6.specs.Internal.Places.{uvsFrom, totalOf}
+use Rattle.bac6.specs.Answers.{refusedWith}
+
+unfoldable pub countsAnswer : FigureCounts → FigureAnswer
+countsAnswer n = record { refusal = 0; place = 0; file = 0; total = totalOf n; counts = n }
+
+-- 17 where the table is too short
+unfoldable pub downAnswer : FigureCounts → ℕ → FigureAnswer
+downAnswer n room = elim (leb (totalOf n) room) [ true ↦ countsAnswer n | false ↦ refusedWith 17 (totalOf n) ]
+
+unfoldable pub downTable : FigureCounts → List ℤ → List ℤ → List ℤ
+downTable n numbers table = elim (leb (totalOf n) (length table)) [ true ↦ overlayAt 0 numbers table | false ↦ table ]
+
+-- a name's place and length, the rows up to the bones, the owners, the other rows, and the groups' names
+unfoldable pub numbersBy : FigureCounts → ℕ → ℕ → List ℤ → List ℤ → List ℤ → List ℤ
+numbersBy n place size rows owners names =
+    (pos place ∷ pos size ∷ [])
+    ++ take (uvsFrom n) rows
+    ++ take (n .points) owners
+    ++ take (n .uvs * 2 + n .faces * 11) (drop (uvsFrom n) rows)
+    ++ take (n .groups * 2) names
+
+unfoldable pub numbersOf : Parsed → List ℤ → List ℤ → List ℤ → List ℤ
+numbersOf p rows owners names = numbersBy (p .counts) (p .place) (p .length) rows owners names

@@ -1,0 +1,48 @@
+-- The rules over what was parsed, and what is known of it.
+use mathlib.Core.Path.{_≡_}
+use mathlib.Core.List.{List, _++_}
+use Prim.Native.Nat.{ℕ, _≤_}
+use lib.IntN.{ℤ, negsuc}
+use lib.ListN.{length, take, drop, replicate}
+use Rattle.refusal.specs.Faults.{Fault, clear}
+use Rattle.table_counts.specs.declared.counts.FigureCounts.{FigureCounts}
+use Rattle.text_tokens.specs.Tokens.{Lexeme, lex}
+use Rattle.parse_cursor.specs.Readers.{got}
+use Rattle.bac6_text.specs.Figure.{Figure}
+use Rattle.bac6_text.specs.Grammar.{figure}
+use Rattle.bac6_text.specs.Rules.{wholeList}
+use Rattle.bac6_bones.specs.Internal.Into.{faultOf}
+use Rattle.bac6_bone_rules.specs.Internal.Bones.{flagsIn, Settled}
+use Rattle.bac6_rules.specs.Internal.Order.{countsFault, tablesFault}
+use Rattle.bac6_shape.specs.declared.shape.Parsed.{Parsed}
+use Rattle.bac6_shape.specs.Internal.Parse.{keptOf}
+use Rattle.bac6_shape.specs.Internal.Answers.{keptBy}
+use Rattle.bac6.specs.Internal.Places.{materialsFrom, bonesFrom, facesFrom}
+
+-- the first fault of the rules, each list from its place in the rows on
+unfoldable pub rulesFault : Parsed → List ℤ → Fault
+rulesFault p rows =
+    tablesFault (p .counts) (faultOf (p .faulty) (p .fault)) (drop (materialsFrom (p .counts)) rows) (drop (bonesFrom (p .counts)) rows) (drop (facesFrom (p .counts)) rows)
+
+-- the rows after the bones have been given their parents
+pub record PlacedIn (n : FigureCounts) (entry exit : List ℤ) : Type 0 where
+  pub bones : List ℤ
+  pub placed : Settled (n .bones) (drop (bonesFrom n) entry) bones (wholeList (flagsIn (n .bones) (drop (bonesFrom n) entry)))
+  pub whole : exit ≡ take (bonesFrom n) entry ++ bones
+
+-- unless rule 8 or 9 refuses
+abbrev pub RowsLeft : FigureCounts → List ℤ → List ℤ → Type 0
+RowsLeft n entry exit = countsFault n ≡ clear → PlacedIn n entry exit
+
+-- a figure that a text says, and what parsing kept of it over tables for the most rows of each list, with no vertex claimed
+pub record Held (p : Parsed) (rows owners names : List ℤ) : Type 0 where
+  pub text : List ℕ
+  pub short : length text ≤ 65536
+  pub read : Figure
+  pub left : List Lexeme
+  pub gives : figure (lex text) ≡ got read left
+  pub rows-entry : List ℤ
+  pub names-entry : List ℤ
+  pub rows-most : length rows-entry ≡ 34912
+  pub names-most : length names-entry ≡ 64
+  pub kept : keptOf rows-entry (replicate 2048 (negsuc 0)) names-entry read ≡ keptBy p rows owners names
