@@ -1,6 +1,5 @@
 -- Laws that belong to no one function.
 pub mod Factors
-pub mod Follows
 pub mod Passes
 pub mod Sampled
 pub mod Sizes

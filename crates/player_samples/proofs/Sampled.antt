@@ -39,14 +39,14 @@ pass-rows total at table i (suc c) h = pass-is total at _ _
 
 -- ---- the part that holds a channel's keys
 
-pub keys-part : (n : MovementCounts) (table : List ℤ) (at : ℕ) (total f c : ℤ) → holdsMovement n table ≡ true → isAsked total at ≡ true → isRange (n .keys) f c ≡ true → KeyRows (take (3 + n .bones * 22 + natAbs f * 2 + natAbs c * 2 - (3 + n .bones * 22 + natAbs f * 2)) (drop (3 + n .bones * 22 + natAbs f * 2) table)) (natAbs c) total
-keys-part n table at total f c h k r =
+pub keys-part : (n : MovementCounts) (table : List ℤ) (b : ℕ) (at : ℕ) (total f c : ℤ) → b ≡ 3 + n .bones * 22 → holdsMovement n table ≡ true → isAsked total at ≡ true → isRange (n .keys) f c ≡ true → KeyRows (take (b + natAbs f * 2 + natAbs c * 2 - (b + natAbs f * 2)) (drop (b + natAbs f * 2) table)) (natAbs c) total
+keys-part n table b at total f c q h k r =
     let m = movement-room n table h in
     let g = range-facts _ _ _ r in
     let t = asked-total at total k in
-    let e : 3 + n .bones * 22 + natAbs f * 2 + natAbs c * 2 - (3 + n .bones * 22 + natAbs f * 2) ≡ natAbs c * 2 = omega arith in
+    let e : b + natAbs f * 2 + natAbs c * 2 - (b + natAbs f * 2) ≡ natAbs c * 2 = omega arith in
     record {
-      rows = rw e (rw (length-take (natAbs c * 2) (drop (3 + n .bones * 22 + natAbs f * 2) table), length-drop (3 + n .bones * 22 + natAbs f * 2) table) (omega arith));
+      rows = rw e (rw (length-take (natAbs c * 2) (drop (b + natAbs f * 2) table), length-drop (b + natAbs f * 2) table) (omega arith));
       some-row = g .2;
       most = omega arith;
       positive = t .0;
@@ -54,10 +54,10 @@ keys-part n table at total f c h k r =
       frames = t .2;
     }
 
-pub rows-part : (n : MovementCounts) (table : List ℤ) (f c : ℤ) → rowsAt 2 (take (3 + n .bones * 22 + natAbs f * 2 + natAbs c * 2 - (3 + n .bones * 22 + natAbs f * 2)) (drop (3 + n .bones * 22 + natAbs f * 2) table)) 0 (natAbs c) ≡ rowsAt 2 table (3 + n .bones * 22 + natAbs f * 2) (natAbs c)
-rows-part n table f c =
-    let e : 3 + n .bones * 22 + natAbs f * 2 + 0 ≡ 3 + n .bones * 22 + natAbs f * 2 = omega arith in
-    part-rows 2 (3 + n .bones * 22 + natAbs f * 2) 0 (3 + n .bones * 22 + natAbs f * 2 + natAbs c * 2 - (3 + n .bones * 22 + natAbs f * 2)) (natAbs c) table (omega arith) ∙ rw e
+pub rows-part : (table : List ℤ) (b : ℕ) (f c : ℤ) → rowsAt 2 (take (b + natAbs f * 2 + natAbs c * 2 - (b + natAbs f * 2)) (drop (b + natAbs f * 2) table)) 0 (natAbs c) ≡ rowsAt 2 table (b + natAbs f * 2) (natAbs c)
+rows-part table b f c =
+    let e : b + natAbs f * 2 + 0 ≡ b + natAbs f * 2 = omega arith in
+    part-rows 2 (b + natAbs f * 2) 0 (b + natAbs f * 2 + natAbs c * 2 - (b + natAbs f * 2)) (natAbs c) table (omega arith) ∙ rw e
 
 -- ---- the tests
 

@@ -2,7 +2,6 @@
 mod fraction;
 mod line;
 mod pass;
-mod range;
 mod sampling;
 
 pub use sampling::Sampled;

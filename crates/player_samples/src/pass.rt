@@ -1,15 +1,13 @@
 // A channel's keys in one pass.
 ghost use mathlib.Core.Path.{_≡_};
 ghost use mathlib.Core.List.{List, [], _∷_};
-ghost use mathlib.Core.Option.{some};
 ghost use mathlib.Core.Bool.{true};
-ghost use lib.IntN.{ℤ, pos};
 ghost use Rattle.tra4_text.specs.Movement.{Key};
-ghost use Rattle.tra4_text.specs.Rules.{keyFine};
 ghost use Rattle.player_samples.specs.Internal.Pass.{passFrom, passOver};
 ghost use Rattle.table_columns.specs.Parts.{rowsAt};
 ghost use Rattle.player_samples.specs.Internal.Passing.{keyOf, stateOf, Ready, thenFrom, finished, KeyRows};
 use crate::line::line;
+use player_tests::follows;
 use player_tests::is_float;
 
 // The last key and what is known of the sample; or a key was at fault, and all else is free.
@@ -20,19 +18,6 @@ pub(crate) struct Pass {
     pub known: bool,
     pub numerator: i64,
     pub denominator: u64,
-}
-
-// Whether a key's frame may follow another's.
-fn follows(total: i64, before: usize, f: i64) -> bool
-    ensures { λ r. ⌜ ((v : ℤ) → r ≡ keyFine total (some (pos before)) (f ∷ v ∷ [])) ⌝ }
-{
-    if f < 0 {
-        return false;
-    }
-    if total <= f {
-        return false;
-    }
-    before < f as usize
 }
 
 // The next key, with its frame and value.
@@ -72,6 +57,7 @@ pub(crate) fn step(p: Pass, f: i64, v: i64, total: i64, at: usize) -> Pass
     next.denominator = r.denominator;
     next
 }
+
 // All keys of a channel, in rows of two numbers.
 pub(crate) fn pass_over(keys: &[i64], count: usize, total: i64, at: usize) -> Pass
     requires { ⌜ KeyRows (now keys) count total ⌝ }

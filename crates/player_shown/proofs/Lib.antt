@@ -2,5 +2,4 @@
 pub mod FlagRows
 pub mod Flagged
 pub mod OwnedCorners
-pub mod PatternLines
 pub mod ShownTests

@@ -1,13 +1,13 @@
 // A group's flag at a frame, from all pattern lines in one pass.
 ghost use mathlib.Core.Path.{_≡_};
 ghost use mathlib.Core.List.{[], _∷_};
-ghost use mathlib.Core.Option.{some};
 ghost use Prim.Native.Nat.{_*_, _≤_};
 ghost use lib.IntN.{pos, natAbs};
 ghost use lib.ListN.{length};
 ghost use Rattle.player_shown.specs.Answers.{visible};
 ghost use Rattle.table_columns.specs.Parts.{rowsAt};
-ghost use Rattle.player_shown.specs.Internal.Flags.{lineFine, nextFlag, flagOver};
+ghost use Rattle.player_spec.specs.Flags.{nextFlag, flagOver};
+use player_tests::line_fine;
 use table_counts::PATTERN_WIDTH;
 
 // Whether it is shown, or refusal 21.
@@ -15,25 +15,6 @@ pub enum Visibility {
     Refused,
     Shown,
     Hidden,
-}
-
-// Whether a line may follow a frame, and its group and flag are rows.
-fn line_fine(total: i64, groups: usize, before: i64, f: i64, g: i64, flag: i64) -> bool
-    ensures { λ r. ⌜ r ≡ lineFine total groups (some before) (f ∷ g ∷ flag ∷ []) ⌝ }
-{
-    if f < 0 {
-        return false;
-    }
-    if total <= f {
-        return false;
-    }
-    if f < before {
-        return false;
-    }
-    if !table_rows::is_row(groups, g) {
-        return false;
-    }
-    table_rows::is_row(2, flag)
 }
 
 // The flag after a line: its own, if it is of the group and not after the frame.

@@ -2,7 +2,7 @@
 use mathlib.Core.Path.{_≡_, refl}
 use mathlib.Core.List.{List, [], _∷_, map}
 use mathlib.Core.Option.{none, some}
-use mathlib.Core.Bool.{false}
+use mathlib.Core.Bool.{true, false}
 use Prim.Native.Nat.{ℕ}
 use lib.IntN.{ℤ, pos, negsuc}
 use Rattle.refusal.specs.Rules.{tooMany}
@@ -76,3 +76,8 @@ shown-example = refl
 pub corner-example : map (λ (k : ℕ). cornerIn figureCounts figure 0 k) (1 ∷ 2 ∷ 3 ∷ []) ≡ some (record { position = pos 1500000 ∷ pos 0 ∷ pos 0 ∷ []; owner = pos 0; uv = none; material = pos 0 }) ∷ some (record { position = pos 0 ∷ negsuc 0 ∷ pos 0 ∷ []; owner = negsuc 0; uv = none; material = pos 0 }) ∷ none ∷ []
 unfolding inForm tooMany movementLists figureLists fewInMovement fewInFigure groupsBegin figureMosts isRow isNone sameNumber movementMosts tra4.totalFault tra4.isFrame tra4.isZero tra4.rises tra4.neverFalls tra4.framesFault tra4.keyFine tra4.patternFine tra4.patternsFault frameOf groupOf factorIn factor signedAs lowest whole keyFrame keyValue line sampleFrom sampleOf inGroup inGroups groupedFaces allOwned applies flagOf lastFlag groupShown shownOf rowAt uvAt cornerOf numberAt numbersAt rowsAt isClear keysBegin patternsBegin movementEnd holdsMovement pointsBegin ownersBegin bonesBegin uvsBegin facesBegin figureEnd holdsFigure onlyIf isFloat allFloat isIndex isAsked isRange valuesFine pairAt channelKeys canSample sampleIn sizeFine cornersFine allNone faceAt ownerAt faceSound pointAt uvRow uvFine uvIn canCorner cornerIn ownersFine ownedCorners patternRows linesFine patternsFine canShow groupFlag shownIn
 corner-example = refl
+
+-- of a group's lines up to a frame the last counts
+pub flag-example : map (λ (at : ℕ). lastFlag 0 at false ((pos 0 ∷ pos 0 ∷ pos 1 ∷ []) ∷ (pos 2 ∷ pos 1 ∷ pos 1 ∷ []) ∷ (pos 3 ∷ pos 0 ∷ pos 0 ∷ []) ∷ [])) (0 ∷ 2 ∷ 3 ∷ []) ≡ true ∷ true ∷ false ∷ []
+unfolding lastFlag applies flagOf frameOf groupOf
+flag-example = refl

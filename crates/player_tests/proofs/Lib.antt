@@ -2,3 +2,5 @@
 pub mod Corners
 pub mod Numbers
 pub mod Owners
+pub mod KeyFrames
+pub mod PatternLines

@@ -1,4 +1,4 @@
-// A face's row: material, size, four vertices, four texture coordinates, group.
+// A face's size and corners.
 ghost use mathlib.Core.Path.{_≡_};
 ghost use mathlib.Core.Bool.{cond};
 ghost use Rattle.table_rows.specs.References.{isRow, isNone};

@@ -1,4 +1,4 @@
-// What a number of a table may stand for.
+// Single numbers.
 ghost use mathlib.Core.Path.{_≡_};
 ghost use Rattle.player_spec.specs.Lookups.{isFloat, isAsked};
 

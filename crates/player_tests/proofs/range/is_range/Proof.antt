@@ -2,10 +2,10 @@
 use mathlib.Core.Path.{sym}
 use mir.Facts.{toZ-ofZ}
 use Rattle.text_numbers.proofs.Signed.{from-zero}
 use Rattle.player_tests.proofs.Numbers.{some-number, range-first, range-count, range-beyond, range-within}
 use Rattle.table_columns.proofs.Casts.{natural-cast}
-use Rattle.player_samples.proofs.range.is_range.Statement.{statement}
-use Rattle.player_samples.proofs.range.is_range.Tie as tie
+use Rattle.player_tests.proofs.range.is_range.Statement.{statement}
+use Rattle.player_tests.proofs.range.is_range.Tie as tie
 
 returns : tie.Need-returns
 returns c = let f = toZ-ofZ (c .before .fits .first) in sym (range-first _ _ _ (rw f at (c .if1 .taken)))

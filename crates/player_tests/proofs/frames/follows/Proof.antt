@@ -3,9 +3,9 @@ use mathlib.Core.Path.{sym}
 use mir.Facts.{toZ-ofZ}
 use Rattle.text_numbers.proofs.Signed.{from-zero}
 use Rattle.table_columns.proofs.Casts.{natural-cast}
-use Rattle.player_samples.proofs.Follows.{follow-negative, follow-late, follow-is}
-use Rattle.player_samples.proofs.pass.follows.Statement.{statement}
-use Rattle.player_samples.proofs.pass.follows.Tie as tie
+use Rattle.player_tests.proofs.KeyFrames.{follow-negative, follow-late, follow-is}
+use Rattle.player_tests.proofs.frames.follows.Statement.{statement}
+use Rattle.player_tests.proofs.frames.follows.Tie as tie
 
 returns : tie.Need-returns
 returns c = λ v. sym (follow-negative _ _ v _ (rw (toZ-ofZ (c .before .fits .f)) at (c .if1 .taken)))

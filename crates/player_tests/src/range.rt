@@ -1,9 +1,9 @@
-// What a number of a table may stand for.
+// A first row and a count.
 ghost use mathlib.Core.Path.{_≡_};
 ghost use Rattle.player_spec.specs.Lookups.{isRange};
 
 // Whether a first row and a count of at least one lie among n rows.
-pub(crate) fn is_range(n: usize, first: i64, count: i64) -> bool
+pub fn is_range(n: usize, first: i64, count: i64) -> bool
     ensures { λ r. ⌜ r ≡ isRange n first count ⌝ }
 {
     if first < 0 {

@@ -6,11 +6,11 @@ use mathlib.Core.Option.{some}
 use borrow.Author.Needs.{needs}
 use mir.Facts.{toZ-ofZ}
 use Rattle.table_rows.specs.References.{isRow}
-use Rattle.player_shown.specs.Internal.Flags.{lineFine}
+use Rattle.player_spec.specs.Flags.{lineFine}
 use Rattle.text_numbers.proofs.Tests.{tested, failed, passed}
-use Rattle.player_shown.proofs.PatternLines.{line-negative, line-late, line-falls, line-is}
-use Rattle.player_shown.proofs.flags.line_fine.Statement.{statement}
-use Rattle.player_shown.proofs.flags.line_fine.Tie as tie
+use Rattle.player_tests.proofs.PatternLines.{line-negative, line-late, line-falls, line-is}
+use Rattle.player_tests.proofs.lines.line_fine.Statement.{statement}
+use Rattle.player_tests.proofs.lines.line_fine.Tie as tie
 
 returns : tie.Need-returns
 returns c = sym (line-negative _ _ _ _ _ _ (rw (toZ-ofZ (c .before .fits .f)) at (c .if1 .taken)))
