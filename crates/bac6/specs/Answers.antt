@@ -1,10 +1,10 @@
 -- What a figure's answer says, and how it follows from what was parsed.
-use mathlib.Core.List.{List, [], _∷_, _++_}
+use mathlib.Core.List.{List, [], _∷_}
 use mathlib.Core.Bool.{true, false}
-use Prim.Native.Nat.{ℕ, _+_, _*_}
+use Prim.Native.Nat.{ℕ}
 use lib.Dec.{leb}
 use lib.IntN.{ℤ, pos}
-use lib.ListN.{length, take, drop}
+use lib.ListN.{length}
 use Rattle.table_rows.specs.Overlay.{overlayAt}
 use Rattle.table_counts.specs.declared.counts.FigureCounts.{FigureCounts}
 use Rattle.table_counts.specs.Counts.{noFigure}
@@ -14,7 +14,8 @@ use Rattle.bac6_text.specs.Layout.{layoutOf}
 use Rattle.refusal.specs.Outcomes.{Outcome, rejected, accepted}
 use Rattle.bac6_shape.specs.declared.shape.Parsed.{Parsed}
 use Rattle.bac6.specs.declared.setting.FigureAnswer.{FigureAnswer}
-use Rattle.bac6.specs.Places.{uvsFrom, totalOf}
+use Rattle.bac6_layout.specs.Numbers.{numbersOf}
+use Rattle.bac6.specs.Places.{totalOf}
 
 -- a refusal's number and place, file 0 and zeros
 unfoldable pub refusedWith : ℕ → ℕ → FigureAnswer
@@ -37,14 +38,6 @@ downAnswer n room = elim (leb (totalOf n) room) [ true ↦ countsAnswer n | fals
 unfoldable pub downTable : FigureCounts → List ℤ → List ℤ → List ℤ
 downTable n numbers table = elim (leb (totalOf n) (length table)) [ true ↦ overlayAt 0 numbers table | false ↦ table ]
 
--- a name's place and length, the rows up to the bones, the owners, the other rows, and the groups' names
-unfoldable pub numbersBy : FigureCounts → ℕ → ℕ → List ℤ → List ℤ → List ℤ → List ℤ
-numbersBy n place size rows owners names =
-    (pos place ∷ pos size ∷ [])
-    ++ take (uvsFrom n) rows
-    ++ take (n .points) owners
-    ++ take (n .uvs * 2 + n .faces * 11) (drop (uvsFrom n) rows)
-    ++ take (n .groups * 2) names
-
-unfoldable pub numbersOf : Parsed → List ℤ → List ℤ → List ℤ → List ℤ
-numbersOf p rows owners names = numbersBy (p .counts) (p .place) (p .length) rows owners names
+-- the numbers of what was parsed
+unfoldable pub laidNumbers : Parsed → List ℤ → List ℤ → List ℤ → List ℤ
+laidNumbers p rows owners names = numbersOf (p .counts) (pos (p .place) ∷ pos (p .length) ∷ []) rows owners names

@@ -1,38 +1,23 @@
 -- The rules over what was parsed, and what is known of it.
 use mathlib.Core.Path.{_≡_}
-use mathlib.Core.List.{List, _++_}
+use mathlib.Core.List.{List}
 use Prim.Native.Nat.{ℕ, _≤_}
 use lib.IntN.{ℤ, negsuc}
-use lib.ListN.{length, take, drop, replicate}
-use Rattle.refusal.specs.Faults.{Fault, clear}
-use Rattle.table_counts.specs.declared.counts.FigureCounts.{FigureCounts}
+use lib.ListN.{length, replicate}
+use Rattle.refusal.specs.Faults.{Fault}
 use Rattle.text_tokens.specs.Tokens.{Lexeme, lex}
 use Rattle.parse_cursor.specs.Readers.{got}
 use Rattle.bac6_text.specs.Figure.{Figure}
 use Rattle.bac6_text.specs.Grammar.{figure}
-use Rattle.bac6_text.specs.Rules.{wholeList}
 use Rattle.bac6_bones.specs.Into.{faultOf}
-use Rattle.bac6_rules.specs.Bones.{flagsIn, Settled}
-use Rattle.bac6_rules.specs.Order.{countsFault, tablesFault}
 use Rattle.bac6_shape.specs.declared.shape.Parsed.{Parsed}
 use Rattle.bac6_shape.specs.Parse.{keptOf}
 use Rattle.bac6_shape.specs.Answers.{keptBy}
-use Rattle.bac6.specs.Places.{materialsFrom, bonesFrom, facesFrom}
+use Rattle.bac6_check.specs.Rows.{rowsFault}
 
--- the first fault of the rules, each list from its place in the rows on
+-- the first fault of the rules
 unfoldable pub rulesFault : Parsed → List ℤ → Fault
-rulesFault p rows =
-    tablesFault (p .counts) (faultOf (p .faulty) (p .fault)) (drop (materialsFrom (p .counts)) rows) (drop (bonesFrom (p .counts)) rows) (drop (facesFrom (p .counts)) rows)
-
--- the rows after the bones have been given their parents
-pub record PlacedIn (n : FigureCounts) (entry exit : List ℤ) : Type 0 where
-  pub bones : List ℤ
-  pub placed : Settled (n .bones) (drop (bonesFrom n) entry) bones (wholeList (flagsIn (n .bones) (drop (bonesFrom n) entry)))
-  pub whole : exit ≡ take (bonesFrom n) entry ++ bones
-
--- unless rule 8 or 9 refuses
-abbrev pub RowsLeft : FigureCounts → List ℤ → List ℤ → Type 0
-RowsLeft n entry exit = countsFault n ≡ clear → PlacedIn n entry exit
+rulesFault p rows = rowsFault (p .counts) (faultOf (p .faulty) (p .fault)) rows
 
 -- a figure that a text says, and what parsing kept of it over tables for the most rows of each list, with no vertex claimed
 pub record Held (p : Parsed) (rows owners names : List ℤ) : Type 0 where
