@@ -3,8 +3,8 @@ use mathlib.Core.Path.{_≡_, ap, ap₂, subst, sym, _∙_}
 use mathlib.Core.List.{List, [], _∷_, _++_}
 use Prim.Native.Nat.{ℕ, zero, suc, _+_, _-_, _*_, _≤_}
 use native.Mathlib.Omega.{arith}
-use lib.IntN.{ℤ, negsuc}
-use lib.ListN.{length, take, drop, replicate, length-replicate}
+use lib.IntN.{ℤ, pos, negsuc}
+use lib.ListN.{length, take, drop, replicate}
 use lib.Seq.{take-at}
 use Rattle.refusal.specs.Faults.{Fault, clear, fault}
 use Rattle.refusal.specs.Rules.{tooMany}
@@ -14,7 +14,6 @@ use Rattle.table_counts.specs.declared.counts.FigureCounts.{FigureCounts}
 use Rattle.table_counts.specs.Counts.{figureMosts}
 use Rattle.table_rows.specs.Flat.{flat}
 use Rattle.table_rows.specs.Internal.Overlay.{overlayAt}
-use Rattle.table_rows.proofs.Tables.{overlayAt-length}
 use Rattle.table_rows.proofs.Chains.{overlay-whole}
 use Rattle.text_tokens.specs.Tokens.{lex}
 use Rattle.parse_cursor.specs.Internal.Places.{placeOf}
@@ -30,16 +29,19 @@ use Rattle.bac6_bones.specs.Internal.Into.{faultOf}
 use Rattle.bac6_bone_rules.specs.Internal.Bones.{flagsIn, Settled}
 use Rattle.bac6_bone_rules.specs.Internal.Claims.{claimedBones}
 use Rattle.bac6_rules.specs.Internal.Order.{countsFault, tablesFault}
-use Rattle.bac6_bone_rules.proofs.Claims.{unclaimed, bones-length, claims-fault, claims-owners, owners-length}
+use Rattle.bac6_bone_rules.proofs.Claims.{unclaimed, claims-fault, claims-owners, owners-length}
 use Rattle.bac6_rules.proofs.Orders.{tables-within, tables-laid, bones-left}
 use Rattle.bac6_shape.specs.declared.shape.Parsed.{Parsed}
 use Rattle.bac6_shape.specs.Internal.Parse.{Kept, keptOf, rowNumbers}
 use Rattle.bac6_shape.specs.Internal.Answers.{keptBy}
-use Rattle.bac6.specs.Internal.Places.{Within, Sized, materialsFrom, bonesFrom, facesFrom, rowsEnd, totalOf}
-use Rattle.bac6.specs.Answers.{refusedWith, answerOf}
-use Rattle.bac6.specs.Internal.Answers.{downAnswer, downTable, numbersBy, numbersOf}
-use Rattle.bac6.specs.Internal.Checks.{rulesFault, PlacedIn, RowsLeft, Held}
-use Rattle.bac6.proofs.Parts.{within-by, within-counts}
+use Rattle.bac6_layout.specs.Places.{materialsFrom, bonesFrom, facesFrom, rowsEnd}
+use Rattle.bac6_layout.specs.Numbers.{numbersOf}
+use Rattle.bac6_check.specs.Rows.{rowsFault, PlacedIn, RowsLeft}
+use Rattle.bac6_check.proofs.Parts.{placed-left}
+use Rattle.bac6.specs.Places.{Within, totalOf}
+use Rattle.bac6.specs.Answers.{refusedWith, answerOf, downAnswer, downTable, laidNumbers}
+use Rattle.bac6.specs.Checks.{rulesFault, Held}
+use Rattle.bac6.proofs.Limits.{within-by, within-counts}
 use Rattle.bac6.proofs.Numbers.{front, after, zeros, zeros-count, rows-same, rows-length, materials-part, bones-part, front-part, faces-part, first-part, second-part, parents, layout-parts, layout-length, groups-wide, groups-count}
 use Rattle.bac6.proofs.Settings.{answer-is, table-is, refused-answer, refused-table}
 
@@ -74,8 +76,8 @@ module _ (f : Figure) (w : WholeFigure f) (rest : List ℤ) where
       (subst (λ (l : List ℤ). Settled (length (f .bones)) l (d .bones) (wholeList (flagsIn (length (f .bones)) l))) (bones-part f w (zeros f w) (zeros-count f w) rest) (d .placed)))
 
   -- and its numbers are the layout
-  layout-is : (e : length (parents f w) ≡ length (f .bones)) (owners names : List ℤ) → take (length (f .points)) owners ≡ ownersFrom (f .bones) 0 (length (f .points)) → take (length (f .groups) * 2) names ≡ flat (groupNames (f .groups)) → numbersBy (figureCounts f) (f .name .at) (length (f .name .bytes)) (front f w ++ after f w (parents f w) e rest) owners names ≡ layoutOf f
-  unfolding numbersBy figureCounts nameNumbers
+  layout-is : (e : length (parents f w) ≡ length (f .bones)) (owners names : List ℤ) → take (length (f .points)) owners ≡ ownersFrom (f .bones) 0 (length (f .points)) → take (length (f .groups) * 2) names ≡ flat (groupNames (f .groups)) → numbersOf (figureCounts f) (nameNumbers (f .name)) (front f w ++ after f w (parents f w) e rest) owners names ≡ layoutOf f
+  unfolding numbersOf figureCounts
   layout-is e owners names ho hn = rw (first-part f w (parents f w) e rest, second-part f w (parents f w) e rest, ho, hn) (sym (layout-parts f w))
 
 module _ {p : Parsed} {rows owners names : List ℤ} (h : Held p rows owners names) where
@@ -118,16 +120,10 @@ module _ {p : Parsed} {rows owners names : List ℤ} (h : Held p rows owners nam
   unfolding keptOf keptBy
   names-are = sym (ap (λ (k : Kept). k .names) (h .kept))
 
-  pub sized : Sized p rows owners names
-  sized =
+  pub name-fits : (p .place ≤ 65536) × (p .length ≤ 65536)
+  name-fits =
       let n = figure-placed (h .text) f (h .left) (h .gives) .own in
-      record {
-        rows-are = ap length rows-are ∙ overlayAt-length 0 (rowNumbers f) (h .rows-entry) ∙ h .rows-most;
-        owners-are = ap length owners-are ∙ bones-length (length (f .points)) 0 (clear, replicate 2048 (negsuc 0)) (f .bones) ∙ length-replicate 2048 (negsuc 0);
-        names-are = ap length names-are ∙ overlayAt-length 0 (flat (groupNames (f .groups))) (h .names-entry) ∙ h .names-most;
-        place = rw place-is (omega (arith, n .0, h .short));
-        size = rw size-is (omega (arith, n .1, h .short));
-      }
+      (subst (λ (k : ℕ). k ≤ 65536) (sym place-is) (omega (arith, n .0, h .short)), subst (λ (k : ℕ). k ≤ 65536) (sym size-is) (omega (arith, n .1, h .short)))
 
   -- ---- where no list has too many rows
 
@@ -152,7 +148,7 @@ module _ {p : Parsed} {rows owners names : List ℤ} (h : Held p rows owners nam
 
   -- the rules
   pub rules-are : rulesFault p rows ≡ figureFault f
-  unfolding rulesFault
+  unfolding rulesFault rowsFault
   rules-are =
       ap₂ (λ (n : FigureCounts) (q : Fault). tablesFault n q (drop (materialsFrom n) rows) (drop (bonesFrom n) rows) (drop (facesFrom n) rows)) counts-are fault-is
       ∙ tables-within f (claims .0) _ _ _ held
@@ -209,11 +205,11 @@ module _ {p : Parsed} {rows owners names : List ℤ} (h : Held p rows owners nam
     total-is : totalOf (figureCounts f) ≡ length (layoutOf f)
     total-is = layout-length f whole parents-count
 
-    numbers-are : numbersOf p exit owners names ≡ layoutOf f
-    unfolding numbersOf
+    numbers-are : laidNumbers p exit owners names ≡ layoutOf f
+    unfolding laidNumbers nameNumbers
     numbers-are =
-        ap₂ (λ (n : FigureCounts) (l : List ℤ). numbersBy n (p .place) (p .length) l owners names) counts-are exit-is
-        ∙ ap₂ (λ (a b : ℕ). numbersBy (figureCounts f) a b (front f whole ++ after f whole (parents f whole) parents-count (rest within)) owners names) place-is size-is
+        ap₂ (λ (n : FigureCounts) (l : List ℤ). numbersOf n (pos (p .place) ∷ pos (p .length) ∷ []) l owners names) counts-are exit-is
+        ∙ ap₂ (λ (a b : ℕ). numbersOf (figureCounts f) (pos a ∷ pos b ∷ []) (front f whole ++ after f whole (parents f whole) parents-count (rest within)) owners names) place-is size-is
         ∙ layout-is f whole (rest within) parents-count owners names owners-part names-part
 
     taken : ruled f (figureFault f) ≡ accepted f
@@ -224,7 +220,7 @@ module _ {p : Parsed} {rows owners names : List ℤ} (h : Held p rows owners nam
     set-answer room =
         ap (λ (n : FigureCounts). downAnswer n room) counts-are ∙ answer-is f total-is room ∙ ap (λ (o : Outcome Figure). answerOf (fitted layoutOf room o)) (sym taken)
 
-    set-table : (table : List ℤ) → downTable (p .counts) (numbersOf p exit owners names) table ≡ laid layoutOf table (fitted layoutOf (length table) (ruled f (figureFault f)))
+    set-table : (table : List ℤ) → downTable (p .counts) (laidNumbers p exit owners names) table ≡ laid layoutOf table (fitted layoutOf (length table) (ruled f (figureFault f)))
     set-table table =
         ap₂ (λ (n : FigureCounts) (l : List ℤ). downTable n l table) counts-are numbers-are ∙ table-is f total-is table ∙ ap (λ (o : Outcome Figure). laid layoutOf table (fitted layoutOf (length table) o)) (sym taken)
 
@@ -243,7 +239,7 @@ module _ {p : Parsed} {rows owners names : List ℤ} (h : Held p rows owners nam
   -- none is
   module _ (e : rulesFault p rows ≡ clear) where
     counts-clear : countsFault (p .counts) ≡ clear
-    unfolding rulesFault tablesFault
+    unfolding rulesFault rowsFault tablesFault
     counts-clear = or-first _ _ e
 
     pub none-over : Within (p .counts)
@@ -251,7 +247,7 @@ module _ {p : Parsed} {rows owners names : List ℤ} (h : Held p rows owners nam
 
     module _ (exit : List ℤ) (left : RowsLeft (p .counts) rows exit) where
       pub taken-answer : (room : ℕ) → downAnswer (p .counts) room ≡ answerOf (fitted layoutOf room (ruled f (figureFault f)))
-      taken-answer room = set-answer (sym rules-are ∙ e) exit (left counts-clear) room
+      taken-answer room = set-answer (sym rules-are ∙ e) exit (placed-left (p .counts) rows exit counts-clear left) room
 
-      pub taken-table : (table : List ℤ) → downTable (p .counts) (numbersOf p exit owners names) table ≡ laid layoutOf table (fitted layoutOf (length table) (ruled f (figureFault f)))
-      taken-table table = set-table (sym rules-are ∙ e) exit (left counts-clear) table
+      pub taken-table : (table : List ℤ) → downTable (p .counts) (laidNumbers p exit owners names) table ≡ laid layoutOf table (fitted layoutOf (length table) (ruled f (figureFault f)))
+      taken-table table = set-table (sym rules-are ∙ e) exit (placed-left (p .counts) rows exit counts-clear left) table

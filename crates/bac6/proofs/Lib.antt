@@ -1,7 +1,5 @@
 -- Laws that belong to no one function.
-pub mod Sums
-pub mod Parts
-pub mod Lays
+pub mod Limits
 pub mod Settings
 pub mod Numbers
 pub mod Figures

@@ -1,10 +1,10 @@
 -- The answer and the table by whether the table is long enough.
 use mathlib.Core.Path.{_≡_, refl, ap, _∙_}
-use mathlib.Core.List.{List}
+use mathlib.Core.List.{List, [], _∷_}
 use mathlib.Core.Bool.{Bool, true, false}
 use Prim.Native.Nat.{ℕ, _≤_, _<_}
 use lib.Dec.{leb}
-use lib.IntN.{ℤ}
+use lib.IntN.{ℤ, pos}
 use lib.ListN.{length}
 use borrow.Author.Tests.{le-leb, lt-leb, leb-true, leb-false}
 use Rattle.table_rows.specs.Internal.Overlay.{overlayAt}
@@ -14,9 +14,14 @@ use Rattle.parse_text.proofs.Outcomes.{fitted-room, fitted-short, fitted-reject
 use Rattle.bac6_text.specs.Figure.{Figure}
 use Rattle.bac6_text.specs.Rules.{figureCounts}
 use Rattle.bac6_text.specs.Layout.{layoutOf}
-use Rattle.bac6.specs.Internal.Places.{totalOf}
-use Rattle.bac6.specs.Answers.{refusedWith, answerOf}
-use Rattle.bac6.specs.Internal.Answers.{countsAnswer, downAnswer, downTable}
+use Rattle.refusal.specs.Faults.{Fault}
+use Rattle.bac6_bones.specs.Internal.Into.{faultOf}
+use Rattle.bac6_shape.specs.declared.shape.Parsed.{Parsed}
+use Rattle.bac6_layout.specs.Numbers.{numbersOf}
+use Rattle.bac6_check.specs.Rows.{rowsFault}
+use Rattle.bac6.specs.Places.{totalOf}
+use Rattle.bac6.specs.Answers.{refusedWith, answerOf, countsAnswer, downAnswer, downTable, laidNumbers}
+use Rattle.bac6.specs.Checks.{rulesFault}
 
 -- ---- by the total that the code has
 
@@ -36,6 +41,16 @@ module _ (n : FigureCounts) (total : ℕ) (e : total ≡ totalOf n) where
   pub long-table : (numbers table exit : List ℤ) → total ≤ length table → exit ≡ overlayAt 0 numbers table → exit ≡ downTable n numbers table
   unfolding downTable
   long-table numbers table exit h x = let k : totalOf n ≤ length table = rw e at h in x ∙ rw (le-leb (totalOf n) (length table) k, downTable)
+
+-- ---- the numbers that the code lays, and the rules that it runs
+
+pub named-by : (p : Parsed) (a b : ℤ) (rows owners names table exit : List ℤ) → a ≡ pos (p .place) → b ≡ pos (p .length) → exit ≡ overlayAt 0 (numbersOf (p .counts) (a ∷ b ∷ []) rows owners names) table → exit ≡ overlayAt 0 (laidNumbers p rows owners names) table
+unfolding laidNumbers
+named-by p a b rows owners names table exit ea eb h = h ∙ rw (ea, eb)
+
+pub rules-by : (p : Parsed) (claims r : Fault) (rows : List ℤ) → claims ≡ faultOf (p .faulty) (p .fault) → r ≡ rowsFault (p .counts) claims rows → r ≡ rulesFault p rows
+unfolding rulesFault
+rules-by p claims r rows e h = h ∙ rw e
 
 -- ---- of a figure, where the numbers are its layout
 

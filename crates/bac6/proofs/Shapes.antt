@@ -19,12 +19,7 @@ use Rattle.bac6_text.specs.Rules.{figureFault}
 use Rattle.bac6_shape.specs.declared.shape.Parsed.{Parsed}
 use Rattle.bac6_shape.specs.Internal.Parse.{Kept, keptOf, figureInto}
 use Rattle.bac6_shape.specs.Internal.Answers.{keptBy}
-use Rattle.bac6.specs.Internal.Places.{Sized}
-use Rattle.bac6.specs.Internal.Checks.{Held}
-
--- the table after a call is as long as before it
-pub resized : {p : Parsed} {rows owners names : List ℤ} (exit : List ℤ) → Sized p rows owners names → length exit ≡ length rows → Sized p exit owners names
-resized exit z e = record { rows-are = e ∙ z .rows-are; owners-are = z .owners-are; names-are = z .names-are; place = z .place; size = z .size }
+use Rattle.bac6.specs.Checks.{Held}
 
 -- what was held, of the text's own figure
 pub record HeldOf (text : List ℕ) (p : Parsed) (rows owners names : List ℤ) : Type 0 where

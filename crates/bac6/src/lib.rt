@@ -1,7 +1,4 @@
 // Reads a figure's text.
-mod check;
-mod lay;
-mod places;
 mod reader;
 mod setting;
 

@@ -2,7 +2,9 @@
 ghost use mathlib.Core.Path.{_≡_};
 ghost use Prim.Native.Nat.{_≤_};
 ghost use lib.ListN.{length};
+ghost use Rattle.refusal.specs.Internal.Answers.{refusal};
 ghost use Rattle.text_tokens.specs.Tokens.{lex};
+ghost use Rattle.bac6_bones.specs.Internal.Into.{faultOf};
 ghost use Rattle.bac6_text.specs.Grammar.{figure};
 ghost use Rattle.refusal.specs.Outcomes.{fitted, laid, ruled};
 ghost use Rattle.parse_text.specs.Texts.{shaped};
@@ -10,8 +12,7 @@ ghost use Rattle.bac6_text.specs.Rules.{figureFault};
 ghost use Rattle.bac6_text.specs.Layout.{layoutOf};
 ghost use Rattle.bac6_text.specs.Answer.{figureAnswer, tableAfter};
 ghost use Rattle.bac6.specs.Answers.{answerOf};
-ghost use Rattle.bac6.specs.Internal.Checks.{Held};
-use crate::check::rules_fault;
+ghost use Rattle.bac6.specs.Checks.{Held};
 use crate::setting::FigureAnswer;
 use crate::setting::refused;
 use crate::setting::set_down;
@@ -47,6 +48,19 @@ fn read_shape(text: &[u8], table: &mut [i64]) -> FigureAnswer
     read_rows(table, p, &mut rows, &owners, &names)
 }
 
+// What reading the vertex entries found of rule 11.
+fn claims_of(p: Parsed) -> Checked
+    ensures { λ r. ⌜ refusal r ≡ faultOf (p .faulty) (p .fault) ⌝ }
+{
+    if p.faulty {
+        return Checked::Refused {
+            number: 11,
+            place: p.fault,
+        };
+    }
+    Checked::Clear
+}
+
 // The rules run over the rows, and the lent table is written where all of them hold.
 fn read_rows(
     table: &mut [i64],
@@ -59,7 +73,7 @@ fn read_rows(
     ensures answer { λ r. ⌜ ((h : Held p (now (rows .entry)) (now (owners .entry)) (now (names .entry))) → r ≡ answerOf (fitted layoutOf (length (now (table .entry))) (ruled (h .read) (figureFault (h .read))))) ⌝ }
     ensures content { λ r. ⌜ ((h : Held p (now (rows .entry)) (now (owners .entry)) (now (names .entry))) → now (table .exit) ≡ laid layoutOf (now (table .entry)) (fitted layoutOf (length (now (table .entry))) (ruled (h .read) (figureFault (h .read))))) ⌝ }
 {
-    match rules_fault(p, rows) {
+    match bac6_check::first_fault(p.counts, claims_of(p), rows) {
         Checked::Refused { number, place } => refused(number as usize, place),
         Checked::Clear => set_down(table, p, rows, owners, names),
     }

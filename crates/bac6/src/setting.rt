@@ -1,11 +1,9 @@
 // A parsed figure set down in the lent table.
 ghost use mathlib.Core.Path.{_≡_};
+ghost use Prim.Native.Nat.{_≤_};
 ghost use lib.ListN.{length};
-ghost use Rattle.bac6.specs.Internal.Places.{Within, Sized};
-ghost use Rattle.bac6.specs.Answers.{refusedWith};
-ghost use Rattle.bac6.specs.Internal.Answers.{downAnswer, downTable, numbersOf};
-use crate::lay::lay;
-use crate::places::rows_end;
+ghost use Rattle.bac6.specs.Places.{Within, totalOf};
+ghost use Rattle.bac6.specs.Answers.{refusedWith, downAnswer, downTable, laidNumbers};
 use bac6_shape::Parsed;
 use table_counts::FigureCounts;
 use table_counts::no_figure;
@@ -31,6 +29,15 @@ pub(crate) fn refused(number: usize, place: usize) -> FigureAnswer
     }
 }
 
+// How many numbers the layout has.
+fn total_of(n: FigureCounts) -> usize
+    requires { ⌜ Within n ⌝ }
+    ensures { λ r. ⌜ r ≡ totalOf n ⌝ }
+{
+    let front = n.textures * 2 + n.colours * 3 + n.materials * 9 + n.points * 3 + n.normals * 3;
+    2 + (front + n.bones * 14 + n.uvs * 2 + n.faces * 11) + n.points + n.groups * 2
+}
+
 // Lays the lists; or refuses a table that is too short (17).
 pub(crate) fn set_down(
     table: &mut [i64],
@@ -40,16 +47,19 @@ pub(crate) fn set_down(
     names: &[i64],
 ) -> FigureAnswer
     requires { ⌜ Within (p .counts) ⌝ }
-    requires { ⌜ Sized p (now rows) (now owners) (now names) ⌝ }
+    requires { ⌜ (p .place ≤ 65536) × (p .length ≤ 65536) ⌝ }
     ensures answer { λ r. ⌜ r ≡ downAnswer (p .counts) (length (now (table .entry))) ⌝ }
-    ensures content { λ r. ⌜ now (table .exit) ≡ downTable (p .counts) (numbersOf p (now (rows .entry)) (now (owners .entry)) (now (names .entry))) (now (table .entry)) ⌝ }
+    ensures content { λ r. ⌜ now (table .exit) ≡ downTable (p .counts) (laidNumbers p (now (rows .entry)) (now (owners .entry)) (now (names .entry))) (now (table .entry)) ⌝ }
 {
     let counts = p.counts;
-    let total = 2 + rows_end(counts) + counts.points + counts.groups * 2;
+    let total = total_of(counts);
     if table.len() < total {
         return refused(17, total);
     }
-    lay(table, p, rows, owners, names);
+    let place = p.place;
+    let size = p.length;
+    let name = [place as i64, size as i64];
+    bac6_layout::lay(table, counts, &name, rows, owners, names);
     FigureAnswer {
         refusal: 0,
         place: 0,
