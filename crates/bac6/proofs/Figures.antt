@@ -34,13 +34,14 @@ use Rattle.bac6_rules.proofs.Orders.{tables-within, tables-laid, bones-left}
 use Rattle.bac6_shape.specs.declared.shape.Parsed.{Parsed}
 use Rattle.bac6_shape.specs.Internal.Parse.{Kept, keptOf, rowNumbers}
 use Rattle.bac6_shape.specs.Internal.Answers.{keptBy}
-use Rattle.bac6_layout.specs.Places.{materialsFrom, bonesFrom, facesFrom, rowsEnd}
-use Rattle.bac6_layout.specs.Numbers.{numbersOf}
-use Rattle.bac6_check.specs.Rows.{rowsFault, PlacedIn, RowsLeft}
+use Rattle.bac6_layout.specs.Internal.Places.{materialsFrom, bonesFrom, facesFrom, rowsEnd}
+use Rattle.bac6_layout.specs.Internal.Numbers.{numbersOf}
+use Rattle.bac6_check.specs.Internal.Rows.{rowsFault, PlacedIn, RowsLeft}
 use Rattle.bac6_check.proofs.Parts.{placed-left}
-use Rattle.bac6.specs.Places.{Within, totalOf}
-use Rattle.bac6.specs.Answers.{refusedWith, answerOf, downAnswer, downTable, laidNumbers}
-use Rattle.bac6.specs.Checks.{rulesFault, Held}
+use Rattle.bac6.specs.Internal.Places.{Within, totalOf}
+use Rattle.bac6.specs.Answers.{refusedWith, answerOf}
+use Rattle.bac6.specs.Internal.Answers.{downAnswer, downTable, laidNumbers}
+use Rattle.bac6.specs.Internal.Checks.{rulesFault, Held}
 use Rattle.bac6.proofs.Limits.{within-by, within-counts}
 use Rattle.bac6.proofs.Numbers.{front, after, zeros, zeros-count, rows-same, rows-length, materials-part, bones-part, front-part, faces-part, first-part, second-part, parents, layout-parts, layout-length, groups-wide, groups-count}
 use Rattle.bac6.proofs.Settings.{answer-is, table-is, refused-answer, refused-table}

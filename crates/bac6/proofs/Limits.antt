@@ -6,7 +6,7 @@ use Rattle.refusal.proofs.Rules.{count-clear, or-first}
 use Rattle.table_counts.specs.declared.counts.FigureCounts.{FigureCounts}
 use Rattle.table_counts.specs.Counts.{figureLists, figureMosts}
 use Rattle.bac6_rules.specs.Internal.Order.{countsFault}
-use Rattle.bac6.specs.Places.{Within}
+use Rattle.bac6.specs.Internal.Places.{Within}
 
 -- where rule 8 finds no fault, no list has more than its most
 pub within-by : (n : FigureCounts) → tooMany 0 (figureLists n) figureMosts ≡ clear → Within n

@@ -17,8 +17,8 @@ use Rattle.bac6_text.proofs.Whole.{WholeFigure}
 use Rattle.bac6_bone_rules.proofs.Claims.{owners-length}
 use Rattle.bac6_shape.specs.Internal.Parse.{rowNumbers}
 use Rattle.bac6_shape.proofs.Rows.{blank-rows}
-use Rattle.bac6_layout.specs.Places.{materialsFrom, bonesFrom, uvsFrom, facesFrom, rowsEnd}
-use Rattle.bac6.specs.Places.{totalOf}
+use Rattle.bac6_layout.specs.Internal.Places.{materialsFrom, bonesFrom, uvsFrom, facesFrom, rowsEnd}
+use Rattle.bac6.specs.Internal.Places.{totalOf}
 
 -- ---- groups
 

@@ -17,11 +17,12 @@ use Rattle.bac6_text.specs.Layout.{layoutOf}
 use Rattle.refusal.specs.Faults.{Fault}
 use Rattle.bac6_bones.specs.Internal.Into.{faultOf}
 use Rattle.bac6_shape.specs.declared.shape.Parsed.{Parsed}
-use Rattle.bac6_layout.specs.Numbers.{numbersOf}
-use Rattle.bac6_check.specs.Rows.{rowsFault}
-use Rattle.bac6.specs.Places.{totalOf}
-use Rattle.bac6.specs.Answers.{refusedWith, answerOf, countsAnswer, downAnswer, downTable, laidNumbers}
-use Rattle.bac6.specs.Checks.{rulesFault}
+use Rattle.bac6_layout.specs.Internal.Numbers.{numbersOf}
+use Rattle.bac6_check.specs.Internal.Rows.{rowsFault}
+use Rattle.bac6.specs.Internal.Places.{totalOf}
+use Rattle.bac6.specs.Answers.{refusedWith, answerOf}
+use Rattle.bac6.specs.Internal.Answers.{countsAnswer, downAnswer, downTable, laidNumbers}
+use Rattle.bac6.specs.Internal.Checks.{rulesFault}
 
 -- ---- by the total that the code has
 

@@ -19,7 +19,7 @@ use Rattle.bac6_text.specs.Rules.{figureFault}
 use Rattle.bac6_shape.specs.declared.shape.Parsed.{Parsed}
 use Rattle.bac6_shape.specs.Internal.Parse.{Kept, keptOf, figureInto}
 use Rattle.bac6_shape.specs.Internal.Answers.{keptBy}
-use Rattle.bac6.specs.Checks.{Held}
+use Rattle.bac6.specs.Internal.Checks.{Held}
 
 -- what was held, of the text's own figure
 pub record HeldOf (text : List ℕ) (p : Parsed) (rows owners names : List ℤ) : Type 0 where

@@ -12,7 +12,7 @@ ghost use Rattle.bac6_text.specs.Rules.{figureFault};
 ghost use Rattle.bac6_text.specs.Layout.{layoutOf};
 ghost use Rattle.bac6_text.specs.Answer.{figureAnswer, tableAfter};
 ghost use Rattle.bac6.specs.Answers.{answerOf};
-ghost use Rattle.bac6.specs.Checks.{Held};
+ghost use Rattle.bac6.specs.Internal.Checks.{Held};
 use crate::setting::FigureAnswer;
 use crate::setting::refused;
 use crate::setting::set_down;

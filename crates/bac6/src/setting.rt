@@ -2,8 +2,9 @@
 ghost use mathlib.Core.Path.{_≡_};
 ghost use Prim.Native.Nat.{_≤_};
 ghost use lib.ListN.{length};
-ghost use Rattle.bac6.specs.Places.{Within, totalOf};
-ghost use Rattle.bac6.specs.Answers.{refusedWith, downAnswer, downTable, laidNumbers};
+ghost use Rattle.bac6.specs.Internal.Places.{Within, totalOf};
+ghost use Rattle.bac6.specs.Answers.{refusedWith};
+ghost use Rattle.bac6.specs.Internal.Answers.{downAnswer, downTable, laidNumbers};
 use bac6_shape::Parsed;
 use table_counts::FigureCounts;
 use table_counts::no_figure;

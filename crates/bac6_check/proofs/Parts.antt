@@ -12,10 +12,10 @@ use Rattle.bac6_text.specs.Rules.{wholeList, bonesFault}
 use Rattle.bac6_bone_rules.specs.Internal.Bones.{flagsIn, Settled}
 use Rattle.bac6_rules.specs.Internal.Order.{countsFault, laterFault}
 use Rattle.bac6_layout.specs.declared.ends.Ends.{Ends}
-use Rattle.bac6_layout.specs.Places.{materialsFrom, bonesFrom, facesFrom}
-use Rattle.bac6_layout.specs.Ends.{endsOf}
+use Rattle.bac6_layout.specs.Internal.Places.{materialsFrom, bonesFrom, facesFrom}
+use Rattle.bac6_layout.specs.Internal.Ends.{endsOf}
 use Rattle.bac6_layout.proofs.Lays.{take-min, drop-min}
-use Rattle.bac6_check.specs.Rows.{PlacedIn, LeftBy, RowsLeft}
+use Rattle.bac6_check.specs.Internal.Rows.{PlacedIn, LeftBy, RowsLeft}
 
 -- the last part of the rows from a place on, which may lie past their end, and what stands after it
 tail : (a : ℕ) (rows : List ℤ) → take (length rows - a) (drop a rows) ≡ drop a rows

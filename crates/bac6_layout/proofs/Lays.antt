@@ -14,9 +14,9 @@ use Rattle.table_rows.specs.Internal.Overlay.{overlayAt}
 use Rattle.table_rows.proofs.Tables.{overlayAt-length, overlayAt-append, overlayAt-same}
 use Rattle.table_counts.specs.declared.counts.FigureCounts.{FigureCounts}
 use Rattle.bac6_layout.specs.declared.ends.Ends.{Ends}
-use Rattle.bac6_layout.specs.Places.{materialsFrom, bonesFrom, uvsFrom, facesFrom, rowsEnd}
-use Rattle.bac6_layout.specs.Ends.{endsOf, Rising}
-use Rattle.bac6_layout.specs.Numbers.{numbersOf}
+use Rattle.bac6_layout.specs.Internal.Places.{materialsFrom, bonesFrom, uvsFrom, facesFrom, rowsEnd}
+use Rattle.bac6_layout.specs.Internal.Ends.{endsOf, Rising}
+use Rattle.bac6_layout.specs.Internal.Numbers.{numbersOf}
 
 no-elements : (l : List ℤ) → length l ≡ 0 → l ≡ []
 no-elements [] e = refl

@@ -10,8 +10,8 @@ use lib.Seq.{drop-drop, take-add}
 use Rattle.table_rows.specs.Internal.Overlay.{overlayAt}
 use Rattle.table_rows.proofs.Tables.{overlayAt-length, overlayAt-append, overlayAt-same}
 use Rattle.bac6_layout.specs.declared.ends.Ends.{Ends}
-use Rattle.bac6_layout.specs.Ends.{Rising}
-use Rattle.bac6_layout.specs.Numbers.{sumOf}
+use Rattle.bac6_layout.specs.Internal.Ends.{Rising}
+use Rattle.bac6_layout.specs.Internal.Numbers.{sumOf}
 
 pub sum-more : (ns : List ℕ) (k : ℕ) → k < length ns → sumOf (take (suc k) ns) ≡ sumOf (take k ns) + getD ns k 0
 unfolding sumOf

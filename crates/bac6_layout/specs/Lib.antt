@@ -1,3 +1,1 @@
-pub mod Places
-pub mod Ends
-pub mod Numbers
+pub mod Internal

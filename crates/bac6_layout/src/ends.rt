@@ -1,6 +1,6 @@
 // Where the lists end in the table of rows.
 ghost use mathlib.Core.Path.{_≡_};
-ghost use Rattle.bac6_layout.specs.Ends.{endsOf};
+ghost use Rattle.bac6_layout.specs.Internal.Ends.{endsOf};
 use table_counts::FigureCounts;
 use table_rows::rows_end;
 

@@ -11,7 +11,7 @@ use lib.Seq.{drop-cons}
 use Rattle.tra4_text.specs.Movement.{Pattern, frameOf}
 use Rattle.tra4_text.specs.Rules.{isZero}
 use Rattle.table_columns.specs.Parts.{numbersAt, rowsAt}
-use Rattle.player_spec.specs.Flags.{lineFine, nextFlag, flagFrom, flagOver}
+use Rattle.player_spec.specs.Internal.Flags.{lineFine, nextFlag, flagFrom, flagOver}
 use Rattle.table_columns.proofs.Parts.{part-rows}
 use Rattle.player_shown.proofs.Flagged.{flag-fault, flag-on, over-late, over-on}
 

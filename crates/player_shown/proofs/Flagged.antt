@@ -14,7 +14,7 @@ use Rattle.tra4_text.specs.Rules.{isFrame, isZero, neverFalls, framesFault, pat
 use Rattle.table_sections.specs.Sections.{isClear}
 use Rattle.player_spec.specs.Faces.{applies, lastFlag}
 use Rattle.player_spec.specs.Lookups.{onlyIf, linesFine}
-use Rattle.player_spec.specs.Flags.{lineFine, nextFlag, flagFrom, flagOver}
+use Rattle.player_spec.specs.Internal.Flags.{lineFine, nextFlag, flagFrom, flagOver}
 use Rattle.player_tests.proofs.Numbers.{zero-is}
 
 -- ---- the lines

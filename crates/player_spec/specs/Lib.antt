@@ -3,4 +3,4 @@ pub mod Faces
 pub mod Fractions
 pub mod Lookups
 pub mod Samples
-pub mod Flags
+pub mod Internal

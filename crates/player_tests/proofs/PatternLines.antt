@@ -18,7 +18,7 @@ use Rattle.text_numbers.proofs.Tests.{most-above}
 use Rattle.tra4_text.specs.Movement.{frameOf, groupOf}
 use Rattle.tra4_text.specs.Rules.{isFrame, neverFalls, patternFine}
 use Rattle.player_spec.specs.Faces.{applies, flagOf}
-use Rattle.player_spec.specs.Flags.{lineFine, nextFlag}
+use Rattle.player_spec.specs.Internal.Flags.{lineFine, nextFlag}
 
 -- ---- order
 

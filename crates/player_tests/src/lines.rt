@@ -2,7 +2,7 @@
 ghost use mathlib.Core.Path.{_≡_};
 ghost use mathlib.Core.List.{[], _∷_};
 ghost use mathlib.Core.Option.{some};
-ghost use Rattle.player_spec.specs.Flags.{lineFine};
+ghost use Rattle.player_spec.specs.Internal.Flags.{lineFine};
 
 // Whether a line may follow a frame, and its group and flag are rows.
 pub fn line_fine(total: i64, groups: usize, before: i64, f: i64, g: i64, flag: i64) -> bool

@@ -4,7 +4,7 @@ use denote.Ref.{now}
 use Rattle.refusal.specs.Internal.Answers.{refusal}
 use Rattle.refusal.proofs.Rules.{refused-by, clear-by, or-clear, or-fault}
 use Rattle.bac6_rules.specs.Internal.Order.{tablesFault}
-use Rattle.bac6_check.specs.Rows.{rowsFault}
+use Rattle.bac6_check.specs.Internal.Rows.{rowsFault}
 use Rattle.bac6_check.proofs.Parts.{left-placed, left-same}
 use borrow.Author.Needs.{needs}
 use Rattle.bac6_check.proofs.check.first_fault.Statement.{statement}

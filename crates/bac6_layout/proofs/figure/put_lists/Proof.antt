@@ -9,7 +9,7 @@ use lib.Seq.{take-all}
 use borrow.Author.Needs.{needs}
 use Rattle.table_rows.specs.Internal.Overlay.{overlayAt}
 use Rattle.table_rows.proofs.Tables.{overlayAt-none, overlayAt-length}
-use Rattle.bac6_layout.specs.Numbers.{sumOf}
+use Rattle.bac6_layout.specs.Internal.Numbers.{sumOf}
 use Rattle.bac6_layout.proofs.Sums.{sum-more, sum-room, lists-more, next-more}
 use Rattle.bac6_layout.proofs.figure.put_lists.Statement.{statement}
 use Rattle.bac6_layout.proofs.figure.put_lists.Tie as tie

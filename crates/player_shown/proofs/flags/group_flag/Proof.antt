@@ -13,7 +13,7 @@ use mir.Val.{toZ, ofZ}
 use mir.Facts.{toZ-ofZ}
 use Rattle.player_shown.specs.Answers.{visible}
 use Rattle.table_columns.specs.Parts.{rowsAt}
-use Rattle.player_spec.specs.Flags.{lineFine, nextFlag, flagFrom, flagOver}
+use Rattle.player_spec.specs.Internal.Flags.{lineFine, nextFlag, flagFrom, flagOver}
 use Rattle.player_tests.proofs.Numbers.{zero-no, zero-yes}
 use Rattle.player_tests.proofs.PatternLines.{line-naturals}
 use Rattle.player_shown.proofs.FlagRows.{lineAt, no-line, first-late, first-on, turn-fault, turn-on, ended}

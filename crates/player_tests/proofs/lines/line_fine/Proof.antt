@@ -6,7 +6,7 @@ use mathlib.Core.Option.{some}
 use borrow.Author.Needs.{needs}
 use mir.Facts.{toZ-ofZ}
 use Rattle.table_rows.specs.References.{isRow}
-use Rattle.player_spec.specs.Flags.{lineFine}
+use Rattle.player_spec.specs.Internal.Flags.{lineFine}
 use Rattle.text_numbers.proofs.Tests.{tested, failed, passed}
 use Rattle.player_tests.proofs.PatternLines.{line-negative, line-late, line-falls, line-is}
 use Rattle.player_tests.proofs.lines.line_fine.Statement.{statement}

@@ -1,7 +1,7 @@
 -- Limits of a figure's lists, and the length of its layout.
 use Prim.Native.Nat.{ℕ, _+_, _*_, _≤_}
 use Rattle.table_counts.specs.declared.counts.FigureCounts.{FigureCounts}
-use Rattle.bac6_layout.specs.Places.{rowsEnd}
+use Rattle.bac6_layout.specs.Internal.Places.{rowsEnd}
 
 -- no list has more rows than its most
 pub record Within (n : FigureCounts) : Type 0 where

@@ -2,7 +2,7 @@
 use Prim.Native.Nat.{ℕ, _+_, _*_, _≤_, min}
 use Rattle.table_counts.specs.declared.counts.FigureCounts.{FigureCounts}
 use Rattle.bac6_layout.specs.declared.ends.Ends.{Ends}
-use Rattle.bac6_layout.specs.Places.{materialsFrom, bonesFrom, uvsFrom, facesFrom, rowsEnd}
+use Rattle.bac6_layout.specs.Internal.Places.{materialsFrom, bonesFrom, uvsFrom, facesFrom, rowsEnd}
 
 unfoldable pub endsOf : FigureCounts → ℕ → Ends
 endsOf n room =

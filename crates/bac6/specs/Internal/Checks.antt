@@ -13,7 +13,7 @@ use Rattle.bac6_bones.specs.Internal.Into.{faultOf}
 use Rattle.bac6_shape.specs.declared.shape.Parsed.{Parsed}
 use Rattle.bac6_shape.specs.Internal.Parse.{keptOf}
 use Rattle.bac6_shape.specs.Internal.Answers.{keptBy}
-use Rattle.bac6_check.specs.Rows.{rowsFault}
+use Rattle.bac6_check.specs.Internal.Rows.{rowsFault}
 
 -- the first fault of the rules
 unfoldable pub rulesFault : Parsed → List ℤ → Fault

@@ -4,7 +4,7 @@ use Prim.Native.Nat.{ℕ, _+_, _*_}
 use lib.IntN.{ℤ}
 use lib.ListN.{take, drop}
 use Rattle.table_counts.specs.declared.counts.FigureCounts.{FigureCounts}
-use Rattle.bac6_layout.specs.Places.{uvsFrom}
+use Rattle.bac6_layout.specs.Internal.Places.{uvsFrom}
 
 unfoldable pub sumOf : List ℕ → ℕ
 sumOf [] = 0

@@ -8,7 +8,7 @@ use Rattle.table_counts.specs.declared.counts.FigureCounts.{FigureCounts}
 use Rattle.bac6_text.specs.Rules.{wholeList}
 use Rattle.bac6_bone_rules.specs.Internal.Bones.{flagsIn, Settled}
 use Rattle.bac6_rules.specs.Internal.Order.{countsFault, tablesFault}
-use Rattle.bac6_layout.specs.Places.{materialsFrom, bonesFrom, facesFrom}
+use Rattle.bac6_layout.specs.Internal.Places.{materialsFrom, bonesFrom, facesFrom}
 
 -- the first fault of the rules, each list from its place in the rows on; `claims` is what was found of rule 11
 unfoldable pub rowsFault : FigureCounts → Fault → List ℤ → Fault
