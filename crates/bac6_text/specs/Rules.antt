@@ -3,7 +3,7 @@ use mathlib.Core.List.{List, [], _∷_, _++_}
 use mathlib.Core.Bool.{Bool, true, false, not, cond, _&&_, _||_}
 use Prim.Native.Nat.{ℕ, zero, suc}
 use lib.Dec.{leb, eqb}
-use lib.ListN.{length, getD}
+use lib.ListN.{length}
 use lib.IntN.{ℤ, pos, negsuc}
 use Rattle.refusal.specs.Faults.{Fault, clear, fault}
 use Rattle.refusal.specs.Rules.{orElse, tooMany}
@@ -12,6 +12,7 @@ use Rattle.table_rows.specs.References.{isNone, isRow, member}
 use Rattle.refusal.specs.FirstBad.{all, firstBad}
 use Rattle.table_counts.specs.declared.counts.FigureCounts.{FigureCounts}
 use Rattle.table_counts.specs.Counts.{figureLists, figureMosts}
+use Rattle.table_columns.specs.Columns.{materialTexture, materialColour, materialSpecular, materialAlpha, materialShininess}
 
 -- the faces of `Polygons`, then group by group
 unfoldable pub groupFaces : List Group → List Face
@@ -130,11 +131,11 @@ isLevel (negsuc n) = false
 
 unfoldable pub materialFine : ℕ → ℕ → List ℤ → Bool
 materialFine textures colours m =
-    (isNone (getD m 4 (pos 0)) || isRow textures (getD m 4 (pos 0)))
-    && (isNone (getD m 5 (pos 0)) || isRow colours (getD m 5 (pos 0)))
-    && isLevel (getD m 6 (pos 0))
-    && isLevel (getD m 7 (pos 0))
-    && isLevel (getD m 8 (pos 0))
+    (isNone (materialTexture m) || isRow textures (materialTexture m))
+    && (isNone (materialColour m) || isRow colours (materialColour m))
+    && isLevel (materialSpecular m)
+    && isLevel (materialAlpha m)
+    && isLevel (materialShininess m)
 
 -- ---- 13: a face's material and vertices are rows, and its uvs are all -1 or all rows
 
