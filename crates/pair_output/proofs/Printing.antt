@@ -24,8 +24,8 @@ use Rattle.pair_bridge.proofs.Lookups.{figure-holds-read}
 use Rattle.pair_load.specs.Answers.{pairReply}
 use Rattle.table_counts.specs.Counts.{noFigure}
 use Rattle.pair_load.specs.declared.pair.PairAnswer.{PairAnswer}
-use Rattle.pair_play.proofs.Parts.{parts-taken}
-use Rattle.pair_play.proofs.Loaded.{every-label}
+use Rattle.pair_laws.proofs.Parts.{parts-taken}
+use Rattle.pair_laws.proofs.Loaded.{every-label}
 use Rattle.pair_input.specs.Division.{divided}
 use Rattle.pair_input.specs.Answers.{divisionNamed}
 use Rattle.pair_input.specs.declared.division.Division.{Division}

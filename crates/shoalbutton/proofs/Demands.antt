@@ -40,8 +40,8 @@ use Rattle.pair_text.specs.Rules.{figureNames, bonesFault}
 use Rattle.pair_bridge.specs.Playing.{framesOf, sampleAsked, cornerAsked, shownAsked, labelAsked}
 use Rattle.refusal_laws.proofs.Refusals.{figure-refusal, movement-refusal, pair-refusal}
 use Rattle.refusal_laws.proofs.Answers.{figure-zero, movement-zero, pair-zero}
-use Rattle.pair_play.proofs.Parts.{parts-taken, figure-left, moves-left}
-use Rattle.pair_play.proofs.Loaded.{every-sample, every-corner, every-shown, every-label}
+use Rattle.pair_laws.proofs.Parts.{parts-taken, figure-left, moves-left}
+use Rattle.pair_laws.proofs.Loaded.{every-sample, every-corner, every-shown, every-label}
 use Rattle.shoalbutton.specs.Demands.{Keeps, KeepsFigure, KeepsMovement, KeepsPair, Demand1, Demand2, SampleLaws, Played, Demand3}
 
 -- ---- over a format

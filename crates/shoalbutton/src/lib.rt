@@ -12,17 +12,11 @@ ghost use Rattle.player_shown.specs.Answers.{showed};
 ghost use Rattle.player_corners.specs.Answers.{cornered};
 ghost use Rattle.player_samples.specs.Answers.{sampled};
 ghost use Rattle.player_label.specs.Labels.{labelIn, orEmpty};
-ghost use Rattle.pair_text.specs.Answer.{movementLeft, loading, tableLeft, movesLeft};
-ghost use Rattle.pair_bridge.specs.Playing.{sampleAsked, cornerAsked, shownAsked, labelAsked};
-ghost use Rattle.pair_play.specs.Playing.{played, sampleTold, cornerTold, shownTold, refusalOf, bytesOf};
+ghost use Rattle.pair_text.specs.Answer.{movementLeft, tableLeft, movesLeft};
 ghost use Rattle.pair_load.specs.Answers.{reply};
 ghost use Rattle.pair_movement.specs.Moved.{movedReply, moving};
 use bac6::FigureAnswer;
 use pair_load::PairAnswer;
-use pair_play::PlayedCorner;
-use pair_play::PlayedSample;
-use pair_play::PlayedShown;
-use pair_play::Refusal;
 use player_corners::Cornered;
 use player_samples::Sampled;
 use player_shown::Visibility;
@@ -131,80 +125,14 @@ pub fn label_number(
     player_label::label_number(figure, table, n, movement, moves, m, bone)
 }
 
-// ---- loading a pair and then playing it: the answer speaks of the two texts alone
+// ---- loading a pair and then playing it: the answers speak of the two texts alone. Each contract stands beside its call.
 
-pub fn played_sample(
-    figure: &[u8],
-    movement: &[u8],
-    table: &mut [i64],
-    moves: &mut [i64],
-    bone: usize,
-    channel: usize,
-    at: usize,
-) -> PlayedSample
-    ensures answer { λ r. ⌜ sampleTold r ≡ played (loading (now (figure .entry)) (now (table .entry)) (now (movement .entry)) (now (moves .entry))) (λ f m. sampleAsked m bone channel at) ⌝ }
-    ensures figure { λ r. ⌜ now (table .exit) ≡ tableLeft (now (figure .entry)) (now (table .entry)) (now (movement .entry)) (now (moves .entry)) ⌝ }
-    ensures movement { λ r. ⌜ now (moves .exit) ≡ movesLeft (now (figure .entry)) (now (table .entry)) (now (movement .entry)) (now (moves .entry)) ⌝ }
-{
-    pair_play::played_sample(figure, movement, table, moves, bone, channel, at)
-}
-
-pub fn played_corner(
-    figure: &[u8],
-    movement: &[u8],
-    table: &mut [i64],
-    moves: &mut [i64],
-    face: usize,
-    k: usize,
-) -> PlayedCorner
-    ensures answer { λ r. ⌜ cornerTold r ≡ played (loading (now (figure .entry)) (now (table .entry)) (now (movement .entry)) (now (moves .entry))) (λ f m. cornerAsked f face k) ⌝ }
-    ensures figure { λ r. ⌜ now (table .exit) ≡ tableLeft (now (figure .entry)) (now (table .entry)) (now (movement .entry)) (now (moves .entry)) ⌝ }
-    ensures movement { λ r. ⌜ now (moves .exit) ≡ movesLeft (now (figure .entry)) (now (table .entry)) (now (movement .entry)) (now (moves .entry)) ⌝ }
-{
-    pair_play::played_corner(figure, movement, table, moves, face, k)
-}
-
-pub fn played_shown(
-    figure: &[u8],
-    movement: &[u8],
-    table: &mut [i64],
-    moves: &mut [i64],
-    face: usize,
-    at: usize,
-) -> PlayedShown
-    ensures answer { λ r. ⌜ shownTold r ≡ played (loading (now (figure .entry)) (now (table .entry)) (now (movement .entry)) (now (moves .entry))) (λ f m. shownAsked f m face at) ⌝ }
-    ensures figure { λ r. ⌜ now (table .exit) ≡ tableLeft (now (figure .entry)) (now (table .entry)) (now (movement .entry)) (now (moves .entry)) ⌝ }
-    ensures movement { λ r. ⌜ now (moves .exit) ≡ movesLeft (now (figure .entry)) (now (table .entry)) (now (movement .entry)) (now (moves .entry)) ⌝ }
-{
-    pair_play::played_shown(figure, movement, table, moves, face, at)
-}
-
-// A part of one of the two texts; where the pair is refused or has no such bone, an empty one.
-pub fn played_label<'a>(
-    figure: &'a [u8],
-    movement: &'a [u8],
-    table: &mut [i64],
-    moves: &mut [i64],
-    bone: usize,
-) -> &'a [u8]
-    ensures answer { λ r. ⌜ now r ≡ bytesOf (played (loading (now (figure .entry)) (now (table .entry)) (now (movement .entry)) (now (moves .entry))) (λ f m. labelAsked f m bone)) ⌝ }
-    ensures figure { λ r. ⌜ now (table .exit) ≡ tableLeft (now (figure .entry)) (now (table .entry)) (now (movement .entry)) (now (moves .entry)) ⌝ }
-    ensures movement { λ r. ⌜ now (moves .exit) ≡ movesLeft (now (figure .entry)) (now (table .entry)) (now (movement .entry)) (now (moves .entry)) ⌝ }
-{
-    pair_play::played_label(figure, movement, table, moves, bone)
-}
-
-// Its number, place and file.
-pub fn played_label_number(
-    figure: &[u8],
-    movement: &[u8],
-    table: &mut [i64],
-    moves: &mut [i64],
-    bone: usize,
-) -> Refusal
-    ensures answer { λ r. ⌜ r ≡ refusalOf (played (loading (now (figure .entry)) (now (table .entry)) (now (movement .entry)) (now (moves .entry))) (λ f m. labelAsked f m bone)) ⌝ }
-    ensures figure { λ r. ⌜ now (table .exit) ≡ tableLeft (now (figure .entry)) (now (table .entry)) (now (movement .entry)) (now (moves .entry)) ⌝ }
-    ensures movement { λ r. ⌜ now (moves .exit) ≡ movesLeft (now (figure .entry)) (now (table .entry)) (now (movement .entry)) (now (moves .entry)) ⌝ }
-{
-    pair_play::played_label_number(figure, movement, table, moves, bone)
-}
+pub use pair_faces::PlayedCorner;
+pub use pair_faces::PlayedShown;
+pub use pair_faces::played_corner;
+pub use pair_faces::played_shown;
+pub use pair_labels::Refusal;
+pub use pair_labels::played_label;
+pub use pair_labels::played_label_number;
+pub use pair_samples::PlayedSample;
+pub use pair_samples::played_sample;
