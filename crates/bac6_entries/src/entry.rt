@@ -6,6 +6,7 @@ ghost use Rattle.bac6_bone_rules.specs.Internal.Claims.{claimedOne};
 ghost use Rattle.bac6_entries.specs.Internal.Into.{entriesInto};
 use parse_cursor::Cursor;
 use parse_numbers::Form;
+use table_columns::VertexRow;
 
 // A cursor, and whether every entry so far was free; where the cursor has refused, `fine` is free.
 pub struct Claims {
@@ -18,7 +19,7 @@ fn tried(owners: &mut [i64], points: usize, z: i64, bone: i64, fine: bool) -> bo
     ensures { λ r. ⌜ (r, now (owners .exit)) ≡ claimedOne points bone (fine, now (owners .entry)) z ⌝ }
 {
     if fine {
-        return bac6_bone_rules::claim(owners, points, z, bone);
+        return bac6_bone_rules::claim(owners, points, VertexRow(z), bone);
     }
     false
 }
