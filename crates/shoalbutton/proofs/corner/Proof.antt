@@ -7,7 +7,7 @@ corner-requires : tie.Need-corner-requires
 corner-requires c κs = search needs
 
 returns : tie.Need-returns
-returns c = search needs
+returns c = c .corner .ensures
 
 pub corner-spec : {M : Type 1} → statement M
 corner-spec = tie.close (tie.spec corner-requires returns)

@@ -7,7 +7,7 @@ label-requires : tie.Need-label-requires
 label-requires c κs = search needs
 
 returns : tie.Need-returns
-returns c = search needs
+returns c = c .label .ensures
 
 pub label-spec : {M : Type 1} → statement M
 label-spec = tie.close (tie.spec label-requires returns)

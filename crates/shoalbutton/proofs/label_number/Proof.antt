@@ -7,7 +7,7 @@ label-number-requires : tie.Need-label-number-requires
 label-number-requires c κs = search needs
 
 returns : tie.Need-returns
-returns c = search needs
+returns c = c .label-number .ensures
 
 pub label-number-spec : {M : Type 1} → statement M
 label-number-spec = tie.close (tie.spec label-number-requires returns)

@@ -13,7 +13,7 @@ same-length-2 : tie.Need-same-length-2
 same-length-2 c = search needs
 
 returns : tie.Need-returns
-returns c = search needs
+returns c = c .before .before .load .ensures
 
 pub load-spec : {M : Type 1} → statement M
 load-spec = tie.close (tie.spec load-requires same-length same-length-2 returns)

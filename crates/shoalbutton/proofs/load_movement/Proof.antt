@@ -10,7 +10,7 @@ same-length : tie.Need-same-length
 same-length c = search needs
 
 returns : tie.Need-returns
-returns c = search needs
+returns c = c .before .load-movement .ensures
 
 pub load-movement-spec : {M : Type 1} → statement M
 load-movement-spec = tie.close (tie.spec load-movement-requires same-length returns)

@@ -7,7 +7,7 @@ sample-requires : tie.Need-sample-requires
 sample-requires c κs = search needs
 
 returns : tie.Need-returns
-returns c = search needs
+returns c = c .sample .ensures
 
 pub sample-spec : {M : Type 1} → statement M
 sample-spec = tie.close (tie.spec sample-requires returns)

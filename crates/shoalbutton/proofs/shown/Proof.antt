@@ -7,7 +7,7 @@ shown-requires : tie.Need-shown-requires
 shown-requires c κs = search needs
 
 returns : tie.Need-returns
-returns c = search needs
+returns c = c .shown .ensures
 
 pub shown-spec : {M : Type 1} → statement M
 shown-spec = tie.close (tie.spec shown-requires returns)
