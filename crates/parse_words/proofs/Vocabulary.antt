@@ -187,7 +187,7 @@ module _ (text : List ℕ) (c : Cursor) (t : Span) (n : Next text (c .at) t) (o 
 
 -- ---- the same in the grammar's words
 
-index-plain : (t : Token) (ws : List (List ℕ)) → indexIn t ws < length ws → isPlain t ≡ true
+pub index-plain : (t : Token) (ws : List (List ℕ)) → indexIn t ws < length ws → isPlain t ≡ true
 index-plain t [] h = absurd (omega arith)
 index-plain t (w ∷ ws) h = go (isKeyword w t) refl (index-plain t ws)
   where
@@ -224,7 +224,7 @@ one-word ks list ms e = go (ltb (indexIn (tokenOf ms) (wordList ks)) (length ks)
 
 -- ---- a chunk of a free order, by its keyword's row in a list of the kinds' keywords
 
-keysOf-length : {A : Type 0} (ks : List (Kind A)) → length (keysOf ks) ≡ length ks
+pub keysOf-length : {A : Type 0} (ks : List (Kind A)) → length (keysOf ks) ≡ length ks
 unfolding keysOf
 keysOf-length [] = refl
 keysOf-length (k ∷ ks) = ap suc (keysOf-length ks)
