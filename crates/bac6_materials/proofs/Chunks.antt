@@ -18,13 +18,14 @@ use Rattle.table_rows.specs.Internal.Overlay.{overlayAt}
 use Rattle.parse_cursor.proofs.Many.{Keeps, Takes, takes-keeps, pure-keeps, bind-keeps, bind-takes, then-keeps, then-takes, keyword-takes, opened-takes, closed-keeps, number-takes, one-of-takes}
 use Rattle.parse_cursor.proofs.FieldKeeps.{AllKeep, fields-keeps}
 use Rattle.parse_cursor.proofs.Binds.{then-assoc, then-bind}
-use Rattle.parse_cursor.proofs.Steps.{join, seq, passed, from-on, from-off}
-use Rattle.parse_cursor.specs.Fields.{kind, unread, fields, fieldsIn}
-use Rattle.parse_cursor.specs.Internal.Fields.{insideAt, fieldOf, fieldsOf}
+use Rattle.parse_cursor.proofs.Steps.{join, seq, passed, from-on, reads-same}
+use Rattle.parse_cursor.specs.Fields.{kind, isSome, unread, fields}
+use Rattle.parse_cursor.specs.Internal.Fields.{insideAt, neededOf}
 use Rattle.parse_words.specs.Internal.Words.{words, onto, keysOf, apart, differs}
+use Rattle.parse_words.specs.Internal.Heads.{Reached}
+use Rattle.parse_words.proofs.Turns.{Listed, Midway}
 use Rattle.bac6_text.specs.Grammar.{materialKinds, truth, blend, orZero, material, word}
-use Rattle.bac6_materials.specs.Internal.Into.{Settled, materialTail, materialInto}
-use Rattle.parse_cursor.proofs.Choices.{fieldsOf-set}
+use Rattle.bac6_materials.specs.Internal.Into.{materialTail, materialInto}
 
 pub inside-truth : (k : ℕ) → (k ≡ 0 → ⊥) → k < 4 → insideAt materialKinds k ≡ closed truth
 unfolding insideAt materialKinds kind
@@ -57,39 +58,31 @@ inside-level (suc (suc (suc (suc (suc (suc (suc zero))))))) h l = refl
 inside-level (suc (suc (suc (suc (suc (suc (suc (suc zero)))))))) h l = refl
 inside-level (suc (suc (suc (suc (suc (suc (suc (suc (suc k))))))))) h l = absurd (omega arith)
 
--- the keywords as one text, and no two are the same
-pub material-words : words (bytes "blendMode doubleFace transparent lighting textureIndex colorIndex specular alpha shininess") ≡ keysOf materialKinds
-unfolding materialKinds kind keysOf words onto inWord bytes
-material-words = refl
+-- the keywords as one text, no two of them the same, and which chunks must stand
+pub material-listed : Listed materialKinds (bytes "blendMode doubleFace transparent lighting textureIndex colorIndex specular alpha shininess") (true ∷ true ∷ true ∷ true ∷ true ∷ true ∷ true ∷ false ∷ false ∷ [])
+unfolding materialKinds kind keysOf words onto inWord bytes apart differs same neededOf
+material-listed = record { keys = refl; differ = refl; must = refl }
 
-pub material-apart : apart (keysOf materialKinds) ≡ true
-unfolding materialKinds kind keysOf apart differs same bytes
-material-apart = refl
+-- ---- between two chunks: fields that have not been read are 0
 
-pub material-count : length materialKinds ≡ 9
-unfolding materialKinds
-material-count = refl
+abbrev pub Between : List ℕ → ℕ → ℕ → ℕ → List Bool → List ℤ → Type 0
+Between text at left from seen row = Midway text materialKinds (fields materialKinds (lexAt text at)) left from seen (λ fs. map orZero fs ≡ row)
 
--- ---- fields that have not been read are 0
+pub between-start : (text : List ℕ) (at : ℕ) (seen : List Bool) (row : List ℤ) → row ≡ replicate 9 (pos 0) → seen ≡ replicate 9 false → Between text at 9 at seen row
+unfolding fields materialKinds unread isSome orZero
+between-start text at seen row e f = record { fs = unread materialKinds; size = refl; flags = sym f; holds = sym e; on = refl }
 
 map-set : {A B : Type 0} (f : A → B) (l : List A) (k : ℕ) (a : A) → map f (set l k a) ≡ set (map f l) k (f a)
 map-set f [] k a = refl
 map-set f (x ∷ l) zero a = refl
 map-set f (x ∷ l) (suc k) a = ap (λ m. f x ∷ m) (map-set f l k a)
 
-pub settled-set : (seen : List Bool) (row : List ℤ) (k : ℕ) (z : ℤ) → length seen ≡ length row → Settled seen row → Settled (set seen k true) (set row k z)
+-- a value more
+pub value-set : (fs : List (Option ℤ)) (row : List ℤ) (k : ℕ) (z : ℤ) → map orZero fs ≡ row → map orZero (set fs k (some z)) ≡ set row k z
 unfolding orZero
-settled-set seen row k z l s = rw (fieldsOf-set seen row k z l, map-set orZero (fieldsOf seen row) k (some z), s)
+value-set fs row k z e = map-set orZero fs k (some z) ∙ ap (λ (l : List ℤ). set l k z) e
 
 -- ---- a whole material
-
-pub unread-fields : fieldsOf (replicate 9 false) (replicate 9 (pos 0)) ≡ unread materialKinds
-unfolding fieldsOf fieldOf unread materialKinds
-unread-fields = refl
-
-pub unread-settled : Settled (replicate 9 false) (replicate 9 (pos 0))
-unfolding fieldsOf fieldOf orZero
-unread-settled = refl
 
 module _ (text : List ℕ) (c d r : Cursor) (gs : List (Option ℤ)) (o : reads text d tt ≡ from text c (wordOf (bytes "material"))) (i : ℕ) (table : List ℤ) where
   material-from : reads text r gs ≡ from text d (fields materialKinds) → reads text r (overlayAt i (map orZero gs) table) ≡ from text c (materialInto i table)
@@ -101,14 +94,13 @@ module _ (text : List ℕ) (c d r : Cursor) (gs : List (Option ℤ)) (o : reads 
 
 -- refused before its first chunk
 pub material-off : (text : List ℕ) (c d : Cursor) (i : ℕ) (table : List ℤ) (any : List ℤ) → reads text d tt ≡ from text c (wordOf (bytes "material")) → (d .refusal ≡ 0 → ⊥) → reads text d any ≡ from text c (materialInto i table)
-unfolding reads
-material-off text c d i table any o n = from-off text d (pure any) n ∙ sym (from-off text d _ n) ∙ material-from text c d d [] o i table (passed text d [] (fields materialKinds) n)
+material-off text c d i table any o n = reads-same text d any _ (λ q. absurd (n q)) ∙ material-from text c d d [] o i table (passed text d [] (fields materialKinds) n)
 
 -- read to its closing bracket, or refused at one of its chunks
-pub material-on : (text : List ℕ) (c d r : Cursor) (seen : List Bool) (row : List ℤ) (i : ℕ) (table : List ℤ) → reads text d tt ≡ from text c (wordOf (bytes "material")) → d .refusal ≡ 0 → reads text r (fieldsOf seen row) ≡ fieldsIn 9 materialKinds (unread materialKinds) (lexAt text (d .at)) → Settled seen row → reads text r (overlayAt i row table) ≡ from text c (materialInto i table)
-material-on text c d r seen row i table o n q s =
-    ap (λ (zs : List ℤ). reads text r (overlayAt i zs table)) (sym s)
-    ∙ material-from text c d r (fieldsOf seen row) o i table (q ∙ sym (from-on text d (fields materialKinds) n ∙ unfold fields materialKinds in refl))
+pub material-on : (text : List ℕ) (c d r : Cursor) (row : List ℤ) (i : ℕ) (table : List ℤ) → reads text d tt ≡ from text c (wordOf (bytes "material")) → d .refusal ≡ 0 → Reached text r (fields materialKinds (lexAt text (d .at))) (λ gs. map orZero gs ≡ row) → reads text r (overlayAt i row table) ≡ from text c (materialInto i table)
+material-on text c d r row i table o n y =
+    reads-same text r _ _ (λ q. ap (λ (zs : List ℤ). overlayAt i zs table) (sym (y .kept q)))
+    ∙ material-from text c d r (y .value) o i table (y .read ∙ sym (from-on text d (fields materialKinds) n))
 
 -- ---- many materials
 

@@ -10,7 +10,7 @@ use lib.Dec.{eqb, ltb}
 use lib.ListN.{length, getD, set, length-set}
 use Rattle.text_tokens.specs.Tokens.{Lexeme, lexAt}
 use Rattle.parse_cursor.specs.declared.cursor.Cursor.{Cursor}
-use Rattle.parse_cursor.specs.Readers.{Got, Reader, after, _>>=_, pure, stop, tokenOf, rest, isOpening, isClosing}
+use Rattle.parse_cursor.specs.Readers.{Got, got, Reader, after, _>>=_, pure, stop, tokenOf, rest, isOpening, isClosing}
 use Rattle.parse_cursor.specs.Fields.{Kind, isSome, complete, kindFrom, fieldsIn}
 use Rattle.parse_cursor.specs.Internal.Cursors.{reads, from}
 use Rattle.parse_cursor.specs.Internal.Fields.{hits, single, insideAt, neededOf, coversAll}
@@ -130,40 +130,43 @@ module _ {A : Type 0} {ks : List (Kind A)} {list : List ℕ} {needed : List Bool
   turn-ends e = record { value = m .fs; read = sym (headed ∙ ap (from text c) (onwards-end (left - 1) ks (m .fs) k (rw width e))); kept = λ _. m .holds }
 
   module _ (b : k < length seen) where
-    -- what a head of a chunk says
-    pub turn-left : c .refusal ≡ 0 → left ≡ 0 → ⊥
-    turn-left o = head-left (words list) needed seen k _ (lexAt text at) b left (sym h ∙ reads-on text c k o)
+    -- what the head of a chunk says, where a row is told only by a cursor that has not refused
+    module _ (q : (c .refusal ≡ 0 → ⊥) → k ≡ length seen) where
+      pub turn-live : c .refusal ≡ 0
+      turn-live = go (eqb (c .refusal) 0) refl
+        where
+          go : (v : Bool) → eqb (c .refusal) 0 ≡ v → c .refusal ≡ 0
+          go true e = eqb-true _ _ e
+          go false e = absurd (let z = q (eqb-false _ _ e) in omega arith)
 
-    pub turn-unread : c .refusal ≡ 0 → getD (m .fs) k none ≡ none
-    turn-unread o = flag-unread (m .fs) k (rw (m .flags) (head-clear (words list) needed seen k _ (lexAt text at) b left (sym h ∙ reads-on text c k o)))
+      taken : headIn (words list) needed seen left (lexAt text at) ≡ got k (lexAt text (c .at))
+      taken = sym h ∙ reads-on text c k turn-live
+
+      pub turn-left : left ≡ 0 → ⊥
+      turn-left = head-left (words list) needed seen k _ (lexAt text at) b left taken
+
+      pub turn-unread : getD (m .fs) k none ≡ none
+      turn-unread = flag-unread (m .fs) k (rw (m .flags) (head-clear (words list) needed seen k _ (lexAt text at) b left taken))
 
     -- what stands in the chunk, read to cursor d
-    module _ (d : Cursor) (Q : List (Option A) → Type 0) (y : Reached text d (from text c (insideAt ks k)) (λ a. Q (set (m .fs) k (some a)))) where
-      turned : whole ≡ from text d (fieldsIn (left - 1) ks (set (m .fs) k (some (y .value))))
+    module _ (d : Cursor) (a : A) (p : reads text d a ≡ from text c (insideAt ks k)) where
+      turned : whole ≡ from text d (fieldsIn (left - 1) ks (set (m .fs) k (some a)))
       turned =
           headed
           ∙ ap (from text c) (onwards-more (left - 1) ks (m .fs) k (rw width b))
-          ∙ from-bind text c (λ a. fieldsIn (left - 1) ks (set (m .fs) k (some a))) (insideAt ks k)
-          ∙ ap (λ (g : Got A). after g (λ a. fieldsIn (left - 1) ks (set (m .fs) k (some a)))) (sym (y .read))
-          ∙ after-reads text d (λ a. fieldsIn (left - 1) ks (set (m .fs) k (some a))) (y .value)
+          ∙ from-bind text c (λ x. fieldsIn (left - 1) ks (set (m .fs) k (some x))) (insideAt ks k)
+          ∙ ap (λ (g : Got A). after g (λ x. fieldsIn (left - 1) ks (set (m .fs) k (some x)))) (sym p)
+          ∙ after-reads text d (λ x. fieldsIn (left - 1) ks (set (m .fs) k (some x))) a
 
-      pub turn-on : d .refusal ≡ 0 → Midway text ks whole (left - 1) (d .at) (set seen k true) Q
-      turn-on o =
+      pub turn-on : (seen′ : List Bool) → seen′ ≡ set seen k true → d .refusal ≡ 0 → (Q : List (Option A) → Type 0) → Q (set (m .fs) k (some a)) → Midway text ks whole (left - 1) (d .at) seen′ Q
+      turn-on seen′ e o Q q =
           record {
-            fs = set (m .fs) k (some (y .value));
-            size = length-set (m .fs) k (some (y .value)) ∙ m .size;
-            flags = flags-set (m .fs) k (y .value) ∙ ap (λ (s : List Bool). set s k true) (m .flags);
-            holds = y .kept o;
+            fs = set (m .fs) k (some a);
+            size = length-set (m .fs) k (some a) ∙ m .size;
+            flags = flags-set (m .fs) k a ∙ ap (λ (s : List Bool). set s k true) (m .flags) ∙ sym e;
+            holds = q;
             on = turned ∙ from-on text d _ o;
           }
 
-      pub turn-off : (d .refusal ≡ 0 → ⊥) → (R : List (Option A) → Type 0) → Reached text d whole R
-      turn-off o R = record { value = set (m .fs) k (some (y .value)); read = passed text d _ _ o ∙ sym turned; kept = λ q. absurd (o q) }
-
--- a row below the number of flags is told only where the cursor has not refused
-pub row-live : (c : Cursor) (k n : ℕ) → ((c .refusal ≡ 0 → ⊥) → k ≡ n) → k < n → c .refusal ≡ 0
-row-live c k n h b = go (eqb (c .refusal) 0) refl
-  where
-    go : (v : Bool) → eqb (c .refusal) 0 ≡ v → c .refusal ≡ 0
-    go true e = eqb-true _ _ e
-    go false e = absurd (let z = h (eqb-false _ _ e) in omega arith)
+      pub turn-off : (d .refusal ≡ 0 → ⊥) → (Q : List (Option A) → Type 0) → Reached text d whole Q
+      turn-off o Q = record { value = set (m .fs) k (some a); read = passed text d _ _ o ∙ sym turned; kept = λ q. absurd (o q) }

@@ -1,7 +1,7 @@
 -- `material_tail` is a material's row, set down in the table.
 use mathlib.Core.Path.{refl}
 use Rattle.text_bytes.specs.Bytes.{bytes}
-use Rattle.bac6_materials.proofs.Chunks.{unread-fields, unread-settled, material-off, material-on}
+use Rattle.bac6_materials.proofs.Chunks.{material-off, material-on}
 use borrow.Author.Needs.{needs}
 use Rattle.bac6_materials.proofs.material.material_tail.Statement.{statement}
 use Rattle.bac6_materials.proofs.material.material_tail.Tie as tie
@@ -23,7 +23,7 @@ slice-aggregate-material-fields-2 : tie.Need-slice-aggregate-material-fields-2
 slice-aggregate-material-fields-2 c = search needs
 
 material-fields-requires : tie.Need-material-fields-requires
-material-fields-requires c κs = ((refl, refl), unread-settled)
+material-fields-requires c κs = (refl, refl)
 
 slice-aggregate-store : tie.Need-slice-aggregate-store
 slice-aggregate-store c = search needs
@@ -40,7 +40,7 @@ returns-2 c =
     let f = c .before .before .before .before .before .before in
     let e = f .before .before .before in
     rw (c .before .store .ensures)
-    (material-on _ _ _ _ _ _ _ _ (e .before .before .keyword .ensures) (e .if1 .left) (rw unread-fields at (f .material-fields .ensures .0)) (f .material-fields .ensures .1))
+    (material-on _ _ _ _ _ _ _ (e .before .before .keyword .ensures) (e .if1 .left) (f .material-fields .ensures))
 
 pub material-tail-spec : {M : Type 1} → statement M
 material-tail-spec =
