@@ -1,4 +1,4 @@
--- What stands in each chunk of a material, and which chunk a token opens.
+-- What stands in each chunk of a material, and what the code holds between two chunks.
 use mathlib.Core.Path.{_≡_, refl, ap, sym, _∙_}
 use mathlib.Core.List.{List, [], _∷_, map}
 use mathlib.Core.Bool.{Bool, true, false}

@@ -1,5 +1,4 @@
 -- `channels` is its chunks, from flags that are all clear.
-use Rattle.tra4_channels.proofs.Turns.{unflagged}
 use borrow.Author.Needs.{needs}
 use Rattle.tra4_channels.proofs.channel.channels.Statement.{statement}
 use Rattle.tra4_channels.proofs.channel.channels.Tie as tie
@@ -11,7 +10,7 @@ channel-chunks-requires : tie.Need-channel-chunks-requires
 channel-chunks-requires c κs = search needs
 
 returns : tie.Need-returns
-returns c = unflagged (c .before .channel-chunks .ensures)
+returns c = c .before .channel-chunks .ensures
 
 pub channels-spec : {M : Type 1} → statement M
 channels-spec = tie.close (tie.spec slice-aggregate-channel-chunks channel-chunks-requires returns)
