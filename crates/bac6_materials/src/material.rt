@@ -5,7 +5,6 @@ ghost use mathlib.Core.List.{map};
 ghost use Prim.Native.Nat.{_<_};
 ghost use lib.IntN.{pos};
 ghost use lib.ListN.{replicate};
-ghost use Rattle.text_tokens.specs.Tokens.{lexAt};
 ghost use Rattle.parse_cursor.specs.Fields.{fields};
 ghost use Rattle.parse_cursor.specs.Internal.Fields.{insideAt};
 ghost use Rattle.parse_cursor.specs.Internal.Cursors.{reads, from};
@@ -51,34 +50,30 @@ fn close(text: &[u8], n: Numeric) -> Numeric
 }
 
 // The chunks of a material up to its closing bracket, from an empty row: all but `alpha` and `shininess` must have stood.
-fn material_fields(text: &[u8], at: usize, row: &mut [i64], seen: &mut [bool]) -> Cursor
+fn material_fields(text: &[u8], c: Cursor, row: &mut [i64], seen: &mut [bool]) -> Cursor
     requires { ⌜ (now row ≡ replicate 9 (pos 0)) × (now seen ≡ replicate 9 false) ⌝ }
-    ensures { λ r. ⌜ Reached (now (text .entry)) r (fields materialKinds (lexAt (now (text .entry)) at)) (λ gs. map orZero gs ≡ now (row .exit)) ⌝ }
+    ensures { λ r. ⌜ Reached (now (text .entry)) r (from (now (text .entry)) c (fields materialKinds)) (λ gs. map orZero gs ≡ now (row .exit)) ⌝ }
 {
-    let mut from = at;
+    let mut d = c;
     let mut left: usize = 9;
     loop {
         let h = parse_words::next_chunk(
             text,
-            from,
+            d,
             b"blendMode doubleFace transparent lighting textureIndex colorIndex specular alpha shininess",
             &[true, true, true, true, true, true, true, false, false],
             seen,
             left,
         );
-        let c = h.cursor;
+        let inside = h.cursor;
         let k = h.kind;
         if 9 <= k {
-            return c;
+            return inside;
         }
-        let v = material_value(text, c, k);
-        let d = v.cursor;
-        if d.refusal != 0 {
-            return d;
-        }
+        let v = material_value(text, inside, k);
         let value = v.value;
         row[k] = value;
-        from = d.at;
+        d = v.cursor;
         left -= 1;
     }
 }
@@ -88,12 +83,9 @@ fn material_tail(text: &[u8], c: Cursor, out: &mut [i64], to: usize) -> Cursor
     ensures { λ r. ⌜ reads (now (text .entry)) r (now (out .exit)) ≡ from (now (text .entry)) c (materialInto to (now (out .entry))) ⌝ }
 {
     let d = parse_cursor::keyword(text, c, b"material");
-    if d.refusal != 0 {
-        return d;
-    }
     let mut row = [0i64; 9];
     let mut seen = [false; 9];
-    let r = material_fields(text, d.at, &mut row, &mut seen);
+    let r = material_fields(text, d, &mut row, &mut seen);
     table_rows::store(out, to, &row);
     r
 }

@@ -12,11 +12,11 @@ use Rattle.text_tokens.specs.declared.token.Span.{Span}
 use Rattle.text_tokens.specs.Internal.Answers.{Next, lexemeOf}
 use Rattle.text_numbers.proofs.Numerals.{and-true}
 use Rattle.parse_cursor.specs.declared.cursor.Cursor.{Cursor}
-use Rattle.parse_cursor.specs.Readers.{Got, got, after, _>>_, pure, stop, tokenOf, rest, isOpening, isClosing, isPlain, take-if, open-bracket}
-use Rattle.parse_cursor.specs.Internal.Cursors.{reads}
+use Rattle.parse_cursor.specs.Readers.{Got, got, Reader, after, _>>_, pure, stop, tokenOf, rest, isOpening, isClosing, isPlain, take-if, open-bracket}
+use Rattle.parse_cursor.specs.Internal.Cursors.{reads, from}
 use Rattle.parse_cursor.specs.Internal.Fields.{coversAll}
 use Rattle.parse_cursor.proofs.Choices.{after-stop}
-use Rattle.parse_cursor.proofs.Steps.{from-off, reads-on, next-token, next-stop, next-rest, live}
+use Rattle.parse_cursor.proofs.Steps.{from-on, from-off, reads-on, next-token, next-stop, next-rest, live}
 use Rattle.parse_cursor.proofs.Many.{got-value, stop-not}
 use Rattle.parse_words.specs.Internal.Words.{indexIn}
 use Rattle.parse_words.specs.Internal.Heads.{unmet, keyIn, openIn, headIn}
@@ -107,30 +107,39 @@ module _ (text : List ℕ) (at : ℕ) (t : Span) (n : Next text at t) where
         ∙ sym (key-yes ws seen (lexAt text at) (rw (next-token text at t n) e)
         ∙ rw (next-token text at t n) (ap (got (indexIn (lexemeOf text t .token) ws)) (next-rest text at t n (live isPlain (unfold isPlain in refl) (t .kind) _ p))))
 
-    module _ (needed : List Bool) where
-      pub turn-close : (left : ℕ) → isClosing (lexemeOf text t .token) ≡ true → coversAll needed seen ≡ true → reads text (record { refusal = 0; at = t .end }) (length seen) ≡ headIn ws needed seen left (lexAt text at)
-      unfolding lexemeOf lexeme
-      turn-close left e f =
-          reads-on text _ _ refl
-          ∙ sym (head-close ws needed seen (lexAt text at) left (ap isClosing (next-token text at t n) ∙ e) f
-          ∙ ap (got (length seen)) (next-rest text at t n (live isClosing (unfold isClosing in refl) (t .kind) _ e)))
+module _ (text : List ℕ) (c : Cursor) (t : Span) (n : Next text (c .at) t) (o : c .refusal ≡ 0) (ws : List (List ℕ)) (seen needed : List Bool) where
+  refused-from : (k : ℕ) (r : Reader ℕ) → r (lexAt text (c .at)) ≡ stop 5 (lexAt text (c .at)) → reads text (record { refusal = 5; at = t .start }) k ≡ from text c r
+  refused-from k r e = refused-at text (c .at) t n k _ e ∙ sym (from-on text c r o)
 
-      pub turn-early : (k left : ℕ) → isClosing (lexemeOf text t .token) ≡ true → coversAll needed seen ≡ false → reads text (record { refusal = 5; at = t .start }) k ≡ headIn ws needed seen left (lexAt text at)
-      turn-early k left e f = refused-at k _ (head-early ws needed seen (lexAt text at) left (ap isClosing (next-token text at t n) ∙ e) f)
+  closes : (v : Bool) → isClosing (lexemeOf text t .token) ≡ v → isClosing (tokenOf (lexAt text (c .at))) ≡ v
+  closes v e = ap isClosing (next-token text (c .at) t n) ∙ e
 
-      pub turn-full : (k left : ℕ) → left ≡ 0 → isClosing (lexemeOf text t .token) ≡ false → reads text (record { refusal = 5; at = t .start }) k ≡ headIn ws needed seen left (lexAt text at)
-      turn-full k left z e = rw z (refused-at k _ (head-full ws needed seen (lexAt text at) (ap isClosing (next-token text at t n) ∙ e)))
+  opens : (v : Bool) → isOpening (lexemeOf text t .token) ≡ v → isOpening (tokenOf (lexAt text (c .at))) ≡ v
+  opens v e = ap isOpening (next-token text (c .at) t n) ∙ e
 
-      pub turn-other : (k left : ℕ) → isClosing (lexemeOf text t .token) ≡ false → isOpening (lexemeOf text t .token) ≡ false → reads text (record { refusal = 5; at = t .start }) k ≡ headIn ws needed seen left (lexAt text at)
-      turn-other k left e f = refused-at k _ (head-other ws needed seen (lexAt text at) left (ap isClosing (next-token text at t n) ∙ e) (ap isOpening (next-token text at t n) ∙ f))
+  pub turn-close : (left : ℕ) → isClosing (lexemeOf text t .token) ≡ true → coversAll needed seen ≡ true → reads text (record { refusal = 0; at = t .end }) (length seen) ≡ from text c (headIn ws needed seen left)
+  unfolding lexemeOf lexeme
+  turn-close left e f =
+      reads-on text _ _ refl
+      ∙ sym (from-on text c (headIn ws needed seen left) o ∙ head-close ws needed seen _ left (closes true e) f
+      ∙ ap (got (length seen)) (next-rest text (c .at) t n (live isClosing (unfold isClosing in refl) (t .kind) _ e)))
 
-      pub turn-open : (left : ℕ) → (left ≡ 0 → ⊥) → isClosing (lexemeOf text t .token) ≡ false → isOpening (lexemeOf text t .token) ≡ true → (r : Cursor) (k : ℕ) → reads text r k ≡ keyIn ws seen (lexAt text (t .end)) → reads text r k ≡ headIn ws needed seen left (lexAt text at)
-      unfolding lexemeOf lexeme
-      turn-open zero z e f r k p = absurd (z refl)
-      turn-open (suc left) z e f r k p =
-          p
-          ∙ sym (head-open ws needed seen (lexAt text at) left (ap isClosing (next-token text at t n) ∙ e) (ap isOpening (next-token text at t n) ∙ f)
-          ∙ ap (keyIn ws seen) (next-rest text at t n (live isOpening (unfold isOpening in refl) (t .kind) _ f)))
+  pub turn-early : (k left : ℕ) → isClosing (lexemeOf text t .token) ≡ true → coversAll needed seen ≡ false → reads text (record { refusal = 5; at = t .start }) k ≡ from text c (headIn ws needed seen left)
+  turn-early k left e f = refused-from k _ (head-early ws needed seen _ left (closes true e) f)
+
+  pub turn-full : (k left : ℕ) → left ≡ 0 → isClosing (lexemeOf text t .token) ≡ false → reads text (record { refusal = 5; at = t .start }) k ≡ from text c (headIn ws needed seen left)
+  turn-full k left z e = rw z (refused-from k _ (head-full ws needed seen _ (closes false e)))
+
+  pub turn-other : (k left : ℕ) → isClosing (lexemeOf text t .token) ≡ false → isOpening (lexemeOf text t .token) ≡ false → reads text (record { refusal = 5; at = t .start }) k ≡ from text c (headIn ws needed seen left)
+  turn-other k left e f = refused-from k _ (head-other ws needed seen _ left (closes false e) (opens false f))
+
+  pub turn-open : (left : ℕ) → (left ≡ 0 → ⊥) → isClosing (lexemeOf text t .token) ≡ false → isOpening (lexemeOf text t .token) ≡ true → (r : Cursor) (k : ℕ) → reads text r k ≡ keyIn ws seen (lexAt text (t .end)) → reads text r k ≡ from text c (headIn ws needed seen left)
+  unfolding lexemeOf lexeme
+  turn-open zero z e f r k p = absurd (z refl)
+  turn-open (suc left) z e f r k p =
+      p
+      ∙ sym (from-on text c (headIn ws needed seen (suc left)) o ∙ head-open ws needed seen _ left (closes false e) (opens true f)
+      ∙ ap (keyIn ws seen) (next-rest text (c .at) t n (live isOpening (unfold isOpening in refl) (t .kind) _ f)))
 
 -- ---- a row that a head gives below the number of flags: its flag is clear, and a chunk could still open
 

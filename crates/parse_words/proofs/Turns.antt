@@ -16,9 +16,10 @@ use Rattle.parse_cursor.specs.Internal.Cursors.{reads, from}
 use Rattle.parse_cursor.specs.Internal.Fields.{hits, single, insideAt, neededOf, coversAll}
 use Rattle.parse_cursor.proofs.Choices.{after-stop, kind-miss, kind-again, kind-hit, fields-close, fields-early, fields-full, fields-other, fields-chunk}
 use Rattle.parse_cursor.proofs.Binds.{after-after}
+use Rattle.parse_cursor.proofs.Counts.{alive}
 use Rattle.parse_cursor.proofs.FieldFlags.{flags-length, flag-unread, flag-read, flags-set}
 use Rattle.parse_cursor.proofs.FieldSteps.{complete-seen}
-use Rattle.parse_cursor.proofs.Steps.{from-on, from-bind, reads-on, passed, after-reads}
+use Rattle.parse_cursor.proofs.Steps.{from-on, from-same, from-bind, reads-on, after-reads}
 use Rattle.parse_words.specs.Internal.Words.{words, indexIn, keysOf, apart}
 use Rattle.parse_words.specs.Internal.Heads.{keyIn, headIn, Reached}
 use Rattle.parse_words.proofs.Vocabulary.{hits-index, index-plain, keysOf-length}
@@ -74,7 +75,8 @@ module _ {A : Type 0} (ks : List (Kind A)) (list : List ℕ) (needed : List Bool
           ∙ ap (λ (r : Reader (List (Option A))). r (rest ms)) (onwards-more left ks fs k (rw l h)))
 
   -- the chunks that are left, by their first head
-  chunk-turn : (left : ℕ) (ms : List Lexeme) → fieldsIn left ks fs ms ≡ after (headIn (words list) needed (map isSome fs) left ms) (onwards (left - 1) ks fs)
+  chunk-turn : (left : ℕ) (ms : List Lexeme) → fieldsIn left ks fs ms ≡ (headIn (words list) needed (map isSome fs) left >>= onwards (left - 1) ks fs) ms
+  unfolding _>>=_
   chunk-turn left ms = go left (isClosing (tokenOf ms)) refl (isOpening (tokenOf ms)) refl
     where
       seen : List Bool
@@ -104,21 +106,22 @@ module _ {A : Type 0} (ks : List (Kind A)) (list : List ℕ) (needed : List Bool
           ∙ sym (ap (λ (g : Got ℕ). after g (onwards (suc n - 1) ks fs)) (head-open (words list) needed seen ms n e o)
           ∙ ap (λ (m : ℕ). after (keyIn (words list) seen (rest ms)) (onwards m ks fs)) (sym one))
 
--- ---- between two chunks: fields that the code's state stands for, and from which the rest is read
+-- ---- between two chunks: fields that the code's state stands for where the cursor has not refused, and from which the rest is read
 
-pub record Midway {A : Type 0} (text : List ℕ) (ks : List (Kind A)) (whole : Got (List (Option A))) (left at : ℕ) (seen : List Bool) (P : List (Option A) → Type 0) : Type 0 where
+pub record Midway {A : Type 0} (text : List ℕ) (ks : List (Kind A)) (whole : Got (List (Option A))) (left : ℕ) (c : Cursor) (seen : List Bool) (P : List (Option A) → Type 0) : Type 0 where
   pub fs : List (Option A)
   pub size : length fs ≡ length ks
   pub flags : map isSome fs ≡ seen
-  pub holds : P fs
-  pub on : whole ≡ fieldsIn left ks fs (lexAt text at)
+  pub holds : c .refusal ≡ 0 → P fs
+  pub on : whole ≡ from text c (fieldsIn left ks fs)
 
-module _ {A : Type 0} {ks : List (Kind A)} {list : List ℕ} {needed : List Bool} (w : Listed ks list needed) {text : List ℕ} {whole : Got (List (Option A))} {left at : ℕ} {seen : List Bool} {P : List (Option A) → Type 0} (m : Midway text ks whole left at seen P) (c : Cursor) (k : ℕ) (h : reads text c k ≡ headIn (words list) needed seen left (lexAt text at)) where
+module _ {A : Type 0} {ks : List (Kind A)} {list : List ℕ} {needed : List Bool} (w : Listed ks list needed) {text : List ℕ} {whole : Got (List (Option A))} {left : ℕ} {b : Cursor} {seen : List Bool} {P : List (Option A) → Type 0} (m : Midway text ks whole left b seen P) (c : Cursor) (k : ℕ) (h : reads text c k ≡ from text b (headIn (words list) needed seen left)) where
   headed : whole ≡ from text c (onwards (left - 1) ks (m .fs) k)
   headed =
       m .on
-      ∙ chunk-turn ks list needed w (m .fs) (m .size) left (lexAt text at)
-      ∙ ap (λ (g : Got ℕ). after g (onwards (left - 1) ks (m .fs))) (ap (λ (s : List Bool). headIn (words list) needed s left (lexAt text at)) (m .flags) ∙ sym h)
+      ∙ from-same text b _ (headIn (words list) needed (map isSome (m .fs)) left >>= onwards (left - 1) ks (m .fs)) (chunk-turn ks list needed w (m .fs) (m .size) left)
+      ∙ from-bind text b (onwards (left - 1) ks (m .fs)) (headIn (words list) needed (map isSome (m .fs)) left)
+      ∙ ap (λ (g : Got ℕ). after g (onwards (left - 1) ks (m .fs))) (ap (λ (s : List Bool). from text b (headIn (words list) needed s left)) (m .flags) ∙ sym h)
       ∙ after-reads text c (onwards (left - 1) ks (m .fs)) k
 
   width : length (m .fs) ≡ length seen
@@ -127,9 +130,9 @@ module _ {A : Type 0} {ks : List (Kind A)} {list : List ℕ} {needed : List Bool
   -- the closing bracket, or no head
   pub turn-ends : length seen ≤ k → Reached text c whole P
   unfolding reads
-  turn-ends e = record { value = m .fs; read = sym (headed ∙ ap (from text c) (onwards-end (left - 1) ks (m .fs) k (rw width e))); kept = λ _. m .holds }
+  turn-ends e = record { value = m .fs; read = sym (headed ∙ ap (from text c) (onwards-end (left - 1) ks (m .fs) k (rw width e))); kept = λ o. m .holds (alive text b c _ k h o) }
 
-  module _ (b : k < length seen) where
+  module _ (l : k < length seen) where
     -- what the head of a chunk says, where a row is told only by a cursor that has not refused
     module _ (q : (c .refusal ≡ 0 → ⊥) → k ≡ length seen) where
       pub turn-live : c .refusal ≡ 0
@@ -139,34 +142,32 @@ module _ {A : Type 0} {ks : List (Kind A)} {list : List ℕ} {needed : List Bool
           go true e = eqb-true _ _ e
           go false e = absurd (let z = q (eqb-false _ _ e) in omega arith)
 
-      taken : headIn (words list) needed seen left (lexAt text at) ≡ got k (lexAt text (c .at))
-      taken = sym h ∙ reads-on text c k turn-live
+      begun : b .refusal ≡ 0
+      begun = alive text b c _ k h turn-live
+
+      taken : headIn (words list) needed seen left (lexAt text (b .at)) ≡ got k (lexAt text (c .at))
+      taken = sym (from-on text b _ begun) ∙ sym h ∙ reads-on text c k turn-live
+
+      pub turn-holds : P (m .fs)
+      turn-holds = m .holds begun
 
       pub turn-left : left ≡ 0 → ⊥
-      turn-left = head-left (words list) needed seen k _ (lexAt text at) b left taken
+      turn-left = head-left (words list) needed seen k _ (lexAt text (b .at)) l left taken
 
       pub turn-unread : getD (m .fs) k none ≡ none
-      turn-unread = flag-unread (m .fs) k (rw (m .flags) (head-clear (words list) needed seen k _ (lexAt text at) b left taken))
+      turn-unread = flag-unread (m .fs) k (rw (m .flags) (head-clear (words list) needed seen k _ (lexAt text (b .at)) l left taken))
 
     -- what stands in the chunk, read to cursor d
-    module _ (d : Cursor) (a : A) (p : reads text d a ≡ from text c (insideAt ks k)) where
-      turned : whole ≡ from text d (fieldsIn (left - 1) ks (set (m .fs) k (some a)))
-      turned =
-          headed
-          ∙ ap (from text c) (onwards-more (left - 1) ks (m .fs) k (rw width b))
-          ∙ from-bind text c (λ x. fieldsIn (left - 1) ks (set (m .fs) k (some x))) (insideAt ks k)
-          ∙ ap (λ (g : Got A). after g (λ x. fieldsIn (left - 1) ks (set (m .fs) k (some x)))) (sym p)
-          ∙ after-reads text d (λ x. fieldsIn (left - 1) ks (set (m .fs) k (some x))) a
-
-      pub turn-on : (seen′ : List Bool) → seen′ ≡ set seen k true → d .refusal ≡ 0 → (Q : List (Option A) → Type 0) → Q (set (m .fs) k (some a)) → Midway text ks whole (left - 1) (d .at) seen′ Q
-      turn-on seen′ e o Q q =
-          record {
-            fs = set (m .fs) k (some a);
-            size = length-set (m .fs) k (some a) ∙ m .size;
-            flags = flags-set (m .fs) k a ∙ ap (λ (s : List Bool). set s k true) (m .flags) ∙ sym e;
-            holds = q;
-            on = turned ∙ from-on text d _ o;
-          }
-
-      pub turn-off : (d .refusal ≡ 0 → ⊥) → (Q : List (Option A) → Type 0) → Reached text d whole Q
-      turn-off o Q = record { value = set (m .fs) k (some a); read = passed text d _ _ o ∙ sym turned; kept = λ q. absurd (o q) }
+    pub turn-on : (d : Cursor) (a : A) → reads text d a ≡ from text c (insideAt ks k) → (seen′ : List Bool) → seen′ ≡ set seen k true → (Q : List (Option A) → Type 0) → (d .refusal ≡ 0 → Q (set (m .fs) k (some a))) → Midway text ks whole (left - 1) d seen′ Q
+    turn-on d a p seen′ e Q q =
+        record {
+          fs = set (m .fs) k (some a);
+          size = length-set (m .fs) k (some a) ∙ m .size;
+          flags = flags-set (m .fs) k a ∙ ap (λ (s : List Bool). set s k true) (m .flags) ∙ sym e;
+          holds = q;
+          on = headed
+              ∙ ap (from text c) (onwards-more (left - 1) ks (m .fs) k (rw width l))
+              ∙ from-bind text c (λ x. fieldsIn (left - 1) ks (set (m .fs) k (some x))) (insideAt ks k)
+              ∙ ap (λ (g : Got A). after g (λ x. fieldsIn (left - 1) ks (set (m .fs) k (some x)))) (sym p)
+              ∙ after-reads text d (λ x. fieldsIn (left - 1) ks (set (m .fs) k (some x))) a;
+        }

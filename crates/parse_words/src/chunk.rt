@@ -3,7 +3,7 @@ ghost use mathlib.Core.Path.{_≡_};
 ghost use mathlib.Core.Bool.{true};
 ghost use lib.ListN.{length, set};
 ghost use Rattle.text_tokens.specs.Tokens.{lexAt};
-ghost use Rattle.parse_cursor.specs.Internal.Cursors.{reads};
+ghost use Rattle.parse_cursor.specs.Internal.Cursors.{reads, from};
 ghost use Rattle.parse_words.specs.Internal.Heads.{keyIn, headIn};
 ghost use Rattle.parse_words.specs.Internal.Words.{words};
 use crate::fields::covers;
@@ -56,18 +56,25 @@ fn next_keyword(text: &[u8], at: usize, list: &[u8], seen: &mut [bool]) -> Chunk
 // after the last chunk, where every flag that is needed is set. There is a flag for each word of the list.
 pub fn next_chunk(
     text: &[u8],
-    at: usize,
+    c: Cursor,
     list: &[u8],
     needed: &[bool],
     seen: &mut [bool],
     left: usize,
 ) -> Chunk
-    ensures { λ r. ⌜ reads (now (text .entry)) (r .cursor) (r .kind) ≡ headIn (words (now (list .entry))) (now (needed .entry)) (now (seen .entry)) left (lexAt (now (text .entry)) at) ⌝ }
+    ensures { λ r. ⌜ reads (now (text .entry)) (r .cursor) (r .kind) ≡ from (now (text .entry)) c (headIn (words (now (list .entry))) (now (needed .entry)) (now (seen .entry)) left) ⌝ }
     ensures { λ r. ⌜ now (seen .exit) ≡ set (now (seen .entry)) (r .kind) true ⌝ }
     ensures { λ r. ⌜ ((r .cursor .refusal ≡ 0 → ⊥) → r .kind ≡ length (now (seen .entry))) ⌝ }
 {
-    let t = text_tokens::next(text, at);
     let count = seen.len();
+    if c.refusal != 0 {
+        return Chunk {
+            cursor: c,
+            kind: count,
+        };
+    }
+    let t = text_tokens::next(text, c.at);
+    let kind = t.kind;
     let refused = Chunk {
         cursor: Cursor {
             refusal: 5,
@@ -75,16 +82,16 @@ pub fn next_chunk(
         },
         kind: count,
     };
-    let kind = t.kind;
     if parse_cursor::is_closing(kind) {
         if !covers(needed, seen) {
             return refused;
         }
+        let past = Cursor {
+            refusal: 0,
+            at: t.end,
+        };
         return Chunk {
-            cursor: Cursor {
-                refusal: 0,
-                at: t.end,
-            },
+            cursor: past,
             kind: count,
         };
     }

@@ -12,11 +12,12 @@ use Rattle.text_tokens.specs.Tokens.{lexAt}
 use Rattle.parse_cursor.specs.declared.cursor.Cursor.{Cursor}
 use Rattle.parse_cursor.specs.Internal.Cursors.{reads, from}
 use Rattle.parse_cursor.specs.Fields.{kind, isSome, fieldsIn, fields, unread}
-use Rattle.parse_cursor.specs.Internal.Fields.{insideAt, neededOf}
+use Rattle.parse_cursor.specs.Internal.Fields.{neededOf}
+use Rattle.parse_cursor.proofs.Steps.{from-on}
 use Rattle.parse_cursor.proofs.FieldFlags.{flags-length}
 use Rattle.parse_words.specs.Internal.Words.{words, onto, keysOf, apart, differs}
 use Rattle.parse_words.specs.Internal.Heads.{headIn, Reached}
-use Rattle.parse_words.proofs.Turns.{Listed, Midway, turn-ends, turn-left, turn-unread, turn-on, turn-off}
+use Rattle.parse_words.proofs.Turns.{Listed, Midway, turn-ends, turn-holds, turn-left, turn-unread, turn-on}
 use Rattle.tra4_text.specs.Movement.{Channel}
 use Rattle.tra4_text.specs.Grammar.{channel, channelNames, channelKinds, keysIn}
 use Rattle.tra4_text.specs.Rules.{allKeys}
@@ -73,16 +74,22 @@ held-none ranges keys w r =
 
 -- ---- between two chunks
 
-abbrev pub Between : List ℕ → ℕ → ℕ → ℕ → List Bool → List ℤ → List ℤ → ℕ → Bool → Type 0
-Between text at left from seen ranges keys n over = Midway text channelKinds (fields channelKinds (lexAt text at)) left from seen (λ fs. Held fs (map isSome fs) ranges keys n over)
+abbrev pub Between : List ℕ → ℕ → ℕ → Cursor → List Bool → List ℤ → List ℤ → ℕ → Bool → Type 0
+Between text at left d seen ranges keys n over = Midway text channelKinds (fields channelKinds (lexAt text at)) left d seen (λ fs. Held fs (map isSome fs) ranges keys n over)
 
-pub between-start : (text : List ℕ) (at : ℕ) (seen : List Bool) (ranges keys : List ℤ) → seen ≡ replicate 10 false → length ranges ≡ 20 → length keys ≡ 8192 → Between text at 10 at seen ranges keys 0 false
+pub between-start : (text : List ℕ) (at : ℕ) (seen : List Bool) (ranges keys : List ℤ) → seen ≡ replicate 10 false → length ranges ≡ 20 → length keys ≡ 8192 → Between text at 10 (record { refusal = 0; at = at }) seen ranges keys 0 false
 unfolding fields channelKinds channelNames
 between-start text at seen ranges keys e w r =
-    record { fs = replicate 10 none; size = refl; flags = none-seen ∙ sym e; holds = held-none ranges keys w r; on = ap (λ (gs : List (Option Channel)). fieldsIn 10 channelKinds gs (lexAt text at)) unread-is }
+    record {
+      fs = replicate 10 none;
+      size = refl;
+      flags = none-seen ∙ sym e;
+      holds = λ _. held-none ranges keys w r;
+      on = ap (λ (gs : List (Option Channel)). fieldsIn 10 channelKinds gs (lexAt text at)) unread-is ∙ sym (from-on text (record { refusal = 0; at = at }) (fieldsIn 10 channelKinds (replicate 10 none)) refl);
+    }
 
 -- a chunk of a channel: after its head, its keys
-module _ (text : List ℕ) (at left from′ : ℕ) (seen : List Bool) (ranges keys : List ℤ) (n : ℕ) (over : Bool) (m : Between text at left from′ seen ranges keys n over) (c : Cursor) (k : ℕ) (h : reads text c k ≡ headIn (words list) ten seen left (lexAt text from′)) where
+module _ (text : List ℕ) (at left : ℕ) (d : Cursor) (seen : List Bool) (ranges keys : List ℤ) (n : ℕ) (over : Bool) (m : Between text at left d seen ranges keys n over) (c : Cursor) (k : ℕ) (h : reads text c k ≡ from text d (headIn (words list) ten seen left)) where
   wide : length seen ≡ 10
   wide = ap length (sym (m .flags)) ∙ flags-length (m .fs) ∙ m .size ∙ channel-count
 
@@ -96,12 +103,11 @@ module _ (text : List ℕ) (at left from′ : ℕ) (seen : List Bool) (ranges ke
     pub channel-left : left ≡ 0 → ⊥
     channel-left = turn-left channel-listed m c k h below q
 
-    module _ (r : Cursor) (s : List ℤ × List ℤ × ℕ × Bool) (y : KeysRead text c k (ranges, keys, n, over) r s) where
-      keys-read : Reached text r (from text c (insideAt channelKinds k)) (λ a. Held (set (m .fs) k (some a)) (map isSome (set (m .fs) k (some a))) (s .0) (s .1) (s .2) (s .3))
-      keys-read = y (m .fs) (m .size ∙ channel-count) (turn-unread channel-listed m c k h below q) (m .holds)
+    -- what reading its keys asks
+    pub channel-sizes : (k < 10) × (length ranges ≡ 20) × (length keys ≡ 8192) × (n ≤ 4096)
+    channel-sizes = let g = turn-holds channel-listed m c k h below q in (e, g .width, g .room, g .most)
 
-      pub channel-on : r .refusal ≡ 0 → (seen′ : List Bool) → seen′ ≡ set seen k true → Between text at (left - 1) (r .at) seen′ (s .0) (s .1) (s .2) (s .3)
-      channel-on o seen′ f = turn-on channel-listed m c k h below r (keys-read .value) (keys-read .read) seen′ f o (λ fs. Held fs (map isSome fs) (s .0) (s .1) (s .2) (s .3)) (keys-read .kept o)
-
-      pub channel-off : (r .refusal ≡ 0 → ⊥) → (Q : List (Option Channel) → Type 0) → Reached text r (fields channelKinds (lexAt text at)) Q
-      channel-off o Q = turn-off channel-listed m c k h below r (keys-read .value) (keys-read .read) o Q
+    pub channel-on : (r : Cursor) (s : List ℤ × List ℤ × ℕ × Bool) → KeysRead text c k (ranges, keys, n, over) r s → (seen′ : List Bool) → seen′ ≡ set seen k true → Between text at (left - 1) r seen′ (s .0) (s .1) (s .2) (s .3)
+    channel-on r s y seen′ f =
+        let z = y (m .fs) (m .size ∙ channel-count) (turn-unread channel-listed m c k h below q) (turn-holds channel-listed m c k h below q) in
+        turn-on channel-listed m c k h below r (z .value) (z .read) seen′ f (λ fs. Held fs (map isSome fs) (s .0) (s .1) (s .2) (s .3)) (z .kept)

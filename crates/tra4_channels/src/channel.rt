@@ -73,34 +73,30 @@ fn channel_chunks(
     requires { ⌜ (now seen ≡ replicate 10 false) × (length (now ranges) ≡ 20) × (length (now keys) ≡ 8192) ⌝ }
     ensures { λ r. ⌜ Reached (now (text .entry)) (r .cursor) (fields channelKinds (lexAt (now (text .entry)) at)) (λ gs. Held gs (map isSome gs) (now (ranges .exit)) (now (keys .exit)) (r .count) (r .over)) ⌝ }
 {
-    let mut from = at;
+    let mut d = Cursor { refusal: 0, at };
     let mut left: usize = 10;
     let mut count: usize = 0;
     let mut over = false;
     loop {
         let h = parse_words::next_chunk(
             text,
-            from,
+            d,
             b"translate.x translate.y translate.z scale.x scale.y scale.z rotate.x rotate.y rotate.z roll",
             &[true, true, true, true, true, true, true, true, true, true],
             seen,
             left,
         );
-        let c = h.cursor;
+        let inside = h.cursor;
         let k = h.kind;
         if 10 <= k {
             return Keyed {
-                cursor: c,
+                cursor: inside,
                 count,
                 over,
             };
         }
-        let m = channel_keys(text, c, k, ranges, keys, count, over);
-        let d = m.cursor;
-        if d.refusal != 0 {
-            return m;
-        }
-        from = d.at;
+        let m = channel_keys(text, inside, k, ranges, keys, count, over);
+        d = m.cursor;
         count = m.count;
         over = m.over;
         left -= 1;

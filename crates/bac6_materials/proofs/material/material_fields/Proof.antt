@@ -1,25 +1,23 @@
 -- `material_fields` reads chunks turn by turn: the invariant names the fields that the row and the flags stand for, and from which the rest is read.
-use mathlib.Core.Path.{_≡_, refl, ap, sym, _∙_}
+use mathlib.Core.Path.{_≡_, refl, ap, _∙_}
 use native.Mathlib.Omega.{arith}
 use borrow.Author.Needs.{needs}
 use lib.ListN.{length, length-set}
 use mir.Syntax.{w64}
 use mir.Facts.{toZ-ofZ}
 use Rattle.text_bytes.specs.Bytes.{bytes}
-use Rattle.parse_words.proofs.Turns.{turn-ends, turn-left, turn-on, turn-off}
-use Rattle.bac6_materials.proofs.Chunks.{material-listed, Between, between-start, value-set}
+use Rattle.bac6_materials.proofs.Chunks.{Between, between-start, fields-end, field-left, field-on}
 use Rattle.bac6_materials.proofs.material.material_fields.Statement.{statement}
 use Rattle.bac6_materials.proofs.material.material_fields.Tie as tie
 
 abbrev Inv-loop : tie.InvT-loop
-Inv-loop text at row₀ seen₀ from₀ left₀ t13 t14 row seen from left =
-    Between text at left from seen row
+Inv-loop text row₀ seen₀ d₀ left₀ t12 t13 row seen d left =
+    Between text d₀ left d seen row
     × (length seen ≡ length seen₀)
     × (length row ≡ length row₀)
 
 abbrev μ-loop : tie.MeasureT-loop
-μ-loop text at row₀ seen₀ from₀ left₀ t13 t14 row seen from left =
-    left
+μ-loop text row₀ seen₀ d₀ left₀ t12 t13 row seen d left = left
 
 loop-holds : tie.Need-loop-holds Inv-loop μ-loop
 loop-holds c = let p = c .before .before .pre in (between-start _ _ _ _ (p .0) (p .1), refl, refl)
@@ -44,33 +42,17 @@ unfolding bytes
 returns c =
     let h = c .before .before .before .before in
     let l = h .before .before .before .before in
-    let wide = l .loop .inv .1 ∙ ap length (l .before .before .before .pre .1) in
-    turn-ends material-listed (l .loop .inv .0) _ _ (h .next-chunk .ensures .0) (rw wide (c .if1 .taken))
+    fields-end _ _ _ _ _ _ (l .loop .inv .0) _ _ (h .next-chunk .ensures .0) (c .if1 .taken)
 
 material-value-requires : tie.Need-material-value-requires Inv-loop μ-loop
 material-value-requires c κs = search needs
-
-same-length-3 : tie.Need-same-length-3 Inv-loop μ-loop
-same-length-3 c = search needs
-
-same-length-4 : tie.Need-same-length-4 Inv-loop μ-loop
-same-length-4 c = search needs
-
-returns-2 : tie.Need-returns-2 Inv-loop μ-loop
-unfolding bytes
-returns-2 c =
-    let v = c .before .before .before in
-    let h = v .before .before .before .before .before in
-    let l = h .before .before .before .before in
-    let wide = l .loop .inv .1 ∙ ap length (l .before .before .before .pre .1) in
-    turn-off material-listed (l .loop .inv .0) _ _ (h .next-chunk .ensures .0) (rw wide (v .before .if1 .left)) _ _ (v .material-value .ensures) (c .if2 .taken) _
 
 mul-value : tie.Need-mul-value Inv-loop μ-loop
 mul-value c = search needs
 
 slice-set-from-value : tie.Need-slice-set-from-value Inv-loop μ-loop
 slice-set-from-value c =
-    let v = c .before .before .before .before in
+    let v = c .before in
     let l = v .before .before .before .before .before .before .before .before .before in
     let wide = l .loop .inv .2 ∙ ap length (l .before .before .before .pre .0) in
     omega (arith, wide, v .before .if1 .left)
@@ -81,26 +63,23 @@ unfolding bytes
 opened v =
     let h = v .before .before .before .before .before in
     let l = h .before .before .before .before in
-    let wide = l .loop .inv .1 ∙ ap length (l .before .before .before .pre .1) in
-    turn-left material-listed (l .loop .inv .0) _ _ (h .next-chunk .ensures .0) (rw wide (v .before .if1 .left)) (h .next-chunk .ensures .1 .1)
+    field-left _ _ _ _ _ _ (l .loop .inv .0) _ _ (h .next-chunk .ensures .0) (v .before .if1 .left) (h .next-chunk .ensures .1 .1)
 
 sub-left : tie.Need-sub-left Inv-loop μ-loop
-sub-left c = omega (arith, opened (c .before .before .before .before))
+sub-left c = omega (arith, opened (c .before .before))
 
 loop-less : tie.Need-loop-less Inv-loop μ-loop
-loop-less c = omega (arith, opened (c .before .before .before .before))
+loop-less c = omega (arith, opened (c .before .before))
 
 loop-again : tie.Need-loop-again Inv-loop μ-loop
 unfolding bytes
 loop-again c =
-    let v = c .before .before .before .before in
+    let v = c .before .before in
     let h = v .before .before .before .before .before in
     let l = h .before .before .before .before in
-    let m = l .loop .inv .0 in
-    let wide = l .loop .inv .1 ∙ ap length (l .before .before .before .pre .1) in
     let z = v .material-value .result .value in
-    rw (toZ-ofZ {w = w64} {z = z} (record { sfits = c .struct-told .given .1 .0 .1 })) (
-      turn-on material-listed m _ _ (h .next-chunk .ensures .0) (rw wide (v .before .if1 .left)) _ _ (v .material-value .ensures) _ (h .next-chunk .ensures .1 .0) (c .before .if2 .left) _ (value-set (m .fs) _ _ z (m .holds)),
+    rw (toZ-ofZ {w = w64} {z = z} (record { sfits = c .before .struct-told .given .1 .0 .1 })) (
+      field-on _ _ _ _ _ _ (l .loop .inv .0) _ _ (h .next-chunk .ensures .0) (v .before .if1 .left) (h .next-chunk .ensures .1 .1) _ _ (v .material-value .ensures) _ (h .next-chunk .ensures .1 .0),
       h .next-chunk .kept .1 .1 .1 .1 .0 ∙ l .loop .inv .1,
       length-set (l .loop .row) (h .next-chunk .result .kind) z ∙ l .loop .inv .2,
     )
@@ -119,9 +98,6 @@ material-fields-spec =
     same-length-2
     returns
     material-value-requires
-    same-length-3
-    same-length-4
-    returns-2
     mul-value
     slice-set-from-value
     sub-left

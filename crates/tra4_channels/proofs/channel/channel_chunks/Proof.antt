@@ -1,22 +1,22 @@
 -- `channel_chunks` reads chunks turn by turn: the invariant names the channels that the tables stand for, and from which the rest is read.
-use mathlib.Core.Path.{_≡_, refl, ap, sym, _∙_}
+use mathlib.Core.Path.{_≡_, refl, _∙_}
 use native.Mathlib.Omega.{arith}
 use borrow.Author.Needs.{needs}
 use lib.ListN.{length}
 use Rattle.text_bytes.specs.Bytes.{bytes}
-use Rattle.tra4_channels.proofs.Turns.{Between, between-start, channels-end, channel-left, channel-on, channel-off}
+use Rattle.tra4_channels.proofs.Turns.{Between, between-start, channels-end, channel-left, channel-sizes, channel-on}
 use Rattle.tra4_channels.proofs.channel.channel_chunks.Statement.{statement}
 use Rattle.tra4_channels.proofs.channel.channel_chunks.Tie as tie
 
 abbrev Inv-loop : tie.InvT-loop
-Inv-loop text at seen₀ ranges₀ keys₀ from₀ left₀ count₀ over₀ t15 t16 seen ranges keys from left count over =
-    Between text at left from seen ranges keys count over
+Inv-loop text at seen₀ ranges₀ keys₀ d₀ left₀ count₀ over₀ t14 t15 seen ranges keys d left count over =
+    Between text at left d seen ranges keys count over
     × (length seen ≡ length seen₀)
     × (length ranges ≡ length ranges₀)
     × (length keys ≡ length keys₀)
 
 abbrev μ-loop : tie.MeasureT-loop
-μ-loop text at seen₀ ranges₀ keys₀ from₀ left₀ count₀ over₀ t15 t16 seen ranges keys from left count over =
+μ-loop text at seen₀ ranges₀ keys₀ d₀ left₀ count₀ over₀ t14 t15 seen ranges keys d left count over =
     left
 
 loop-holds : tie.Need-loop-holds Inv-loop μ-loop
@@ -48,25 +48,12 @@ returns c =
     channels-end _ _ _ _ _ _ _ _ _ (l .loop .inv .0) _ _ (h .next-chunk .ensures .0) (c .if1 .taken)
 
 channel-keys-requires : tie.Need-channel-keys-requires Inv-loop μ-loop
-channel-keys-requires c κs = search needs
-
-same-length-4 : tie.Need-same-length-4 Inv-loop μ-loop
-same-length-4 c = search needs
-
-same-length-5 : tie.Need-same-length-5 Inv-loop μ-loop
-same-length-5 c = search needs
-
-same-length-6 : tie.Need-same-length-6 Inv-loop μ-loop
-same-length-6 c = search needs
-
-returns-2 : tie.Need-returns-2 Inv-loop μ-loop
 unfolding bytes
-returns-2 c =
-    let y = c .before .before .before .before .before in
-    let e = y .before .before .before in
+channel-keys-requires c κs =
+    let e = c .before .before in
     let h = e .before .before .before .before in
     let l = h .before .before .before .before in
-    channel-off _ _ _ _ _ _ _ _ _ (l .loop .inv .0) _ _ (h .next-chunk .ensures .0) (e .if1 .left) (h .next-chunk .ensures .1 .1) _ _ (y .channel-keys .ensures) (c .if2 .taken) _
+    channel-sizes _ _ _ _ _ _ _ _ _ (l .loop .inv .0) _ _ (h .next-chunk .ensures .0) (e .if1 .left) (h .next-chunk .ensures .1 .1)
 
 -- a chunk could open
 opened : (e : tie.Else1 Inv-loop μ-loop) → e .before .before .before .before .before .before .before .before .loop .left ≡ 0 → ⊥
@@ -77,20 +64,20 @@ opened e =
     channel-left _ _ _ _ _ _ _ _ _ (l .loop .inv .0) _ _ (h .next-chunk .ensures .0) (e .if1 .left) (h .next-chunk .ensures .1 .1)
 
 sub-left : tie.Need-sub-left Inv-loop μ-loop
-sub-left c = omega (arith, opened (c .before .before .before .before .before .before .before .before))
+sub-left c = omega (arith, opened (c .before .before .before .before .before .before))
 
 loop-less : tie.Need-loop-less Inv-loop μ-loop
-loop-less c = omega (arith, opened (c .before .before .before .before .before .before .before .before))
+loop-less c = omega (arith, opened (c .before .before .before .before .before .before))
 
 loop-again : tie.Need-loop-again Inv-loop μ-loop
 unfolding bytes
 loop-again c =
-    let y = c .before .before .before .before .before in
+    let y = c .before .before .before in
     let e = y .before .before .before in
     let h = e .before .before .before .before in
     let l = h .before .before .before .before in
     let s = y .channel-keys .kept in (
-      channel-on _ _ _ _ _ _ _ _ _ (l .loop .inv .0) _ _ (h .next-chunk .ensures .0) (e .if1 .left) (h .next-chunk .ensures .1 .1) _ _ (y .channel-keys .ensures) (c .if2 .left) _ (h .next-chunk .ensures .1 .0),
+      channel-on _ _ _ _ _ _ _ _ _ (l .loop .inv .0) _ _ (h .next-chunk .ensures .0) (e .if1 .left) (h .next-chunk .ensures .1 .1) _ _ (y .channel-keys .ensures) _ (h .next-chunk .ensures .1 .0),
       h .next-chunk .kept .1 .1 .1 .1 .0 ∙ l .loop .inv .1,
       s .1 .1 .1 .0 ∙ l .loop .inv .2,
       s .1 .1 .1 .1 .0 ∙ l .loop .inv .3,
@@ -111,10 +98,6 @@ channel-chunks-spec =
     same-length-3
     returns
     channel-keys-requires
-    same-length-4
-    same-length-5
-    same-length-6
-    returns-2
     sub-left
     loop-less
     loop-again)
