@@ -1,7 +1,7 @@
 -- The head of a chunk in a free order: what each token makes of it, and what a row that it gives says.
 use mathlib.Core.Path.{_≡_, refl, ap, sym, _∙_}
 use mathlib.Core.List.{List}
-use mathlib.Core.Bool.{Bool, true, false, not, _&&_}
+use mathlib.Core.Bool.{Bool, true, false, _&&_}
 use Prim.Native.Nat.{ℕ, zero, suc, _≤_, _<_}
 use native.Mathlib.Omega.{arith}
 use borrow.Author.Tests.{lt-ltb, le-ltb, not-true}
@@ -117,26 +117,26 @@ module _ (text : List ℕ) (c : Cursor) (t : Span) (n : Next text (c .at) t) (o 
   opens : (v : Bool) → isOpening (lexemeOf text t .token) ≡ v → isOpening (tokenOf (lexAt text (c .at))) ≡ v
   opens v e = ap isOpening (next-token text (c .at) t n) ∙ e
 
-  pub turn-close : (left : ℕ) → isClosing (lexemeOf text t .token) ≡ true → coversAll needed seen ≡ true → reads text (record { refusal = 0; at = t .end }) (length seen) ≡ from text c (headIn ws needed seen left)
+  pub next-close : (left : ℕ) → isClosing (lexemeOf text t .token) ≡ true → coversAll needed seen ≡ true → reads text (record { refusal = 0; at = t .end }) (length seen) ≡ from text c (headIn ws needed seen left)
   unfolding lexemeOf lexeme
-  turn-close left e f =
+  next-close left e f =
       reads-on text _ _ refl
       ∙ sym (from-on text c (headIn ws needed seen left) o ∙ head-close ws needed seen _ left (closes true e) f
       ∙ ap (got (length seen)) (next-rest text (c .at) t n (live isClosing (unfold isClosing in refl) (t .kind) _ e)))
 
-  pub turn-early : (k left : ℕ) → isClosing (lexemeOf text t .token) ≡ true → coversAll needed seen ≡ false → reads text (record { refusal = 5; at = t .start }) k ≡ from text c (headIn ws needed seen left)
-  turn-early k left e f = refused-from k _ (head-early ws needed seen _ left (closes true e) f)
+  pub next-early : (k left : ℕ) → isClosing (lexemeOf text t .token) ≡ true → coversAll needed seen ≡ false → reads text (record { refusal = 5; at = t .start }) k ≡ from text c (headIn ws needed seen left)
+  next-early k left e f = refused-from k _ (head-early ws needed seen _ left (closes true e) f)
 
-  pub turn-full : (k left : ℕ) → left ≡ 0 → isClosing (lexemeOf text t .token) ≡ false → reads text (record { refusal = 5; at = t .start }) k ≡ from text c (headIn ws needed seen left)
-  turn-full k left z e = rw z (refused-from k _ (head-full ws needed seen _ (closes false e)))
+  pub next-full : (k left : ℕ) → left ≡ 0 → isClosing (lexemeOf text t .token) ≡ false → reads text (record { refusal = 5; at = t .start }) k ≡ from text c (headIn ws needed seen left)
+  next-full k left z e = rw z (refused-from k _ (head-full ws needed seen _ (closes false e)))
 
-  pub turn-other : (k left : ℕ) → isClosing (lexemeOf text t .token) ≡ false → isOpening (lexemeOf text t .token) ≡ false → reads text (record { refusal = 5; at = t .start }) k ≡ from text c (headIn ws needed seen left)
-  turn-other k left e f = refused-from k _ (head-other ws needed seen _ left (closes false e) (opens false f))
+  pub next-other : (k left : ℕ) → isClosing (lexemeOf text t .token) ≡ false → isOpening (lexemeOf text t .token) ≡ false → reads text (record { refusal = 5; at = t .start }) k ≡ from text c (headIn ws needed seen left)
+  next-other k left e f = refused-from k _ (head-other ws needed seen _ left (closes false e) (opens false f))
 
-  pub turn-open : (left : ℕ) → (left ≡ 0 → ⊥) → isClosing (lexemeOf text t .token) ≡ false → isOpening (lexemeOf text t .token) ≡ true → (r : Cursor) (k : ℕ) → reads text r k ≡ keyIn ws seen (lexAt text (t .end)) → reads text r k ≡ from text c (headIn ws needed seen left)
+  pub next-open : (left : ℕ) → (left ≡ 0 → ⊥) → isClosing (lexemeOf text t .token) ≡ false → isOpening (lexemeOf text t .token) ≡ true → (r : Cursor) (k : ℕ) → reads text r k ≡ keyIn ws seen (lexAt text (t .end)) → reads text r k ≡ from text c (headIn ws needed seen left)
   unfolding lexemeOf lexeme
-  turn-open zero z e f r k p = absurd (z refl)
-  turn-open (suc left) z e f r k p =
+  next-open zero z e f r k p = absurd (z refl)
+  next-open (suc left) z e f r k p =
       p
       ∙ sym (from-on text c (headIn ws needed seen (suc left)) o ∙ head-open ws needed seen _ left (closes false e) (opens true f)
       ∙ ap (keyIn ws seen) (next-rest text (c .at) t n (live isOpening (unfold isOpening in refl) (t .kind) _ f)))

@@ -17,8 +17,7 @@ use Rattle.parse_cursor.specs.Internal.Fields.{hits, single, insideAt, neededOf
 use Rattle.parse_cursor.proofs.Choices.{after-stop, kind-miss, kind-again, kind-hit, fields-close, fields-early, fields-full, fields-other, fields-chunk}
 use Rattle.parse_cursor.proofs.Binds.{after-after}
 use Rattle.parse_cursor.proofs.Counts.{alive}
-use Rattle.parse_cursor.proofs.FieldFlags.{flags-length, flag-unread, flag-read, flags-set}
-use Rattle.parse_cursor.proofs.FieldSteps.{complete-seen}
+use Rattle.parse_cursor.proofs.FieldFlags.{flags-length, flag-unread, flag-read, flags-set, complete-seen}
 use Rattle.parse_cursor.proofs.Steps.{from-on, from-same, from-bind, reads-on, after-reads}
 use Rattle.parse_words.specs.Internal.Words.{words, indexIn, keysOf, apart}
 use Rattle.parse_words.specs.Internal.Heads.{keyIn, headIn, Reached}

@@ -4,9 +4,9 @@ ghost use mathlib.Core.Bool.{true};
 ghost use lib.ListN.{length, set};
 ghost use Rattle.text_tokens.specs.Tokens.{lexAt};
 ghost use Rattle.parse_cursor.specs.Internal.Cursors.{reads, from};
+ghost use Rattle.parse_cursor.specs.Internal.Fields.{coversAll};
 ghost use Rattle.parse_words.specs.Internal.Heads.{keyIn, headIn};
 ghost use Rattle.parse_words.specs.Internal.Words.{words};
-use crate::fields::covers;
 use crate::words::word_index;
 use parse_cursor::Cursor;
 
@@ -14,6 +14,25 @@ use parse_cursor::Cursor;
 pub struct Chunk {
     pub cursor: Cursor,
     pub kind: usize,
+}
+
+// Whether every flag that is needed is set.
+fn covers(needed: &[bool], seen: &[bool]) -> bool
+    ensures { λ r. ⌜ r ≡ coversAll (now (needed .entry)) (now (seen .entry)) ⌝ }
+{
+    let mut i = 0;
+    while i < needed.len() {
+        if seen.len() <= i {
+            return true;
+        }
+        if needed[i] {
+            if !seen[i] {
+                return false;
+            }
+        }
+        i += 1;
+    }
+    true
 }
 
 // The keyword of a chunk, whose flag is set; refused at another token and at a keyword whose flag has been set.

@@ -7,7 +7,7 @@ use lib.Seq.{set-out}
 use Rattle.text_tokens.specs.Tokens.{lexeme}
 use Rattle.text_tokens.specs.Internal.Answers.{lexemeOf}
 use Rattle.parse_cursor.proofs.Steps.{passed}
-use Rattle.parse_words.proofs.Heads.{turn-close, turn-early, turn-full, turn-other, turn-open}
+use Rattle.parse_words.proofs.Heads.{next-close, next-early, next-full, next-other, next-open}
 use Rattle.parse_words.proofs.chunk.next_chunk.Statement.{statement}
 use Rattle.parse_words.proofs.chunk.next_chunk.Tie as tie
 
@@ -32,7 +32,7 @@ returns-2 c =
     let v = c .before in
     let k = v .before .before .before in
     let n = k .before in
-    (turn-early _ _ _ (n .next .ensures) (n .before .if1 .left) _ _ _ _ _ (sym (k .is-closing .ensures _) ∙ v .before .before .if2 .taken) (sym (v .covers .ensures) ∙ not-true _ (c .if3 .taken)), (sym (set-out _ _ _ (omega arith)), λ _. refl))
+    (next-early _ _ _ (n .next .ensures) (n .before .if1 .left) _ _ _ _ _ (sym (k .is-closing .ensures _) ∙ v .before .before .if2 .taken) (sym (v .covers .ensures) ∙ not-true _ (c .if3 .taken)), (sym (set-out _ _ _ (omega arith)), λ _. refl))
 
 same-length-2 : tie.Need-same-length-2
 same-length-2 c = search needs
@@ -43,14 +43,14 @@ returns-3 c =
     let v = c .before in
     let k = v .before .before .before in
     let n = k .before in
-    (turn-close _ _ _ (n .next .ensures) (n .before .if1 .left) _ _ _ _ (sym (k .is-closing .ensures _) ∙ v .before .before .if2 .taken) (sym (v .covers .ensures) ∙ not-false _ (c .if3 .left)), (sym (set-out _ _ _ (omega arith)), λ _. refl))
+    (next-close _ _ _ (n .next .ensures) (n .before .if1 .left) _ _ _ _ (sym (k .is-closing .ensures _) ∙ v .before .before .if2 .taken) (sym (v .covers .ensures) ∙ not-false _ (c .if3 .left)), (sym (set-out _ _ _ (omega arith)), λ _. refl))
 
 returns-4 : tie.Need-returns-4
 unfolding lexemeOf lexeme
 returns-4 c =
     let k = c .before .before in
     let n = k .before in
-    (turn-full _ _ _ (n .next .ensures) (n .before .if1 .left) _ _ _ _ _ (c .if4 .taken) (sym (k .is-closing .ensures _) ∙ c .before .if2 .left), (sym (set-out _ _ _ (omega arith)), λ _. refl))
+    (next-full _ _ _ (n .next .ensures) (n .before .if1 .left) _ _ _ _ _ (c .if4 .taken) (sym (k .is-closing .ensures _) ∙ c .before .if2 .left), (sym (set-out _ _ _ (omega arith)), λ _. refl))
 
 is-opening-requires : tie.Need-is-opening-requires
 is-opening-requires c κs = search needs
@@ -61,7 +61,7 @@ returns-5 c =
     let p = c .before in
     let k = p .before .before .before in
     let n = k .before in
-    (turn-other _ _ _ (n .next .ensures) (n .before .if1 .left) _ _ _ _ _ (sym (k .is-closing .ensures _) ∙ p .before .before .if2 .left) (sym (p .is-opening .ensures _) ∙ not-true _ (c .if5 .taken)), (sym (set-out _ _ _ (omega arith)), λ _. refl))
+    (next-other _ _ _ (n .next .ensures) (n .before .if1 .left) _ _ _ _ _ (sym (k .is-closing .ensures _) ∙ p .before .before .if2 .left) (sym (p .is-opening .ensures _) ∙ not-true _ (c .if5 .taken)), (sym (set-out _ _ _ (omega arith)), λ _. refl))
 
 next-keyword-requires : tie.Need-next-keyword-requires
 next-keyword-requires c κs = search needs
@@ -76,7 +76,7 @@ returns-6 c =
     let p = w .before .before .before in
     let k = p .before .before .before in
     let n = k .before in
-    (turn-open _ _ _ (n .next .ensures) (n .before .if1 .left) _ _ _ _ (p .before .if4 .left) (sym (k .is-closing .ensures _) ∙ p .before .before .if2 .left) (sym (p .is-opening .ensures _) ∙ not-false _ (w .before .before .if5 .left)) _ _ (w .next-keyword .ensures .0), w .next-keyword .ensures .1)
+    (next-open _ _ _ (n .next .ensures) (n .before .if1 .left) _ _ _ _ (p .before .if4 .left) (sym (k .is-closing .ensures _) ∙ p .before .before .if2 .left) (sym (p .is-opening .ensures _) ∙ not-false _ (w .before .before .if5 .left)) _ _ (w .next-keyword .ensures .0), w .next-keyword .ensures .1)
 
 pub next-chunk-spec : {M : Type 1} → statement M
 next-chunk-spec =
