@@ -56,21 +56,7 @@ fn bone_vector(text: &[u8], at: usize, k: usize, row: &mut [i64; 14]) -> Cursor
     parse_cursor::closing(text, d)
 }
 
-// What stands in the chunk of kind k, to the row.
-fn bone_numbers(text: &[u8], at: usize, k: usize, row: &mut [i64; 14]) -> Cursor
-    requires { ⌜ k < 6 ⌝ }
-    ensures { λ r. ⌜ Yields (now (text .entry)) r (insideAt boneKinds k (lexAt (now (text .entry)) at)) (putRow k (now (row .entry))) (now (row .exit)) ⌝ }
-{
-    if k == 0 {
-        return bone_name(text, at, row);
-    }
-    if k < 3 {
-        return bone_flag(text, at, k, row);
-    }
-    bone_vector(text, at, k, row)
-}
-
-// The same to the row or, for the entries, to the claims.
+// What stands in the chunk of kind k: to the row or, for the entries, to the claims.
 fn bone_value(
     text: &[u8],
     at: usize,
@@ -84,9 +70,21 @@ fn bone_value(
     requires { ⌜ k < 7 ⌝ }
     ensures { λ r. ⌜ Yields (now (text .entry)) (r .cursor) (insideAt boneKinds k (lexAt (now (text .entry)) at)) (putField points bone k (now (row .entry), (fine, now (owners .entry)))) (now (row .exit), (r .fine, now (owners .exit))) ⌝ }
 {
+    if k == 0 {
+        return Claims {
+            cursor: bone_name(text, at, row),
+            fine,
+        };
+    }
+    if k < 3 {
+        return Claims {
+            cursor: bone_flag(text, at, k, row),
+            fine,
+        };
+    }
     if k < 6 {
         return Claims {
-            cursor: bone_numbers(text, at, k, row),
+            cursor: bone_vector(text, at, k, row),
             fine,
         };
     }
