@@ -1,7 +1,6 @@
 // A bone: seven chunks in any order, each at most once.
 ghost use mathlib.Core.Path.{_≡_};
 ghost use Prim.Native.Nat.{_<_, _≤_};
-ghost use mathlib.Core.Bool.{false};
 ghost use lib.IntN.{pos};
 ghost use lib.ListN.{replicate};
 ghost use Rattle.text_tokens.specs.Tokens.{lexAt};
@@ -98,13 +97,13 @@ fn bone_fields(
     points: usize,
     bone: i64,
     row: &mut [i64; 14],
-    seen: &mut [bool],
     owners: &mut [i64],
     fine: bool,
 ) -> Claims
-    requires { ⌜ (now row ≡ replicate 14 (pos 0)) × (now seen ≡ replicate 7 false) ⌝ }
+    requires { ⌜ now row ≡ replicate 14 (pos 0) ⌝ }
     ensures { λ r. ⌜ Yields (now (text .entry)) (r .cursor) (from (now (text .entry)) c (fields boneKinds)) (boneState points bone (fine, now (owners .entry))) (now (row .exit), (r .fine, now (owners .exit))) ⌝ }
 {
+    let mut seen = [false; 7];
     let mut d = c;
     let mut left: usize = 7;
     let mut free = fine;
@@ -114,7 +113,7 @@ fn bone_fields(
             d,
             b"name hasChild hasBrother translate rotate handle vertexIndices",
             &[false, true, true, true, true, true, false],
-            seen,
+            &mut seen,
             left,
         );
         let inside = h.cursor;
@@ -147,8 +146,7 @@ pub fn bone_tail(
 {
     let d = parse_cursor::keyword(text, c, b"bone");
     let mut row = [0i64; 14];
-    let mut seen = [false; 7];
-    let r = bone_fields(text, d, points, bone, &mut row, &mut seen, owners, fine);
+    let r = bone_fields(text, d, points, bone, &mut row, owners, fine);
     let e = r.cursor;
     if e.refusal != 0 {
         return r;

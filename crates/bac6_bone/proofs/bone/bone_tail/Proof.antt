@@ -12,9 +12,6 @@ slice-aggregate-keyword c = search needs
 keyword-requires : tie.Need-keyword-requires
 keyword-requires c κs = search needs
 
-slice-aggregate-bone-fields : tie.Need-slice-aggregate-bone-fields
-slice-aggregate-bone-fields c = search needs
-
 bone-fields-requires : tie.Need-bone-fields-requires
 bone-fields-requires c κs = search needs
 
@@ -24,12 +21,12 @@ same-length c = search needs
 returns : tie.Need-returns
 unfolding bytes
 returns c =
-    let f = c .before .before .before .before .before in
-    let k = f .before .before .before .before in
+    let f = c .before .before .before .before in
+    let k = f .before .before .before in
     bone-off _ _ _ _ _ _ _ _ _ _ (k .keyword .ensures) _ (f .bone-fields .ensures .read) (c .if1 .taken)
 
 slice-aggregate-store : tie.Need-slice-aggregate-store
-slice-aggregate-store c = sym (state-wide _ _ _ _ _ _ (c .before .before .before .before .before .before .before .bone-fields .ensures .kept (c .before .before .if1 .left)))
+slice-aggregate-store c = sym (state-wide _ _ _ _ _ _ (c .before .before .before .before .before .before .bone-fields .ensures .kept (c .before .before .if1 .left)))
 
 store-requires : tie.Need-store-requires
 store-requires c κs = search needs
@@ -43,8 +40,8 @@ same-length-3 c = search needs
 returns-2 : tie.Need-returns-2
 unfolding bytes
 returns-2 c =
-    let f = c .before .before .before .before .before .before .before .before .before in
-    let k = f .before .before .before .before in
+    let f = c .before .before .before .before .before .before .before .before in
+    let k = f .before .before .before in
     rw (c .before .store .ensures)
     (bone-on _ _ _ _ _ _ _ _ _ _ _ (k .keyword .ensures) (k .before .before .before .fits .bone) (f .bone-fields .ensures))
 
@@ -54,7 +51,6 @@ bone-tail-spec =
     (tie.spec
     slice-aggregate-keyword
     keyword-requires
-    slice-aggregate-bone-fields
     bone-fields-requires
     same-length
     returns
