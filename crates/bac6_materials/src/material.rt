@@ -1,6 +1,5 @@
 // A material: nine chunks in any order, each at most once.
 ghost use mathlib.Core.Path.{_≡_};
-ghost use mathlib.Core.Bool.{false};
 ghost use mathlib.Core.List.{map};
 ghost use Prim.Native.Nat.{_<_};
 ghost use lib.IntN.{pos};
@@ -50,10 +49,11 @@ fn close(text: &[u8], n: Numeric) -> Numeric
 }
 
 // The chunks of a material up to its closing bracket, from an empty row: all but `alpha` and `shininess` must have stood.
-fn material_fields(text: &[u8], c: Cursor, row: &mut [i64], seen: &mut [bool]) -> Cursor
-    requires { ⌜ (now row ≡ replicate 9 (pos 0)) × (now seen ≡ replicate 9 false) ⌝ }
+fn material_fields(text: &[u8], c: Cursor, row: &mut [i64]) -> Cursor
+    requires { ⌜ now row ≡ replicate 9 (pos 0) ⌝ }
     ensures { λ r. ⌜ Reached (now (text .entry)) r (from (now (text .entry)) c (fields materialKinds)) (λ gs. map orZero gs ≡ now (row .exit)) ⌝ }
 {
+    let mut seen = [false; 9];
     let mut d = c;
     let mut left: usize = 9;
     loop {
@@ -62,7 +62,7 @@ fn material_fields(text: &[u8], c: Cursor, row: &mut [i64], seen: &mut [bool]) -
             d,
             b"blendMode doubleFace transparent lighting textureIndex colorIndex specular alpha shininess",
             &[true, true, true, true, true, true, true, false, false],
-            seen,
+            &mut seen,
             left,
         );
         let inside = h.cursor;
@@ -84,8 +84,7 @@ fn material_tail(text: &[u8], c: Cursor, out: &mut [i64], to: usize) -> Cursor
 {
     let d = parse_cursor::keyword(text, c, b"material");
     let mut row = [0i64; 9];
-    let mut seen = [false; 9];
-    let r = material_fields(text, d, &mut row, &mut seen);
+    let r = material_fields(text, d, &mut row);
     table_rows::store(out, to, &row);
     r
 }

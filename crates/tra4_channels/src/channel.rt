@@ -1,9 +1,8 @@
 // A bone's ten channels, in any order, each once: their keys to a table in text order, and where each channel's stand.
 ghost use mathlib.Core.Path.{_≡_};
-ghost use mathlib.Core.Bool.{false};
 ghost use mathlib.Core.List.{map};
 ghost use Prim.Native.Nat.{_<_, _≤_};
-ghost use lib.ListN.{length, replicate};
+ghost use lib.ListN.{length};
 ghost use Rattle.text_tokens.specs.Tokens.{lexAt};
 ghost use Rattle.parse_cursor.specs.Fields.{isSome, fields};
 ghost use Rattle.tra4_text.specs.Grammar.{channelKinds};
@@ -62,17 +61,12 @@ fn channel_keys(
     }
 }
 
-// The chunks of the channels up to the closing bracket of their bone, from flags that are all clear: all ten must have stood.
-fn channel_chunks(
-    text: &[u8],
-    at: usize,
-    seen: &mut [bool],
-    ranges: &mut [i64],
-    keys: &mut [i64],
-) -> Keyed
-    requires { ⌜ (now seen ≡ replicate 10 false) × (length (now ranges) ≡ 20) × (length (now keys) ≡ 8192) ⌝ }
+// The chunks of the channels up to the closing bracket of their bone, all ten of which must have stood.
+fn channel_chunks(text: &[u8], at: usize, ranges: &mut [i64], keys: &mut [i64]) -> Keyed
+    requires { ⌜ (length (now ranges) ≡ 20) × (length (now keys) ≡ 8192) ⌝ }
     ensures { λ r. ⌜ Reached (now (text .entry)) (r .cursor) (fields channelKinds (lexAt (now (text .entry)) at)) (λ gs. Held gs (map isSome gs) (now (ranges .exit)) (now (keys .exit)) (r .count) (r .over)) ⌝ }
 {
+    let mut seen = [false; 10];
     let mut d = Cursor { refusal: 0, at };
     let mut left: usize = 10;
     let mut count: usize = 0;
@@ -83,7 +77,7 @@ fn channel_chunks(
             d,
             b"translate.x translate.y translate.z scale.x scale.y scale.z rotate.x rotate.y rotate.z roll",
             &[true, true, true, true, true, true, true, true, true, true],
-            seen,
+            &mut seen,
             left,
         );
         let inside = h.cursor;
@@ -108,6 +102,5 @@ fn channel_chunks(
 pub fn channels(text: &[u8], at: usize, ranges: &mut [i64; 20], keys: &mut [i64; 8192]) -> Keyed
     ensures { λ r. ⌜ Reached (now (text .entry)) (r .cursor) (fields channelKinds (lexAt (now (text .entry)) at)) (λ gs. Held gs (map isSome gs) (now (ranges .exit)) (now (keys .exit)) (r .count) (r .over)) ⌝ }
 {
-    let mut seen = [false; 10];
-    channel_chunks(text, at, &mut seen, ranges, keys)
+    channel_chunks(text, at, ranges, keys)
 }

@@ -13,14 +13,14 @@ use Rattle.bac6_materials.proofs.material.material_fields.Tie as tie
 abbrev Inv-loop : tie.InvT-loop
 Inv-loop text row₀ seen₀ d₀ left₀ t12 t13 row seen d left =
     Between text d₀ left d seen row
-    × (length seen ≡ length seen₀)
+    × (length seen ≡ 9)
     × (length row ≡ length row₀)
 
 abbrev μ-loop : tie.MeasureT-loop
 μ-loop text row₀ seen₀ d₀ left₀ t12 t13 row seen d left = left
 
 loop-holds : tie.Need-loop-holds Inv-loop μ-loop
-loop-holds c = let p = c .before .before .pre in (between-start _ _ _ _ (p .0) (p .1), refl, refl)
+loop-holds c = (between-start _ _ _ _ (c .before .pre) refl, refl, refl)
 
 slice-aggregate-next-chunk : tie.Need-slice-aggregate-next-chunk Inv-loop μ-loop
 slice-aggregate-next-chunk c = search needs
@@ -28,19 +28,19 @@ slice-aggregate-next-chunk c = search needs
 slice-aggregate-next-chunk-2 : tie.Need-slice-aggregate-next-chunk-2 Inv-loop μ-loop
 slice-aggregate-next-chunk-2 c = search needs
 
+slice-aggregate-next-chunk-3 : tie.Need-slice-aggregate-next-chunk-3 Inv-loop μ-loop
+slice-aggregate-next-chunk-3 c = search needs
+
 next-chunk-requires : tie.Need-next-chunk-requires Inv-loop μ-loop
 next-chunk-requires c κs = search needs
 
 same-length : tie.Need-same-length Inv-loop μ-loop
 same-length c = search needs
 
-same-length-2 : tie.Need-same-length-2 Inv-loop μ-loop
-same-length-2 c = search needs
-
 returns : tie.Need-returns Inv-loop μ-loop
 unfolding bytes
 returns c =
-    let h = c .before .before .before .before in
+    let h = c .before .before .before in
     let l = h .before .before .before .before in
     fields-end _ _ _ _ _ _ (l .loop .inv .0) _ _ (h .next-chunk .ensures .0) (c .if1 .taken)
 
@@ -53,15 +53,15 @@ mul-value c = search needs
 slice-set-from-value : tie.Need-slice-set-from-value Inv-loop μ-loop
 slice-set-from-value c =
     let v = c .before in
-    let l = v .before .before .before .before .before .before .before .before .before in
-    let wide = l .loop .inv .2 ∙ ap length (l .before .before .before .pre .0) in
+    let l = v .before .before .before .before .before .before .before .before in
+    let wide = l .loop .inv .2 ∙ ap length (l .before .before .pre) in
     omega (arith, wide, v .before .if1 .left)
 
 -- a chunk could open
-opened : (v : tie.After-material-value Inv-loop μ-loop) → v .before .before .before .before .before .before .before .before .before .loop .left ≡ 0 → ⊥
+opened : (v : tie.After-material-value Inv-loop μ-loop) → v .before .before .before .before .before .before .before .before .loop .left ≡ 0 → ⊥
 unfolding bytes
 opened v =
-    let h = v .before .before .before .before .before in
+    let h = v .before .before .before .before in
     let l = h .before .before .before .before in
     field-left _ _ _ _ _ _ (l .loop .inv .0) _ _ (h .next-chunk .ensures .0) (v .before .if1 .left) (h .next-chunk .ensures .1 .1)
 
@@ -75,7 +75,7 @@ loop-again : tie.Need-loop-again Inv-loop μ-loop
 unfolding bytes
 loop-again c =
     let v = c .before .before in
-    let h = v .before .before .before .before .before in
+    let h = v .before .before .before .before in
     let l = h .before .before .before .before in
     let z = v .material-value .result .value in
     rw (toZ-ofZ {w = w64} {z = z} (record { sfits = c .before .struct-told .given .1 .0 .1 })) (
@@ -93,9 +93,9 @@ material-fields-spec =
     loop-holds
     slice-aggregate-next-chunk
     slice-aggregate-next-chunk-2
+    slice-aggregate-next-chunk-3
     next-chunk-requires
     same-length
-    same-length-2
     returns
     material-value-requires
     mul-value

@@ -15,11 +15,8 @@ keyword-requires c κs = search needs
 slice-aggregate-material-fields : tie.Need-slice-aggregate-material-fields
 slice-aggregate-material-fields c = search needs
 
-slice-aggregate-material-fields-2 : tie.Need-slice-aggregate-material-fields-2
-slice-aggregate-material-fields-2 c = search needs
-
 material-fields-requires : tie.Need-material-fields-requires
-material-fields-requires c κs = (refl, refl)
+material-fields-requires c κs = refl
 
 slice-aggregate-store : tie.Need-slice-aggregate-store
 slice-aggregate-store c = search needs
@@ -33,8 +30,8 @@ same-length c = search needs
 returns : tie.Need-returns
 unfolding bytes
 returns c =
-    let f = c .before .before .before .before .before .before in
-    rw (c .before .store .ensures) (material-on _ _ _ _ _ _ _ (f .before .before .before .keyword .ensures) (f .material-fields .ensures))
+    let f = c .before .before .before .before .before in
+    rw (c .before .store .ensures) (material-on _ _ _ _ _ _ _ (f .before .before .keyword .ensures) (f .material-fields .ensures))
 
 pub material-tail-spec : {M : Type 1} → statement M
 material-tail-spec =
@@ -43,7 +40,6 @@ material-tail-spec =
     slice-aggregate-keyword
     keyword-requires
     slice-aggregate-material-fields
-    slice-aggregate-material-fields-2
     material-fields-requires
     slice-aggregate-store
     store-requires

@@ -9,24 +9,27 @@ use Rattle.tra4_channels.proofs.channel.channel_chunks.Statement.{state
 use Rattle.tra4_channels.proofs.channel.channel_chunks.Tie as tie
 
 abbrev Inv-loop : tie.InvT-loop
-Inv-loop text at seen₀ ranges₀ keys₀ d₀ left₀ count₀ over₀ t14 t15 seen ranges keys d left count over =
+Inv-loop text at ranges₀ keys₀ seen₀ d₀ left₀ count₀ over₀ t14 t15 ranges keys seen d left count over =
     Between text at left d seen ranges keys count over
-    × (length seen ≡ length seen₀)
+    × (length seen ≡ 10)
     × (length ranges ≡ length ranges₀)
     × (length keys ≡ length keys₀)
 
 abbrev μ-loop : tie.MeasureT-loop
-μ-loop text at seen₀ ranges₀ keys₀ d₀ left₀ count₀ over₀ t14 t15 seen ranges keys d left count over =
+μ-loop text at ranges₀ keys₀ seen₀ d₀ left₀ count₀ over₀ t14 t15 ranges keys seen d left count over =
     left
 
 loop-holds : tie.Need-loop-holds Inv-loop μ-loop
-loop-holds c = let p = c .before .before .pre in (between-start _ _ _ _ _ (p .0) (p .1) (p .2), refl, refl, refl)
+loop-holds c = let p = c .before .pre in (between-start _ _ _ _ _ refl (p .0) (p .1), refl, refl, refl)
 
 slice-aggregate-next-chunk : tie.Need-slice-aggregate-next-chunk Inv-loop μ-loop
 slice-aggregate-next-chunk c = search needs
 
 slice-aggregate-next-chunk-2 : tie.Need-slice-aggregate-next-chunk-2 Inv-loop μ-loop
 slice-aggregate-next-chunk-2 c = search needs
+
+slice-aggregate-next-chunk-3 : tie.Need-slice-aggregate-next-chunk-3 Inv-loop μ-loop
+slice-aggregate-next-chunk-3 c = search needs
 
 next-chunk-requires : tie.Need-next-chunk-requires Inv-loop μ-loop
 next-chunk-requires c κs = search needs
@@ -37,13 +40,10 @@ same-length c = search needs
 same-length-2 : tie.Need-same-length-2 Inv-loop μ-loop
 same-length-2 c = search needs
 
-same-length-3 : tie.Need-same-length-3 Inv-loop μ-loop
-same-length-3 c = search needs
-
 returns : tie.Need-returns Inv-loop μ-loop
 unfolding bytes
 returns c =
-    let h = c .before .before .before .before in
+    let h = c .before .before .before in
     let l = h .before .before .before .before in
     channels-end _ _ _ _ _ _ _ _ _ (l .loop .inv .0) _ _ (h .next-chunk .ensures .0) (c .if1 .taken)
 
@@ -51,15 +51,15 @@ channel-keys-requires : tie.Need-channel-keys-requires Inv-loop μ-loop
 unfolding bytes
 channel-keys-requires c κs =
     let e = c .before .before in
-    let h = e .before .before .before .before in
+    let h = e .before .before .before in
     let l = h .before .before .before .before in
     channel-sizes _ _ _ _ _ _ _ _ _ (l .loop .inv .0) _ _ (h .next-chunk .ensures .0) (e .if1 .left) (h .next-chunk .ensures .1 .1)
 
 -- a chunk could open
-opened : (e : tie.Else1 Inv-loop μ-loop) → e .before .before .before .before .before .before .before .before .loop .left ≡ 0 → ⊥
+opened : (e : tie.Else1 Inv-loop μ-loop) → e .before .before .before .before .before .before .before .loop .left ≡ 0 → ⊥
 unfolding bytes
 opened e =
-    let h = e .before .before .before .before in
+    let h = e .before .before .before in
     let l = h .before .before .before .before in
     channel-left _ _ _ _ _ _ _ _ _ (l .loop .inv .0) _ _ (h .next-chunk .ensures .0) (e .if1 .left) (h .next-chunk .ensures .1 .1)
 
@@ -74,7 +74,7 @@ unfolding bytes
 loop-again c =
     let y = c .before .before .before in
     let e = y .before .before .before in
-    let h = e .before .before .before .before in
+    let h = e .before .before .before in
     let l = h .before .before .before .before in
     let s = y .channel-keys .kept in (
       channel-on _ _ _ _ _ _ _ _ _ (l .loop .inv .0) _ _ (h .next-chunk .ensures .0) (e .if1 .left) (h .next-chunk .ensures .1 .1) _ _ (y .channel-keys .ensures) _ (h .next-chunk .ensures .1 .0),
@@ -92,10 +92,10 @@ channel-chunks-spec =
     loop-holds
     slice-aggregate-next-chunk
     slice-aggregate-next-chunk-2
+    slice-aggregate-next-chunk-3
     next-chunk-requires
     same-length
     same-length-2
-    same-length-3
     returns
     channel-keys-requires
     sub-left
