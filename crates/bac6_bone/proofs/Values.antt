@@ -7,6 +7,8 @@ use Prim.Native.Nat.{ℕ, zero, suc, _+_, _*_, _-_, _≤_, _<_}
 use native.Mathlib.Omega.{arith}
 use lib.IntN.{ℤ, pos}
 use lib.ListN.{length, set}
+use mir.Syntax.{w64}
+use mir.Val.{SFits, toZ, ofZ}
 use Rattle.text_bytes.specs.Bytes.{bytes, inWord}
 use Rattle.text_numbers.specs.Numbers.{INT, FLOAT}
 use Rattle.text_tokens.specs.Tokens.{lexAt}
@@ -27,12 +29,12 @@ use Rattle.parse_cursor.proofs.Ranges.{numbers-give}
 use Rattle.bac6_text.specs.Grammar.{BoneField, named, flag, several, nameIn, flagIn, numbersIn, boneKinds, truth, word}
 use Rattle.bac6_text.specs.Layout.{nameNumbers}
 use Rattle.bac6_bone_rules.specs.Internal.Claims.{claimed}
-use Rattle.bac6_bone.specs.Internal.Into.{Yields, three, putRow}
+use Rattle.bac6_bone.specs.Internal.Into.{Yields, three, putRow, putClaims, putField}
 use Rattle.bac6_entries.specs.Internal.Into.{entriesInto}
+use Rattle.bac6_entries.proofs.EntrySteps.{entries-bits}
 use Rattle.parse_cursor.proofs.Counts.{alive}
 use Rattle.parse_cursor.proofs.Behind.{given}
 use Rattle.bac6_bone.proofs.Yielding.{unmap}
-use Rattle.bac6_bone.proofs.Fields.{putClaims}
 
 -- a cursor at an offset
 abbrev pub here : ℕ → Cursor
@@ -112,7 +114,7 @@ module _ (text : List ℕ) (at : ℕ) (d : Cursor) (place size : ℕ) (p : reads
 
 -- ---- entries, and the other chunks, as a chunk of a kind
 
-entries-read : (text : List ℕ) (at : ℕ) (r : Cursor) (n : ℕ) (b : ℤ) (row : List ℤ) (c c′ : Bool × List ℤ) → reads text r c′ ≡ entriesInto n b c (lexAt text at) → Yields {S = List ℤ × (Bool × List ℤ)} text r (insideAt boneKinds 6 (lexAt text at)) (λ f. (putRow 6 row f, putClaims n b 6 c f)) (row, c′)
+entries-read : (text : List ℕ) (at : ℕ) (r : Cursor) (n : ℕ) (b : ℤ) (row : List ℤ) (c c′ : Bool × List ℤ) → reads text r c′ ≡ entriesInto n b c (lexAt text at) → Yields text r (insideAt boneKinds 6 (lexAt text at)) (putField n b 6 (row, c)) (row, c′)
 unfolding entriesInto _>>=_ insideAt boneKinds kind putRow putClaims numbersIn
 entries-read text at r n b row c c′ p =
     let y : Yields text r (many (number INT) (lexAt text at)) (claimed n b c) c′ = unmap text r (claimed n b c) c′ [] (many (number INT) (lexAt text at)) p in
@@ -122,8 +124,8 @@ entries-read text at r n b row c c′ p =
       kept = λ o. ap (λ (s : Bool × List ℤ). (row, s)) (y .kept o);
     }
 
-pub entries-read-at : (text : List ℕ) (at : ℕ) (r : Cursor) (n : ℕ) (b : ℤ) (k : ℕ) (row : List ℤ) (c c′ : Bool × List ℤ) → k ≡ 6 → reads text r c′ ≡ entriesInto n b c (lexAt text at) → Yields {S = List ℤ × (Bool × List ℤ)} text r (insideAt boneKinds k (lexAt text at)) (λ f. (putRow k row f, putClaims n b k c f)) (row, c′)
-entries-read-at text at r n b k row c c′ e p = rw e (entries-read text at r n b row c c′ p)
+pub entries-read-at : (text : List ℕ) (at : ℕ) (r : Cursor) (n : ℕ) (b : ℤ) (k : ℕ) (row : List ℤ) (c c′ : Bool × List ℤ) → k ≡ 6 → SFits w64 b → reads text r c′ ≡ entriesInto n (toZ w64 (ofZ w64 b)) c (lexAt text at) → Yields text r (insideAt boneKinds k (lexAt text at)) (putField n b k (row, c)) (row, c′)
+entries-read-at text at r n b k row c c′ e f p = rw e (entries-read text at r n b row c c′ (p ∙ entries-bits n b c (lexAt text at) f))
 
 put-claims-none : (n : ℕ) (b : ℤ) (k : ℕ) (c : Bool × List ℤ) (f : BoneField) → k < 6 → putClaims n b k c f ≡ c
 unfolding putClaims
@@ -135,5 +137,5 @@ put-claims-none n b (suc (suc (suc (suc zero)))) c f h = refl
 put-claims-none n b (suc (suc (suc (suc (suc zero))))) c f h = refl
 put-claims-none n b (suc (suc (suc (suc (suc (suc k)))))) c f h = absurd (omega arith)
 
-pub row-read : (text : List ℕ) (r : Cursor) (g : Got BoneField) (n : ℕ) (b : ℤ) (k : ℕ) (row row′ : List ℤ) (c : Bool × List ℤ) → k < 6 → Yields text r g (putRow k row) row′ → Yields {S = List ℤ × (Bool × List ℤ)} text r g (λ f. (putRow k row f, putClaims n b k c f)) (row′, c)
+pub row-read : (text : List ℕ) (r : Cursor) (g : Got BoneField) (n : ℕ) (b : ℤ) (k : ℕ) (row row′ : List ℤ) (c : Bool × List ℤ) → k < 6 → Yields text r g (putRow k row) row′ → Yields text r g (putField n b k (row, c)) (row′, c)
 row-read text r g n b k row row′ c h y = record { value = y .value; read = y .read; kept = λ o. rw (y .kept o, put-claims-none n b k c (y .value) h) }

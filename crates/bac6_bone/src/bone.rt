@@ -1,15 +1,14 @@
 // A bone: seven chunks in any order, each at most once.
 ghost use mathlib.Core.Path.{_≡_};
 ghost use Prim.Native.Nat.{_<_, _≤_};
-ghost use mathlib.Core.Bool.{false};
 ghost use lib.IntN.{pos};
-ghost use lib.ListN.{length, replicate};
+ghost use lib.ListN.{replicate};
 ghost use Rattle.text_tokens.specs.Tokens.{lexAt};
 ghost use Rattle.parse_cursor.specs.Fields.{fields};
 ghost use Rattle.parse_cursor.specs.Internal.Fields.{insideAt};
 ghost use Rattle.parse_cursor.specs.Internal.Cursors.{reads, from};
 ghost use Rattle.bac6_text.specs.Grammar.{boneKinds};
-ghost use Rattle.bac6_bone.specs.Internal.Into.{Yields, putRow, ChunkRead, boneState, boneInto};
+ghost use Rattle.bac6_bone.specs.Internal.Into.{Yields, putRow, putField, boneState, boneInto};
 use bac6_entries::Claims;
 use bac6_entries::entries;
 use parse_cursor::Cursor;
@@ -56,112 +55,77 @@ fn bone_vector(text: &[u8], at: usize, k: usize, row: &mut [i64; 14]) -> Cursor
     parse_cursor::closing(text, d)
 }
 
-// What stands in the chunk of kind k, to the row.
-fn bone_numbers(text: &[u8], at: usize, k: usize, row: &mut [i64; 14]) -> Cursor
-    requires { ⌜ k < 6 ⌝ }
-    ensures { λ r. ⌜ Yields (now (text .entry)) r (insideAt boneKinds k (lexAt (now (text .entry)) at)) (putRow k (now (row .entry))) (now (row .exit)) ⌝ }
-{
-    if k == 0 {
-        return bone_name(text, at, row);
-    }
-    if k < 3 {
-        return bone_flag(text, at, k, row);
-    }
-    bone_vector(text, at, k, row)
-}
-
-// One chunk after its opening bracket: the field of its keyword is read, where it has not been.
-fn bone_chunk(
+// What stands in the chunk of kind k: to the row or, for the entries, to the claims.
+fn bone_value(
     text: &[u8],
     at: usize,
+    k: usize,
     points: usize,
     bone: i64,
     row: &mut [i64; 14],
-    seen: &mut [bool],
     owners: &mut [i64],
     fine: bool,
 ) -> Claims
-    requires { ⌜ length (now seen) ≡ 7 ⌝ }
-    ensures { λ r. ⌜ ChunkRead (now (text .entry)) at points bone (now (seen .entry), now (row .entry), (fine, now (owners .entry))) (r .cursor) (now (seen .exit), now (row .exit), (r .fine, now (owners .exit))) ⌝ }
+    requires { ⌜ k < 7 ⌝ }
+    ensures { λ r. ⌜ Yields (now (text .entry)) (r .cursor) (insideAt boneKinds k (lexAt (now (text .entry)) at)) (putField points bone k (now (row .entry), (fine, now (owners .entry)))) (now (row .exit), (r .fine, now (owners .exit))) ⌝ }
 {
-    let t = text_tokens::next(text, at);
-    let refused = Claims {
-        cursor: Cursor {
-            refusal: 5,
-            at: t.start,
-        },
-        fine,
-    };
-    let k = parse_words::word_index(
-        text,
-        t,
-        b"name hasChild hasBrother translate rotate handle vertexIndices",
-    );
-    if 7 <= k {
-        return refused;
-    }
-    if seen[k] {
-        return refused;
-    }
-    seen[k] = true;
-    if k < 6 {
+    if k == 0 {
         return Claims {
-            cursor: bone_numbers(text, t.end, k, row),
+            cursor: bone_name(text, at, row),
             fine,
         };
     }
-    entries(text, t.end, points, bone, owners, fine)
+    if k < 3 {
+        return Claims {
+            cursor: bone_flag(text, at, k, row),
+            fine,
+        };
+    }
+    if k < 6 {
+        return Claims {
+            cursor: bone_vector(text, at, k, row),
+            fine,
+        };
+    }
+    entries(text, at, points, bone, owners, fine)
 }
 
 // The chunks of a bone up to its closing bracket, from an empty row: all but `name` and `vertexIndices` must have stood.
 fn bone_fields(
     text: &[u8],
-    at: usize,
+    c: Cursor,
     points: usize,
     bone: i64,
     row: &mut [i64; 14],
-    seen: &mut [bool],
     owners: &mut [i64],
     fine: bool,
 ) -> Claims
-    requires { ⌜ (now row ≡ replicate 14 (pos 0)) × (now seen ≡ replicate 7 false) ⌝ }
-    ensures { λ r. ⌜ Yields (now (text .entry)) (r .cursor) (fields boneKinds (lexAt (now (text .entry)) at)) (boneState points bone (fine, now (owners .entry))) (now (seen .exit), now (row .exit), (r .fine, now (owners .exit))) ⌝ }
+    requires { ⌜ now row ≡ replicate 14 (pos 0) ⌝ }
+    ensures { λ r. ⌜ Yields (now (text .entry)) (r .cursor) (from (now (text .entry)) c (fields boneKinds)) (boneState points bone (fine, now (owners .entry))) (now (row .exit), (r .fine, now (owners .exit))) ⌝ }
 {
-    let mut from = at;
+    let mut seen = [false; 7];
+    let mut d = c;
     let mut left: usize = 7;
     let mut free = fine;
     loop {
-        let t = text_tokens::next(text, from);
-        let kind = t.kind;
-        let refused = Claims {
-            cursor: Cursor {
-                refusal: 5,
-                at: t.start,
-            },
-            fine: free,
-        };
-        if parse_cursor::is_closing(kind) {
+        let h = parse_words::next_chunk(
+            text,
+            d,
+            b"name hasChild hasBrother translate rotate handle vertexIndices",
+            &[false, true, true, true, true, true, false],
+            &mut seen,
+            left,
+        );
+        let inside = h.cursor;
+        let k = h.kind;
+        if 7 <= k {
             return Claims {
-                cursor: parse_words::closed_at(
-                    t,
-                    &[false, true, true, true, true, true, false],
-                    seen,
-                ),
+                cursor: inside,
                 fine: free,
             };
         }
-        if left == 0 {
-            return refused;
-        }
-        if !parse_cursor::is_opening(kind) {
-            return refused;
-        }
-        let m = bone_chunk(text, t.end, points, bone, row, seen, owners, free);
-        let d = m.cursor;
-        if d.refusal != 0 {
-            return m;
-        }
-        from = d.at;
+        let m = bone_value(text, inside.at, k, points, bone, row, owners, free);
+        d = m.cursor;
         free = m.fine;
         left -= 1;
     }
@@ -181,12 +145,8 @@ pub fn bone_tail(
     ensures { λ r. ⌜ reads (now (text .entry)) (r .cursor) (now (out .exit), (r .fine, now (owners .exit))) ≡ from (now (text .entry)) c (boneInto points bone to (now (out .entry)) (fine, now (owners .entry))) ⌝ }
 {
     let d = parse_cursor::keyword(text, c, b"bone");
-    if d.refusal != 0 {
-        return Claims { cursor: d, fine };
-    }
     let mut row = [0i64; 14];
-    let mut seen = [false; 7];
-    let r = bone_fields(text, d.at, points, bone, &mut row, &mut seen, owners, fine);
+    let r = bone_fields(text, d, points, bone, &mut row, owners, fine);
     let e = r.cursor;
     if e.refusal != 0 {
         return r;

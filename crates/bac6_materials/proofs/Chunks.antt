@@ -1,30 +1,32 @@
--- What stands in each chunk of a material, and which chunk a token opens.
+-- What stands in each chunk of a material, and what the code holds between two chunks.
 use mathlib.Core.Path.{_≡_, refl, ap, sym, _∙_}
 use mathlib.Core.List.{List, [], _∷_, map}
 use mathlib.Core.Bool.{Bool, true, false}
 use mathlib.Core.Option.{Option, some}
-use Prim.Native.Nat.{ℕ, zero, suc, _≤_, _<_}
+use Prim.Native.Nat.{ℕ, zero, suc, _-_, _≤_, _<_}
 use Prim.Native.String.{String}
 use native.Mathlib.Omega.{arith}
 use lib.IntN.{ℤ, pos}
 use lib.ListN.{length, set, replicate}
 use Rattle.text_numbers.specs.Numbers.{INT, FLOAT}
 use Rattle.text_bytes.specs.Bytes.{bytes, same, inWord}
-use Rattle.text_tokens.specs.Tokens.{Lexeme, lexAt}
+use Rattle.text_tokens.specs.Tokens.{Lexeme}
 use Rattle.parse_cursor.specs.declared.cursor.Cursor.{Cursor}
 use Rattle.parse_cursor.specs.Readers.{Got, after, _>>=_, _>>_, pure, open-bracket, keyword, wordOf, opened, openedOf, closed, number}
 use Rattle.parse_cursor.specs.Internal.Cursors.{reads, from}
 use Rattle.table_rows.specs.Internal.Overlay.{overlayAt}
 use Rattle.parse_cursor.proofs.Many.{Keeps, Takes, takes-keeps, pure-keeps, bind-keeps, bind-takes, then-keeps, then-takes, keyword-takes, opened-takes, closed-keeps, number-takes, one-of-takes}
+use Rattle.parse_cursor.proofs.FieldFlags.{flags-length}
 use Rattle.parse_cursor.proofs.FieldKeeps.{AllKeep, fields-keeps}
 use Rattle.parse_cursor.proofs.Binds.{then-assoc, then-bind}
-use Rattle.parse_cursor.proofs.Steps.{join, seq, passed, from-on, from-off}
-use Rattle.parse_cursor.specs.Fields.{kind, unread, fields, fieldsIn}
-use Rattle.parse_cursor.specs.Internal.Fields.{insideAt, fieldOf, fieldsOf}
+use Rattle.parse_cursor.proofs.Steps.{join, seq, reads-same}
+use Rattle.parse_cursor.specs.Fields.{kind, isSome, unread, fields}
+use Rattle.parse_cursor.specs.Internal.Fields.{insideAt, neededOf}
 use Rattle.parse_words.specs.Internal.Words.{words, onto, keysOf, apart, differs}
+use Rattle.parse_words.specs.Internal.Heads.{headIn, Reached}
+use Rattle.parse_words.proofs.Turns.{Listed, Midway, turn-ends, turn-holds, turn-left, turn-on}
 use Rattle.bac6_text.specs.Grammar.{materialKinds, truth, blend, orZero, material, word}
-use Rattle.bac6_materials.specs.Internal.Into.{Settled, materialTail, materialInto}
-use Rattle.parse_cursor.proofs.Choices.{fieldsOf-set}
+use Rattle.bac6_materials.specs.Internal.Into.{materialTail, materialInto}
 
 pub inside-truth : (k : ℕ) → (k ≡ 0 → ⊥) → k < 4 → insideAt materialKinds k ≡ closed truth
 unfolding insideAt materialKinds kind
@@ -57,39 +59,55 @@ inside-level (suc (suc (suc (suc (suc (suc (suc zero))))))) h l = refl
 inside-level (suc (suc (suc (suc (suc (suc (suc (suc zero)))))))) h l = refl
 inside-level (suc (suc (suc (suc (suc (suc (suc (suc (suc k))))))))) h l = absurd (omega arith)
 
--- the keywords as one text, and no two are the same
-pub material-words : words (bytes "blendMode doubleFace transparent lighting textureIndex colorIndex specular alpha shininess") ≡ keysOf materialKinds
-unfolding materialKinds kind keysOf words onto inWord bytes
-material-words = refl
+-- the keywords as one text, no two of them the same, and which chunks must stand
+abbrev list : List ℕ
+list = bytes "blendMode doubleFace transparent lighting textureIndex colorIndex specular alpha shininess"
 
-pub material-apart : apart (keysOf materialKinds) ≡ true
-unfolding materialKinds kind keysOf apart differs same bytes
-material-apart = refl
+abbrev must : List Bool
+must = true ∷ true ∷ true ∷ true ∷ true ∷ true ∷ true ∷ false ∷ false ∷ []
 
-pub material-count : length materialKinds ≡ 9
+material-listed : Listed materialKinds list must
+unfolding materialKinds kind keysOf words onto inWord bytes apart differs same neededOf
+material-listed = record { keys = refl; differ = refl; must = refl }
+
+material-count : length materialKinds ≡ 9
 unfolding materialKinds
 material-count = refl
 
--- ---- fields that have not been read are 0
+-- ---- between two chunks: fields that have not been read are 0
+
+abbrev pub Between : List ℕ → Cursor → ℕ → Cursor → List Bool → List ℤ → Type 0
+Between text c left d seen row = Midway text materialKinds (from text c (fields materialKinds)) left d seen (λ fs. map orZero fs ≡ row)
+
+pub between-start : (text : List ℕ) (c : Cursor) (seen : List Bool) (row : List ℤ) → row ≡ replicate 9 (pos 0) → seen ≡ replicate 9 false → Between text c 9 c seen row
+unfolding fields materialKinds unread isSome orZero
+between-start text c seen row e f = record { fs = unread materialKinds; size = refl; flags = sym f; holds = λ _. sym e; on = refl }
 
 map-set : {A B : Type 0} (f : A → B) (l : List A) (k : ℕ) (a : A) → map f (set l k a) ≡ set (map f l) k (f a)
 map-set f [] k a = refl
 map-set f (x ∷ l) zero a = refl
 map-set f (x ∷ l) (suc k) a = ap (λ m. f x ∷ m) (map-set f l k a)
 
-pub settled-set : (seen : List Bool) (row : List ℤ) (k : ℕ) (z : ℤ) → length seen ≡ length row → Settled seen row → Settled (set seen k true) (set row k z)
-unfolding orZero
-settled-set seen row k z l s = rw (fieldsOf-set seen row k z l, map-set orZero (fieldsOf seen row) k (some z), s)
+-- a chunk: after its head, its value
+module _ (text : List ℕ) (c : Cursor) (left : ℕ) (d : Cursor) (seen : List Bool) (row : List ℤ) (m : Between text c left d seen row) (e : Cursor) (k : ℕ) (h : reads text e k ≡ from text d (headIn (words list) must seen left)) where
+  wide : length seen ≡ 9
+  wide = ap length (sym (m .flags)) ∙ flags-length (m .fs) ∙ m .size ∙ material-count
+
+  pub fields-end : 9 ≤ k → Reached text e (from text c (fields materialKinds)) (λ gs. map orZero gs ≡ row)
+  fields-end b = turn-ends material-listed m e k h (rw wide b)
+
+  module _ (b : k < 9) (q : (e .refusal ≡ 0 → ⊥) → k ≡ length seen) where
+    below : k < length seen
+    below = rw wide b
+
+    pub field-left : left ≡ 0 → ⊥
+    field-left = turn-left material-listed m e k h below q
+
+    pub field-on : (r : Cursor) (z : ℤ) → reads text r z ≡ from text e (insideAt materialKinds k) → (seen′ : List Bool) → seen′ ≡ set seen k true → Between text c (left - 1) r seen′ (set row k z)
+    unfolding orZero
+    field-on r z p seen′ f = turn-on material-listed m e k h below r z p seen′ f (λ fs. map orZero fs ≡ set row k z) (λ o. map-set orZero (m .fs) k (some z) ∙ ap (λ (l : List ℤ). set l k z) (turn-holds material-listed m e k h below q))
 
 -- ---- a whole material
-
-pub unread-fields : fieldsOf (replicate 9 false) (replicate 9 (pos 0)) ≡ unread materialKinds
-unfolding fieldsOf fieldOf unread materialKinds
-unread-fields = refl
-
-pub unread-settled : Settled (replicate 9 false) (replicate 9 (pos 0))
-unfolding fieldsOf fieldOf orZero
-unread-settled = refl
 
 module _ (text : List ℕ) (c d r : Cursor) (gs : List (Option ℤ)) (o : reads text d tt ≡ from text c (wordOf (bytes "material"))) (i : ℕ) (table : List ℤ) where
   material-from : reads text r gs ≡ from text d (fields materialKinds) → reads text r (overlayAt i (map orZero gs) table) ≡ from text c (materialInto i table)
@@ -99,16 +117,10 @@ module _ (text : List ℕ) (c d r : Cursor) (gs : List (Option ℤ)) (o : reads 
       (join text c r r gs _ (keyword "material" >> fields materialKinds) (λ (fs : List (Option ℤ)). pure (map orZero fs))
       (seq text c d r tt gs (wordOf (bytes "material")) (fields materialKinds) o q) refl) refl
 
--- refused before its first chunk
-pub material-off : (text : List ℕ) (c d : Cursor) (i : ℕ) (table : List ℤ) (any : List ℤ) → reads text d tt ≡ from text c (wordOf (bytes "material")) → (d .refusal ≡ 0 → ⊥) → reads text d any ≡ from text c (materialInto i table)
-unfolding reads
-material-off text c d i table any o n = from-off text d (pure any) n ∙ sym (from-off text d _ n) ∙ material-from text c d d [] o i table (passed text d [] (fields materialKinds) n)
-
--- read to its closing bracket, or refused at one of its chunks
-pub material-on : (text : List ℕ) (c d r : Cursor) (seen : List Bool) (row : List ℤ) (i : ℕ) (table : List ℤ) → reads text d tt ≡ from text c (wordOf (bytes "material")) → d .refusal ≡ 0 → reads text r (fieldsOf seen row) ≡ fieldsIn 9 materialKinds (unread materialKinds) (lexAt text (d .at)) → Settled seen row → reads text r (overlayAt i row table) ≡ from text c (materialInto i table)
-material-on text c d r seen row i table o n q s =
-    ap (λ (zs : List ℤ). reads text r (overlayAt i zs table)) (sym s)
-    ∙ material-from text c d r (fieldsOf seen row) o i table (q ∙ sym (from-on text d (fields materialKinds) n ∙ unfold fields materialKinds in refl))
+pub material-on : (text : List ℕ) (c d r : Cursor) (row : List ℤ) (i : ℕ) (table : List ℤ) → reads text d tt ≡ from text c (wordOf (bytes "material")) → Reached text r (from text d (fields materialKinds)) (λ gs. map orZero gs ≡ row) → reads text r (overlayAt i row table) ≡ from text c (materialInto i table)
+material-on text c d r row i table o y =
+    reads-same text r _ _ (λ q. ap (λ (zs : List ℤ). overlayAt i zs table) (sym (y .kept q)))
+    ∙ material-from text c d r (y .value) o i table (y .read)
 
 -- ---- many materials
 

@@ -1,14 +1,16 @@
 // A material: nine chunks in any order, each at most once.
 ghost use mathlib.Core.Path.{_≡_};
+ghost use mathlib.Core.List.{map};
 ghost use Prim.Native.Nat.{_<_};
-ghost use lib.ListN.{length};
-ghost use Rattle.text_tokens.specs.Tokens.{lexAt};
-ghost use Rattle.parse_cursor.specs.Fields.{kindFrom, fieldsIn};
-ghost use Rattle.parse_cursor.specs.Internal.Fields.{insideAt, fieldsOf};
+ghost use lib.IntN.{pos};
+ghost use lib.ListN.{replicate};
+ghost use Rattle.parse_cursor.specs.Fields.{fields};
+ghost use Rattle.parse_cursor.specs.Internal.Fields.{insideAt};
 ghost use Rattle.parse_cursor.specs.Internal.Cursors.{reads, from};
-ghost use Rattle.bac6_text.specs.Grammar.{materialKinds, material};
+ghost use Rattle.parse_words.specs.Internal.Heads.{Reached};
+ghost use Rattle.bac6_text.specs.Grammar.{materialKinds, material, orZero};
 ghost use Rattle.bac6_materials.specs.Internal.Closing.{closeWith};
-ghost use Rattle.bac6_materials.specs.Internal.Into.{Settled, materialInto, materialsInto};
+ghost use Rattle.bac6_materials.specs.Internal.Into.{materialInto, materialsInto};
 ghost use Rattle.parse_rows.specs.Internal.Folds.{folded, rowStep};
 use parse_cursor::Cursor;
 use parse_numbers::Form;
@@ -46,73 +48,32 @@ fn close(text: &[u8], n: Numeric) -> Numeric
     }
 }
 
-// One chunk after its opening bracket: the field of its keyword is read, where it has not been.
-fn material_chunk(text: &[u8], at: usize, row: &mut [i64], seen: &mut [bool]) -> Cursor
-    requires { ⌜ (length (now row) ≡ 9) × (length (now seen) ≡ 9) ⌝ }
-    ensures { λ r. ⌜ reads (now (text .entry)) r (fieldsOf (now (seen .exit)) (now (row .exit))) ≡ kindFrom materialKinds (fieldsOf (now (seen .entry)) (now (row .entry))) (lexAt (now (text .entry)) at) ⌝ }
-    ensures { λ r. ⌜ (Settled (now (seen .entry)) (now (row .entry)) → Settled (now (seen .exit)) (now (row .exit))) ⌝ }
+// The chunks of a material up to its closing bracket, from an empty row: all but `alpha` and `shininess` must have stood.
+fn material_fields(text: &[u8], c: Cursor, row: &mut [i64]) -> Cursor
+    requires { ⌜ now row ≡ replicate 9 (pos 0) ⌝ }
+    ensures { λ r. ⌜ Reached (now (text .entry)) r (from (now (text .entry)) c (fields materialKinds)) (λ gs. map orZero gs ≡ now (row .exit)) ⌝ }
 {
-    let t = text_tokens::next(text, at);
-    let refused = Cursor {
-        refusal: 5,
-        at: t.start,
-    };
-    let k = parse_words::word_index(
-        text,
-        t,
-        b"blendMode doubleFace transparent lighting textureIndex colorIndex specular alpha shininess",
-    );
-    if 9 <= k {
-        return refused;
-    }
-    if seen[k] {
-        return refused;
-    }
-    let inside = Cursor {
-        refusal: 0,
-        at: t.end,
-    };
-    let v = material_value(text, inside, k);
-    let value = v.value;
-    row[k] = value;
-    seen[k] = true;
-    v.cursor
-}
-
-// The chunks of a material up to its closing bracket: all but `alpha` and `shininess` must have stood.
-fn material_fields(text: &[u8], at: usize, row: &mut [i64], seen: &mut [bool]) -> Cursor
-    requires { ⌜ (length (now row) ≡ 9) × (length (now seen) ≡ 9) ⌝ }
-    requires { ⌜ Settled (now seen) (now row) ⌝ }
-    ensures { λ r. ⌜ reads (now (text .entry)) r (fieldsOf (now (seen .exit)) (now (row .exit))) ≡ fieldsIn 9 materialKinds (fieldsOf (now (seen .entry)) (now (row .entry))) (lexAt (now (text .entry)) at) ⌝ }
-    ensures { λ r. ⌜ Settled (now (seen .exit)) (now (row .exit)) ⌝ }
-{
-    let mut from = at;
+    let mut seen = [false; 9];
+    let mut d = c;
     let mut left: usize = 9;
     loop {
-        let t = text_tokens::next(text, from);
-        let kind = t.kind;
-        let refused = Cursor {
-            refusal: 5,
-            at: t.start,
-        };
-        if parse_cursor::is_closing(kind) {
-            return parse_words::closed_at(
-                t,
-                &[true, true, true, true, true, true, true, false, false],
-                seen,
-            );
+        let h = parse_words::next_chunk(
+            text,
+            d,
+            b"blendMode doubleFace transparent lighting textureIndex colorIndex specular alpha shininess",
+            &[true, true, true, true, true, true, true, false, false],
+            &mut seen,
+            left,
+        );
+        let inside = h.cursor;
+        let k = h.kind;
+        if 9 <= k {
+            return inside;
         }
-        if left == 0 {
-            return refused;
-        }
-        if !parse_cursor::is_opening(kind) {
-            return refused;
-        }
-        let m = material_chunk(text, t.end, row, seen);
-        if m.refusal != 0 {
-            return m;
-        }
-        from = m.at;
+        let v = material_value(text, inside, k);
+        let value = v.value;
+        row[k] = value;
+        d = v.cursor;
         left -= 1;
     }
 }
@@ -122,12 +83,8 @@ fn material_tail(text: &[u8], c: Cursor, out: &mut [i64], to: usize) -> Cursor
     ensures { λ r. ⌜ reads (now (text .entry)) r (now (out .exit)) ≡ from (now (text .entry)) c (materialInto to (now (out .entry))) ⌝ }
 {
     let d = parse_cursor::keyword(text, c, b"material");
-    if d.refusal != 0 {
-        return d;
-    }
     let mut row = [0i64; 9];
-    let mut seen = [false; 9];
-    let r = material_fields(text, d.at, &mut row, &mut seen);
+    let r = material_fields(text, d, &mut row);
     table_rows::store(out, to, &row);
     r
 }

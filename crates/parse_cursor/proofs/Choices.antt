@@ -1,7 +1,7 @@
 -- Laws of chunks in a free order: which kind a token picks, and what its chunk does to the fields.
-use mathlib.Core.Path.{_≡_, refl, ap, sym}
+use mathlib.Core.Path.{_≡_, refl, sym}
 use mathlib.Core.List.{List, [], _∷_}
-use mathlib.Core.Bool.{Bool, true, false, false≢true}
+use mathlib.Core.Bool.{Bool, true, false}
 use mathlib.Core.Option.{Option, none, some}
 use Prim.Native.Nat.{ℕ, zero, suc, _≤_, _<_}
 use Prim.Native.String.{String}
@@ -11,7 +11,7 @@ use Rattle.text_bytes.specs.Bytes.{bytes}
 use Rattle.text_tokens.specs.Tokens.{Lexeme, isKeyword}
 use Rattle.parse_cursor.specs.Readers.{Got, got, refused, Reader, after, _>>=_, _>>_, pure, stop, tokenOf, rest, isOpening, isClosing, take-if, open-bracket, oneFrom}
 use Rattle.parse_cursor.specs.Fields.{Kind, complete, kindFrom, fieldsIn}
-use Rattle.parse_cursor.specs.Internal.Fields.{hits, single, insideAt, fieldOf, fieldsOf}
+use Rattle.parse_cursor.specs.Internal.Fields.{hits, single, insideAt}
 
 -- a refusal stays one
 pub after-stop : {A B : Type 0} (n : ℕ) (ms : List Lexeme) (f : A → Reader B) → after (stop n ms) f ≡ stop n ms
@@ -105,35 +105,3 @@ one-yes n k ks ms e = rw (e, oneFrom)
 pub one-no : (n : ℕ) (k : String) (ks : List String) (ms : List Lexeme) → isKeyword (bytes k) (tokenOf ms) ≡ false → oneFrom n (k ∷ ks) ms ≡ oneFrom (suc n) ks ms
 unfolding oneFrom
 one-no n k ks ms e = rw (e, oneFrom)
-
--- ---- the fields that an array of values and one of flags hold
-
-pub fieldsOf-length : {A : Type 0} (seen : List Bool) (row : List A) → length seen ≡ length row → length (fieldsOf seen row) ≡ length row
-unfolding fieldsOf
-fieldsOf-length [] [] e = refl
-fieldsOf-length [] (z ∷ row) e = absurd (omega arith)
-fieldsOf-length (b ∷ seen) [] e = absurd (omega arith)
-fieldsOf-length (b ∷ seen) (z ∷ row) e = ap suc (fieldsOf-length seen row (omega arith))
-
-pub fieldsOf-set : {A : Type 0} (seen : List Bool) (row : List A) (k : ℕ) (a : A) → length seen ≡ length row → fieldsOf (set seen k true) (set row k a) ≡ set (fieldsOf seen row) k (some a)
-unfolding fieldsOf fieldOf
-fieldsOf-set [] [] k a e = refl
-fieldsOf-set [] (z ∷ row) k a e = absurd (omega arith)
-fieldsOf-set (b ∷ seen) [] k a e = absurd (omega arith)
-fieldsOf-set (b ∷ seen) (z ∷ row) zero a e = refl
-fieldsOf-set (b ∷ seen) (z ∷ row) (suc k) a e = ap (λ (l : List (Option _)). fieldOf b z ∷ l) (fieldsOf-set seen row k a (omega arith))
-
-pub fieldsOf-unread : {A : Type 0} (seen : List Bool) (row : List A) (k : ℕ) → getD seen k false ≡ false → getD (fieldsOf seen row) k none ≡ none
-unfolding fieldsOf fieldOf
-fieldsOf-unread [] row k e = refl
-fieldsOf-unread (b ∷ seen) [] k e = refl
-fieldsOf-unread (b ∷ seen) (z ∷ row) zero e = rw (e, fieldOf)
-fieldsOf-unread (b ∷ seen) (z ∷ row) (suc k) e = fieldsOf-unread seen row k e
-
-pub fieldsOf-read : {A : Type 0} (seen : List Bool) (row : List A) (k : ℕ) (d : A) → getD seen k false ≡ true → length seen ≡ length row → getD (fieldsOf seen row) k none ≡ some (getD row k d)
-unfolding fieldsOf fieldOf
-fieldsOf-read [] [] k d e l = absurd (false≢true e)
-fieldsOf-read [] (z ∷ row) k d e l = absurd (omega arith)
-fieldsOf-read (b ∷ seen) [] k d e l = absurd (omega arith)
-fieldsOf-read (b ∷ seen) (z ∷ row) zero d e l = rw (e, fieldOf)
-fieldsOf-read (b ∷ seen) (z ∷ row) (suc k) d e l = fieldsOf-read seen row k d e (omega arith)

@@ -5,7 +5,8 @@ use mathlib.Core.Bool.{Bool, true, false, false≢true, true≢false}
 use mathlib.Core.Option.{Option, none, some}
 use Prim.Native.Nat.{ℕ, zero, suc}
 use lib.ListN.{length, getD, set}
-use Rattle.parse_cursor.specs.Fields.{isSome}
+use Rattle.parse_cursor.specs.Fields.{Kind, isSome, complete}
+use Rattle.parse_cursor.specs.Internal.Fields.{neededOf, coversAll}
 
 pub flags-length : {A : Type 0} (fs : List (Option A)) → length (map isSome fs) ≡ length fs
 flags-length [] = refl
@@ -31,3 +32,10 @@ unfolding isSome
 flags-set [] k a = refl
 flags-set (f ∷ fs) zero a = refl
 flags-set (f ∷ fs) (suc k) a = ap (λ (l : List Bool). isSome f ∷ l) (flags-set fs k a)
+
+-- the kinds that must stand have, by the flags alone
+pub complete-seen : {A : Type 0} (ks : List (Kind A)) (fs : List (Option A)) → complete ks fs ≡ coversAll (neededOf ks) (map isSome fs)
+unfolding complete neededOf coversAll
+complete-seen [] fs = refl
+complete-seen (k ∷ ks) [] = refl
+complete-seen (k ∷ ks) (f ∷ fs) = rw (complete-seen ks fs)

@@ -7,7 +7,6 @@ pub mod Counts
 pub mod FieldFits
 pub mod FieldFlags
 pub mod FieldKeeps
-pub mod FieldSteps
 pub mod Given
 pub mod KindTests
 pub mod Many

@@ -1,7 +1,6 @@
 -- Laws of lists of keywords: words by their runs, and the kind that a token picks.
 use mathlib.Core.Path.{_≡_, refl, ap, sym, _∙_}
 use mathlib.Core.List.{List, [], _∷_}
-use mathlib.Core.Option.{Option, none, some}
 use mathlib.Core.Bool.{Bool, true, false, not, false≢true}
 use Prim.Native.Nat.{ℕ, suc, _+_, _≤_, _<_}
 use native.Mathlib.Nat.{add-sub-cancel-left}
@@ -9,23 +8,23 @@ use native.Mathlib.Omega.{arith}
 use borrow.Author.Tests.{not-true, eqb-true, leb-true, leb-false, ltb-true, ltb-false, lt-ltb, le-ltb}
 use Prim.Native.String.{String}
 use lib.Dec.{eqb, leb, ltb}
-use lib.ListN.{length, drop, getD, set, length-drop}
+use lib.ListN.{length, drop, length-drop}
 use lib.Seq.{drop-drop}
 use Rattle.text_bytes.specs.Bytes.{bytes, same, inWord, run, part}
 use lib.IntN.{ℤ, pos}
-use Rattle.text_tokens.specs.Tokens.{Token, opening, closing, ending, quoted, plain, Lexeme, lexeme, lexAt, isKeyword}
+use Rattle.text_tokens.specs.Tokens.{Token, opening, closing, ending, quoted, plain, Lexeme, lexeme, isKeyword}
 use Rattle.text_tokens.specs.declared.token.Span.{Span}
 use Rattle.text_tokens.specs.Internal.Answers.{Next, lexemeOf}
 use Rattle.text_bytes.proofs.Runs.{run-yes, run-no, run-take}
 use Rattle.text_numbers.proofs.Numerals.{and-true}
 use Rattle.parse_cursor.specs.declared.cursor.Cursor.{Cursor}
-use Rattle.parse_cursor.specs.Readers.{Got, got, refused, after, _>>=_, pure, stop, tokenOf, rest, isPlain, oneFrom, oneOf}
+use Rattle.parse_cursor.specs.Readers.{got, after, _>>=_, pure, stop, tokenOf, rest, isPlain, oneFrom, oneOf}
 use Rattle.parse_cursor.specs.Internal.Cursors.{reads, from}
-use Rattle.parse_cursor.specs.Fields.{Kind, kindFrom}
-use Rattle.parse_cursor.specs.Internal.Fields.{hits, single, insideAt}
+use Rattle.parse_cursor.specs.Fields.{Kind}
+use Rattle.parse_cursor.specs.Internal.Fields.{hits, single}
 use Rattle.parse_words.specs.Internal.Words.{onto, words, indexIn, keysOf, differs, apart, among, wordIn}
-use Rattle.parse_cursor.proofs.Choices.{after-stop, one-yes, one-no, kind-miss, kind-again, kind-hit}
-use Rattle.parse_cursor.proofs.Steps.{from-on, from-off, reads-on, next-token, next-stop, next-rest, live, after-reads}
+use Rattle.parse_cursor.proofs.Choices.{after-stop, one-yes, one-no}
+use Rattle.parse_cursor.proofs.Steps.{from-on, from-off, reads-on, next-token, next-stop, next-rest, live}
 
 -- ---- a token that is a keyword
 
@@ -187,7 +186,7 @@ module _ (text : List ℕ) (c : Cursor) (t : Span) (n : Next text (c .at) t) (o 
 
 -- ---- the same in the grammar's words
 
-index-plain : (t : Token) (ws : List (List ℕ)) → indexIn t ws < length ws → isPlain t ≡ true
+pub index-plain : (t : Token) (ws : List (List ℕ)) → indexIn t ws < length ws → isPlain t ≡ true
 index-plain t [] h = absurd (omega arith)
 index-plain t (w ∷ ws) h = go (isKeyword w t) refl (index-plain t ws)
   where
@@ -222,36 +221,7 @@ one-word ks list ms e = go (ltb (indexIn (tokenOf ms) (wordList ks)) (length ks)
         let h = ltb-false _ _ q in
         rw (one-none 0 ks ms h) (after-stop 5 ms _ ∙ sym (wordIn-no list (length ks) ms (rw e h)))
 
--- ---- a chunk of a free order, by its keyword's row in a list of the kinds' keywords
-
-keysOf-length : {A : Type 0} (ks : List (Kind A)) → length (keysOf ks) ≡ length ks
+pub keysOf-length : {A : Type 0} (ks : List (Kind A)) → length (keysOf ks) ≡ length ks
 unfolding keysOf
 keysOf-length [] = refl
 keysOf-length (k ∷ ks) = ap suc (keysOf-length ks)
-
-module _ {A : Type 0} (text : List ℕ) (at : ℕ) (t : Span) (n : Next text at t) (ks : List (Kind A)) (fs : List (Option A)) (list : List ℕ) (w : words list ≡ keysOf ks) (a : apart (keysOf ks) ≡ true) (k : ℕ) (i : k ≡ indexIn (lexemeOf text t .token) (words list)) where
-  picked : hits ks (tokenOf (lexAt text at)) ≡ single (length ks) k
-  picked = rw (next-token text at t n, i, w) (hits-index ks (lexemeOf text t .token) a)
-
-  refused-at : {B : Type 0} (b : B) (g : Got B) → g ≡ refused 5 (t .start) → reads text (record { refusal = 5; at = t .start }) b ≡ g
-  unfolding reads
-  refused-at b g e = from-off text _ (pure b) (λ q. omega arith) ∙ sym e
-
-  -- no kind's keyword, or one that has stood
-  pub chunk-other : length ks ≤ k → (gs : List (Option A)) → reads text (record { refusal = 5; at = t .start }) gs ≡ kindFrom ks fs (lexAt text at)
-  chunk-other h gs = refused-at gs _ (kind-miss (lexAt text at) ks fs (length ks) k h picked ∙ next-stop text at t n 5)
-
-  pub chunk-again : (z : A) → getD fs k none ≡ some z → (gs : List (Option A)) → reads text (record { refusal = 5; at = t .start }) gs ≡ kindFrom ks fs (lexAt text at)
-  chunk-again z g gs = refused-at gs _ (kind-again (lexAt text at) ks fs (length ks) k z g picked ∙ next-stop text at t n 5)
-
-  -- one that has not stood: what stands in its chunk
-  pub chunk-took : k < length ks → length fs ≡ length ks → getD fs k none ≡ none → (r : Cursor) (z : A) → reads text r z ≡ from text (record { refusal = 0; at = t .end }) (insideAt ks k) → reads text r (set fs k (some z)) ≡ kindFrom ks fs (lexAt text at)
-  unfolding lexemeOf lexeme
-  chunk-took h l g r z p =
-      let p0 = index-plain (lexemeOf text t .token) (words list) (rw (← i, w, keysOf-length) h) in
-      let on = next-rest text at t n (live isPlain (unfold isPlain in refl) (t .kind) _ p0) in
-      sym (kind-hit (lexAt text at) ks fs (length ks) k h l g picked
-      ∙ unfold _>>=_ in (ap (λ (ms : List Lexeme). after (insideAt ks k ms) (λ (y : A). pure (set fs k (some y)))) on
-      ∙ ap (λ (q : Got A). after q (λ (y : A). pure (set fs k (some y)))) (sym (from-on text (record { refusal = 0; at = t .end }) (insideAt ks k) refl) ∙ sym p)
-      ∙ after-reads text r (λ (y : A). pure (set fs k (some y))) z
-      ∙ unfold reads in refl))

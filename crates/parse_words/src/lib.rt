@@ -1,8 +1,8 @@
 // Keywords of a list, and chunks in a free order.
-mod fields;
+mod chunk;
 mod words;
 
-pub use fields::closed_at;
-pub use fields::covers;
+pub use chunk::Chunk;
+pub use chunk::next_chunk;
 pub use words::one_of;
 pub use words::word_index;

@@ -13,7 +13,6 @@ use lib.Seq.{getD-set-same, getD-set-other}
 use Rattle.parse_cursor.specs.Fields.{isSome}
 use Rattle.table_rows.specs.Internal.Overlay.{overlayAt}
 use Rattle.table_rows.specs.Flat.{flat}
-use Rattle.parse_cursor.proofs.FieldFlags.{flags-set}
 use Rattle.table_rows.proofs.Tables.{overlayAt-length, overlayAt-part, overlayAt-below}
 use Rattle.tra4_text.specs.Movement.{Channel}
 use Rattle.tra4_channels.specs.Internal.Held.{keysRead, Stored, Held}
@@ -49,14 +48,11 @@ module _ (fs : List (Option Channel)) (seen : List Bool) (ranges keys : List ℤ
   counted-more : keysRead (set fs k (some c)) ≡ keysRead fs + length c
   counted-more = keys-set fs k c (omega arith) u
 
-  flags-more : map isSome (set fs k (some c)) ≡ set seen k true
-  flags-more = flags-set fs k c ∙ ap (λ (s : List Bool). set s k true) (h .flags)
-
   -- too many, before or now: nothing is told of the table
-  too-many : 4096 < keysRead fs + length c → Held (set fs k (some c)) (set seen k true) ranges (overlayAt (n * 2) (flat c) keys) n true
+  too-many : 4096 < keysRead fs + length c → Held (set fs k (some c)) (map isSome (set fs k (some c))) ranges (overlayAt (n * 2) (flat c) keys) n true
   too-many m =
       record {
-        flags = flags-more;
+        flags = refl;
         width = h .width;
         room = overlayAt-length (n * 2) (flat c) keys ∙ h .room;
         most = h .most;
@@ -67,10 +63,10 @@ module _ (fs : List (Option Channel)) (seen : List Bool) (ranges keys : List ℤ
 
   -- the table with the keys, and how many they are
   module _ (keys′ : List ℤ) (m : ℕ) (t : overlayAt (n * 2) (flat c) keys ≡ keys′) (q : length c ≡ m) where
-    pub held-over : over ≡ true → Held (set fs k (some c)) (set seen k true) ranges keys′ n over
+    pub held-over : over ≡ true → Held (set fs k (some c)) (map isSome (set fs k (some c))) ranges keys′ n over
     held-over e = rw (e, ← t) (too-many (omega (arith, h .many e)))
 
-    pub held-many : over ≡ false → 4096 - n < m → Held (set fs k (some c)) (set seen k true) ranges keys′ n true
+    pub held-many : over ≡ false → 4096 - n < m → Held (set fs k (some c)) (map isSome (set fs k (some c))) ranges keys′ n true
     held-many e f = rw (← t) (too-many (omega (arith, q, h .counted e, h .most)))
 
   -- room for all
@@ -78,10 +74,10 @@ module _ (fs : List (Option Channel)) (seen : List Bool) (ranges keys : List ℤ
     abbrev ranges′ : List ℤ
     ranges′ = set (set ranges (k * 2) (pos n)) (k * 2 + 1) (pos (length c))
 
-    all-held : Held (set fs k (some c)) (set seen k true) ranges′ (overlayAt (n * 2) (flat c) keys) (n + length c) false
+    all-held : Held (set fs k (some c)) (map isSome (set fs k (some c))) ranges′ (overlayAt (n * 2) (flat c) keys) (n + length c) false
     all-held =
         record {
-          flags = flags-more;
+          flags = refl;
           width = length-set (set ranges (k * 2) (pos n)) (k * 2 + 1) (pos (length c)) ∙ length-set ranges (k * 2) (pos n) ∙ h .width;
           room = overlayAt-length (n * 2) (flat c) keys ∙ h .room;
           most = omega (arith, h .most);
@@ -108,5 +104,5 @@ module _ (fs : List (Option Channel)) (seen : List Bool) (ranges keys : List ℤ
             let other = eqb-false _ _ q in
             stored-still keys n (n + length c) (flat c) _ _ _ _ a (others (j * 2) (λ z. other (omega arith)) (λ z. omega arith)) (others (j * 2 + 1) (λ z. omega arith) (λ z. other (omega arith))) (omega arith) (h .stored e j a (sym (getD-set-other fs k j (some c) none other) ∙ g))
 
-  pub held-more : (keys′ : List ℤ) (m : ℕ) → overlayAt (n * 2) (flat c) keys ≡ keys′ → length c ≡ m → Pairs c → over ≡ false → m ≤ 4096 - n → Held (set fs k (some c)) (set seen k true) (set (set ranges (k * 2) (pos n)) (k * 2 + 1) (pos m)) keys′ (n + m) over
+  pub held-more : (keys′ : List ℤ) (m : ℕ) → overlayAt (n * 2) (flat c) keys ≡ keys′ → length c ≡ m → Pairs c → over ≡ false → m ≤ 4096 - n → Held (set fs k (some c)) (map isSome (set fs k (some c))) (set (set ranges (k * 2) (pos n)) (k * 2 + 1) (pos m)) keys′ (n + m) over
   held-more keys′ m t q w e f = rw (e, ← t, ← q) (all-held w e (omega arith))

@@ -1,13 +1,13 @@
 // A bone's ten channels, in any order, each once: their keys to a table in text order, and where each channel's stand.
 ghost use mathlib.Core.Path.{_≡_};
-ghost use mathlib.Core.Bool.{false};
 ghost use mathlib.Core.List.{map};
 ghost use Prim.Native.Nat.{_<_, _≤_};
-ghost use lib.ListN.{length, replicate};
+ghost use lib.ListN.{length};
 ghost use Rattle.text_tokens.specs.Tokens.{lexAt};
 ghost use Rattle.parse_cursor.specs.Fields.{isSome, fields};
 ghost use Rattle.tra4_text.specs.Grammar.{channelKinds};
-ghost use Rattle.tra4_channels.specs.Internal.Held.{Held, Reached, KeysRead, ChunkRead};
+ghost use Rattle.parse_words.specs.Internal.Heads.{Reached};
+ghost use Rattle.tra4_channels.specs.Internal.Held.{Held, KeysRead};
 use parse_cursor::Cursor;
 use parse_numbers::Form;
 
@@ -22,7 +22,7 @@ pub struct Keyed {
 // The keys of channel k, to the table after those that stand there, and their first row and count to the ranges.
 fn channel_keys(
     text: &[u8],
-    at: usize,
+    c: Cursor,
     k: usize,
     ranges: &mut [i64],
     keys: &mut [i64],
@@ -30,10 +30,9 @@ fn channel_keys(
     over: bool,
 ) -> Keyed
     requires { ⌜ (k < 10) × (length (now ranges) ≡ 20) × (length (now keys) ≡ 8192) × (count ≤ 4096) ⌝ }
-    ensures { λ r. ⌜ KeysRead (now (text .entry)) at k (now (ranges .entry), now (keys .entry), count, over) (r .cursor) (now (ranges .exit), now (keys .exit), r .count, r .over) ⌝ }
+    ensures { λ r. ⌜ KeysRead (now (text .entry)) c k (now (ranges .entry), now (keys .entry), count, over) (r .cursor) (now (ranges .exit), now (keys .exit), r .count, r .over) ⌝ }
 {
-    let inside = Cursor { refusal: 0, at };
-    let read = parse_rows::some_rows(text, inside, b"kf", 1, Form::Float, 1, keys, count * 2);
+    let read = parse_rows::some_rows(text, c, b"kf", 1, Form::Float, 1, keys, count * 2);
     let d = read.cursor;
     let n = read.count;
     let unset = Keyed {
@@ -62,92 +61,36 @@ fn channel_keys(
     }
 }
 
-// One chunk after its opening bracket: the channel of its keyword is read, where it has not been.
-fn channel_chunk(
-    text: &[u8],
-    at: usize,
-    seen: &mut [bool],
-    ranges: &mut [i64],
-    keys: &mut [i64],
-    count: usize,
-    over: bool,
-) -> Keyed
-    requires { ⌜ (length (now seen) ≡ 10) × (length (now ranges) ≡ 20) × (length (now keys) ≡ 8192) × (count ≤ 4096) ⌝ }
-    ensures { λ r. ⌜ ChunkRead (now (text .entry)) at (now (seen .entry), now (ranges .entry), now (keys .entry), count, over) (r .cursor) (now (seen .exit), now (ranges .exit), now (keys .exit), r .count, r .over) ⌝ }
+// The chunks of the channels up to the closing bracket of their bone, all ten of which must have stood.
+fn channel_chunks(text: &[u8], at: usize, ranges: &mut [i64], keys: &mut [i64]) -> Keyed
+    requires { ⌜ (length (now ranges) ≡ 20) × (length (now keys) ≡ 8192) ⌝ }
+    ensures { λ r. ⌜ Reached (now (text .entry)) (r .cursor) (fields channelKinds (lexAt (now (text .entry)) at)) (λ gs. Held gs (map isSome gs) (now (ranges .exit)) (now (keys .exit)) (r .count) (r .over)) ⌝ }
 {
-    let t = text_tokens::next(text, at);
-    let refused = Keyed {
-        cursor: Cursor {
-            refusal: 5,
-            at: t.start,
-        },
-        count,
-        over,
-    };
-    let k = parse_words::word_index(
-        text,
-        t,
-        b"translate.x translate.y translate.z scale.x scale.y scale.z rotate.x rotate.y rotate.z roll",
-    );
-    if 10 <= k {
-        return refused;
-    }
-    if seen[k] {
-        return refused;
-    }
-    seen[k] = true;
-    channel_keys(text, t.end, k, ranges, keys, count, over)
-}
-
-// The chunks of the channels up to the closing bracket of their bone, from flags that are all clear: all ten must have stood.
-fn channel_chunks(
-    text: &[u8],
-    at: usize,
-    seen: &mut [bool],
-    ranges: &mut [i64],
-    keys: &mut [i64],
-) -> Keyed
-    requires { ⌜ (now seen ≡ replicate 10 false) × (length (now ranges) ≡ 20) × (length (now keys) ≡ 8192) ⌝ }
-    ensures { λ r. ⌜ Reached (now (text .entry)) (r .cursor) (fields channelKinds (lexAt (now (text .entry)) at)) (λ gs. Held gs (now (seen .exit)) (now (ranges .exit)) (now (keys .exit)) (r .count) (r .over)) ⌝ }
-{
-    let mut from = at;
+    let mut seen = [false; 10];
+    let mut d = Cursor { refusal: 0, at };
     let mut left: usize = 10;
     let mut count: usize = 0;
     let mut over = false;
     loop {
-        let t = text_tokens::next(text, from);
-        let kind = t.kind;
-        let refused = Keyed {
-            cursor: Cursor {
-                refusal: 5,
-                at: t.start,
-            },
-            count,
-            over,
-        };
-        if parse_cursor::is_closing(kind) {
+        let h = parse_words::next_chunk(
+            text,
+            d,
+            b"translate.x translate.y translate.z scale.x scale.y scale.z rotate.x rotate.y rotate.z roll",
+            &[true, true, true, true, true, true, true, true, true, true],
+            &mut seen,
+            left,
+        );
+        let inside = h.cursor;
+        let k = h.kind;
+        if 10 <= k {
             return Keyed {
-                cursor: parse_words::closed_at(
-                    t,
-                    &[true, true, true, true, true, true, true, true, true, true],
-                    seen,
-                ),
+                cursor: inside,
                 count,
                 over,
             };
         }
-        if left == 0 {
-            return refused;
-        }
-        if !parse_cursor::is_opening(kind) {
-            return refused;
-        }
-        let m = channel_chunk(text, t.end, seen, ranges, keys, count, over);
-        let d = m.cursor;
-        if d.refusal != 0 {
-            return m;
-        }
-        from = d.at;
+        let m = channel_keys(text, inside, k, ranges, keys, count, over);
+        d = m.cursor;
         count = m.count;
         over = m.over;
         left -= 1;
@@ -159,6 +102,5 @@ fn channel_chunks(
 pub fn channels(text: &[u8], at: usize, ranges: &mut [i64; 20], keys: &mut [i64; 8192]) -> Keyed
     ensures { λ r. ⌜ Reached (now (text .entry)) (r .cursor) (fields channelKinds (lexAt (now (text .entry)) at)) (λ gs. Held gs (map isSome gs) (now (ranges .exit)) (now (keys .exit)) (r .count) (r .over)) ⌝ }
 {
-    let mut seen = [false; 10];
-    channel_chunks(text, at, &mut seen, ranges, keys)
+    channel_chunks(text, at, ranges, keys)
 }

@@ -1,27 +1,24 @@
 -- A bone read, and what the code keeps of it: its row and the claims of its entries.
 use mathlib.Core.Path.{_≡_}
-use mathlib.Core.List.{List, [], _∷_, _++_, map}
+use mathlib.Core.List.{List, [], _∷_, _++_}
 use mathlib.Core.Bool.{Bool}
 use mathlib.Core.Option.{Option, none, some}
 use Prim.Native.Nat.{ℕ, zero, suc, _+_}
 use lib.IntN.{ℤ, pos}
 use lib.ListN.{getD, set}
 use Rattle.parse_cursor.specs.declared.cursor.Cursor.{Cursor}
-use Rattle.text_tokens.specs.Tokens.{lexAt}
 use Rattle.parse_cursor.specs.Readers.{Got, Reader, _>>=_, _>>_, pure, keyword}
-use Rattle.parse_cursor.specs.Internal.Cursors.{reads}
+use Rattle.parse_words.specs.Internal.Heads.{Reached}
 use Rattle.table_rows.specs.Internal.Overlay.{overlayAt}
-use Rattle.parse_cursor.specs.Fields.{isSome, kindFrom, fields}
+use Rattle.parse_cursor.specs.Fields.{fields}
 use Rattle.bac6_text.specs.Figure.{Bone}
 use Rattle.bac6_text.specs.Grammar.{BoneField, nameIn, flagIn, numbersIn, boneOf, boneKinds, bone}
 use Rattle.bac6_text.specs.Layout.{nameNumbers, boneRow}
 use Rattle.bac6_bone_rules.specs.Internal.Claims.{claimed}
 
 -- where a reader leaves a cursor: the value that it read, and what the code keeps of that where the cursor has not refused
-pub record Yields {A S : Type 0} (text : List ℕ) (r : Cursor) (g : Got A) (f : A → S) (s : S) : Type 0 where
-  pub value : A
-  pub read : reads text r value ≡ g
-  pub kept : r .refusal ≡ 0 → f value ≡ s
+abbrev pub Yields : {A S : Type 0} → List ℕ → Cursor → Got A → (A → S) → S → Type 0
+Yields text r g f s = Reached text r g (λ a. f a ≡ s)
 
 -- three numbers, each 0 where it has not been read
 unfoldable pub three : List ℤ → List ℤ
@@ -35,9 +32,9 @@ boneNumbers fs =
     ++ three (numbersIn (getD fs 5 none))
     ++ (flagIn (getD fs 1 none) ∷ flagIn (getD fs 2 none) ∷ pos 0 ∷ nameNumbers (nameIn (getD fs 0 none)))
 
--- what the code keeps of fields: which have been read, the row, and the claims after those before the bone
-unfoldable pub boneState : ℕ → ℤ → Bool × List ℤ → List (Option BoneField) → List Bool × List ℤ × (Bool × List ℤ)
-boneState n bone s fs = (map isSome fs, boneNumbers fs, claimed n bone s (numbersIn (getD fs 6 none)))
+-- what the code keeps of fields: the row, and the claims after those before the bone
+unfoldable pub boneState : ℕ → ℤ → Bool × List ℤ → List (Option BoneField) → List ℤ × (Bool × List ℤ)
+boneState n bone s fs = (boneNumbers fs, claimed n bone s (numbersIn (getD fs 6 none)))
 
 -- what the field of a kind does to the row
 unfoldable pub putRow : ℕ → List ℤ → BoneField → List ℤ
@@ -49,9 +46,19 @@ putRow (suc (suc (suc (suc zero)))) row f = overlayAt 3 (three (numbersIn (some 
 putRow (suc (suc (suc (suc (suc zero))))) row f = overlayAt 6 (three (numbersIn (some f))) row
 putRow (suc (suc (suc (suc (suc (suc k)))))) row f = row
 
--- one chunk after its (, whatever fields the code's state stands for
-abbrev pub ChunkRead : List ℕ → ℕ → ℕ → ℤ → List Bool × List ℤ × (Bool × List ℤ) → Cursor → List Bool × List ℤ × (Bool × List ℤ) → Type 0
-ChunkRead text at n bone entry r exit = (fs : List (Option BoneField)) (s : Bool × List ℤ) → boneState n bone s fs ≡ entry → Yields text r (kindFrom boneKinds fs (lexAt text at)) (boneState n bone s) exit
+-- and to the claims
+unfoldable pub putClaims : ℕ → ℤ → ℕ → Bool × List ℤ → BoneField → Bool × List ℤ
+putClaims n bone zero s f = s
+putClaims n bone (suc zero) s f = s
+putClaims n bone (suc (suc zero)) s f = s
+putClaims n bone (suc (suc (suc zero))) s f = s
+putClaims n bone (suc (suc (suc (suc zero)))) s f = s
+putClaims n bone (suc (suc (suc (suc (suc zero))))) s f = s
+putClaims n bone (suc (suc (suc (suc (suc (suc k)))))) s f = claimed n bone s (numbersIn (some f))
+
+-- and so to what the code keeps
+abbrev pub putField : ℕ → ℤ → ℕ → List ℤ × (Bool × List ℤ) → BoneField → List ℤ × (Bool × List ℤ)
+putField n bone k s f = (putRow k (s .0) f, putClaims n bone k (s .1) f)
 
 -- what stands in a bone after its (
 unfoldable pub boneTail : Reader Bone

@@ -1,20 +1,13 @@
--- Readers of rows that write to a table, and what their parts leave.
-use mathlib.Core.Path.{_≡_}
+-- Readers of rows that write to a table.
 use mathlib.Core.List.{List, map}
-use mathlib.Core.Bool.{Bool}
 use Prim.Native.Nat.{ℕ}
 use lib.IntN.{ℤ}
 use lib.ListN.{length}
 use Rattle.parse_cursor.specs.Readers.{Reader, _>>=_, _>>_, pure, keyword, many⁺}
 use Rattle.parse_cursor.specs.Fields.{fields}
-use Rattle.parse_cursor.specs.Internal.Fields.{fieldsOf}
 use Rattle.table_rows.specs.Flat.{flat}
 use Rattle.table_rows.specs.Internal.Overlay.{overlayAt}
 use Rattle.bac6_text.specs.Grammar.{orZero, materialKinds, material}
-
--- a field that has not been read is 0
-abbrev pub Settled : List Bool → List ℤ → Type 0
-Settled seen row = map orZero (fieldsOf seen row) ≡ row
 
 -- what stands in a material after its (
 unfoldable pub materialTail : Reader (List ℤ)

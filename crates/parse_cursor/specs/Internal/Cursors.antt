@@ -1,10 +1,9 @@
 -- What a cursor of the code says of the tokens, and of a table that rows are written to.
 use mathlib.Core.List.{List}
-use mathlib.Core.Bool.{Bool, true, false}
+use mathlib.Core.Bool.{true, false}
 use Prim.Native.Nat.{ℕ}
 use lib.Dec.{eqb}
 use Rattle.text_tokens.specs.Tokens.{lexAt}
-use Rattle.text_tokens.specs.declared.token.Span.{Span}
 use Rattle.parse_cursor.specs.declared.cursor.Cursor.{Cursor}
 use Rattle.parse_cursor.specs.Readers.{Got, refused, Reader, pure}
 
@@ -15,8 +14,3 @@ from text c r = elim (eqb (c .refusal) 0) [ true ↦ r (lexAt text (c .at)) | fa
 -- a value and the tokens from the cursor's offset on, or its refusal
 unfoldable pub reads : {A : Type 0} → List ℕ → Cursor → A → Got A
 reads text c a = from text c (pure a)
-
--- past a closing bracket that may stand there, or refused at it
-unfoldable pub closedAt : Span → Bool → Cursor
-closedAt t true = record { refusal = 0; at = t .end }
-closedAt t false = record { refusal = 5; at = t .start }

@@ -1,7 +1,6 @@
 -- Chunks in a free order, each at most once.
 use mathlib.Core.List.{List, [], _∷_}
 use mathlib.Core.Bool.{Bool, true, false, not, _&&_, _||_}
-use mathlib.Core.Option.{Option, none, some}
 use Prim.Native.Nat.{ℕ, zero, suc}
 use Rattle.text_bytes.specs.Bytes.{bytes}
 use Rattle.text_tokens.specs.Tokens.{Token, isKeyword}
@@ -23,16 +22,6 @@ unfoldable pub insideAt : {A : Type 0} → List (Kind A) → ℕ → Reader A
 insideAt [] k = stop 5
 insideAt (kd ∷ ks) zero = kd .inside
 insideAt (kd ∷ ks) (suc k) = insideAt ks k
-
--- the fields that an array of flags and one of values hold
-unfoldable pub fieldOf : {A : Type 0} → Bool → A → Option A
-fieldOf true a = some a
-fieldOf false a = none
-
-unfoldable pub fieldsOf : {A : Type 0} → List Bool → List A → List (Option A)
-fieldsOf [] row = []
-fieldsOf (b ∷ seen) [] = []
-fieldsOf (b ∷ seen) (a ∷ row) = fieldOf b a ∷ fieldsOf seen row
 
 -- which kinds must stand, and whether flags cover those that must
 unfoldable pub neededOf : {A : Type 0} → List (Kind A) → List Bool

@@ -6,12 +6,11 @@ use mathlib.Core.Option.{Option, none, some}
 use Prim.Native.Nat.{ℕ, _+_, _*_, _≤_, _<_}
 use lib.IntN.{ℤ, pos}
 use lib.ListN.{length, getD, set, take, drop}
-use Rattle.text_tokens.specs.Tokens.{lexAt}
 use Rattle.parse_cursor.specs.declared.cursor.Cursor.{Cursor}
-use Rattle.parse_cursor.specs.Readers.{Got}
-use Rattle.parse_cursor.specs.Internal.Cursors.{reads}
-use Rattle.parse_cursor.specs.Fields.{isSome, kindFrom}
+use Rattle.parse_cursor.specs.Internal.Cursors.{from}
+use Rattle.parse_cursor.specs.Fields.{isSome}
 use Rattle.parse_cursor.specs.Internal.Fields.{insideAt}
+use Rattle.parse_words.specs.Internal.Heads.{Reached}
 use Rattle.table_rows.specs.Flat.{flat}
 use Rattle.tra4_text.specs.Movement.{Channel}
 use Rattle.tra4_text.specs.Grammar.{channelKinds, keysIn}
@@ -39,21 +38,10 @@ pub record Held (fs : List (Option Channel)) (seen : List Bool) (ranges keys : L
   pub many : over ≡ true → 4096 < keysRead fs
   pub stored : over ≡ false → (k : ℕ) (c : Channel) → getD fs k none ≡ some c → Stored keys n (getD ranges (k * 2) (pos 0)) (getD ranges (k * 2 + 1) (pos 0)) c
 
--- where a reader leaves a cursor: the value that it read, and what holds of that where the cursor has not refused
-pub record Reached {A : Type 0} (text : List ℕ) (r : Cursor) (g : Got A) (P : A → Type 0) : Type 0 where
-  pub value : A
-  pub read : reads text r value ≡ g
-  pub kept : r .refusal ≡ 0 → P value
-
 -- the keys of channel k, which has not been read, whatever other channels the code's state stands for
-abbrev pub KeysRead : List ℕ → ℕ → ℕ → List ℤ × List ℤ × ℕ × Bool → Cursor → List ℤ × List ℤ × ℕ × Bool → Type 0
-KeysRead text at k s r t =
-    (fs : List (Option Channel)) (seen : List Bool) → length fs ≡ 10 → getD fs k none ≡ none → Held fs seen (s .0) (s .1) (s .2) (s .3) → Reached text r (insideAt channelKinds k (lexAt text at)) (λ c. Held (set fs k (some c)) (set seen k true) (t .0) (t .1) (t .2) (t .3))
-
--- one chunk after its (, whatever channels the code's state stands for
-abbrev pub ChunkRead : List ℕ → ℕ → List Bool × List ℤ × List ℤ × ℕ × Bool → Cursor → List Bool × List ℤ × List ℤ × ℕ × Bool → Type 0
-ChunkRead text at s r t =
-    (fs : List (Option Channel)) → length fs ≡ 10 → Held fs (s .0) (s .1) (s .2) (s .3) (s .4) → Reached text r (kindFrom channelKinds fs (lexAt text at)) (λ gs. Held gs (t .0) (t .1) (t .2) (t .3) (t .4))
+abbrev pub KeysRead : List ℕ → Cursor → ℕ → List ℤ × List ℤ × ℕ × Bool → Cursor → List ℤ × List ℤ × ℕ × Bool → Type 0
+KeysRead text c k s r t =
+    (fs : List (Option Channel)) → length fs ≡ 10 → getD fs k none ≡ none → Held fs (map isSome fs) (s .0) (s .1) (s .2) (s .3) → Reached text r (from text c (insideAt channelKinds k)) (λ a. Held (set fs k (some a)) (map isSome (set fs k (some a))) (t .0) (t .1) (t .2) (t .3))
 
 -- every channel has been read
 pub record AllHeld (ranges keys : List ℤ) (n : ℕ) (over : Bool) : Type 0 where

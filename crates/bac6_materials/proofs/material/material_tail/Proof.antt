@@ -1,7 +1,7 @@
 -- `material_tail` is a material's row, set down in the table.
 use mathlib.Core.Path.{refl}
 use Rattle.text_bytes.specs.Bytes.{bytes}
-use Rattle.bac6_materials.proofs.Chunks.{unread-fields, unread-settled, material-off, material-on}
+use Rattle.bac6_materials.proofs.Chunks.{material-on}
 use borrow.Author.Needs.{needs}
 use Rattle.bac6_materials.proofs.material.material_tail.Statement.{statement}
 use Rattle.bac6_materials.proofs.material.material_tail.Tie as tie
@@ -12,18 +12,11 @@ slice-aggregate-keyword c = search needs
 keyword-requires : tie.Need-keyword-requires
 keyword-requires c κs = search needs
 
-returns : tie.Need-returns
-unfolding bytes
-returns c = material-off _ _ _ _ _ _ (c .before .before .keyword .ensures) (c .if1 .taken)
-
 slice-aggregate-material-fields : tie.Need-slice-aggregate-material-fields
 slice-aggregate-material-fields c = search needs
 
-slice-aggregate-material-fields-2 : tie.Need-slice-aggregate-material-fields-2
-slice-aggregate-material-fields-2 c = search needs
-
 material-fields-requires : tie.Need-material-fields-requires
-material-fields-requires c κs = ((refl, refl), unread-settled)
+material-fields-requires c κs = refl
 
 slice-aggregate-store : tie.Need-slice-aggregate-store
 slice-aggregate-store c = search needs
@@ -34,13 +27,11 @@ store-requires c κs = search needs
 same-length : tie.Need-same-length
 same-length c = search needs
 
-returns-2 : tie.Need-returns-2
+returns : tie.Need-returns
 unfolding bytes
-returns-2 c =
-    let f = c .before .before .before .before .before .before in
-    let e = f .before .before .before in
-    rw (c .before .store .ensures)
-    (material-on _ _ _ _ _ _ _ _ (e .before .before .keyword .ensures) (e .if1 .left) (rw unread-fields at (f .material-fields .ensures .0)) (f .material-fields .ensures .1))
+returns c =
+    let f = c .before .before .before .before .before in
+    rw (c .before .store .ensures) (material-on _ _ _ _ _ _ _ (f .before .before .keyword .ensures) (f .material-fields .ensures))
 
 pub material-tail-spec : {M : Type 1} → statement M
 material-tail-spec =
@@ -48,11 +39,9 @@ material-tail-spec =
     (tie.spec
     slice-aggregate-keyword
     keyword-requires
-    returns
     slice-aggregate-material-fields
-    slice-aggregate-material-fields-2
     material-fields-requires
     slice-aggregate-store
     store-requires
     same-length
-    returns-2)
+    returns)

@@ -54,11 +54,11 @@ returns-3 c =
 mul-store : tie.Need-mul-store
 mul-store c = search needs
 
+cast-t24 : tie.Need-cast-t24
+cast-t24 c = search needs
+
 cast-t25 : tie.Need-cast-t25
 cast-t25 c = search needs
-
-cast-t26 : tie.Need-cast-t26
-cast-t26 c = search needs
 
 slice-aggregate-store : tie.Need-slice-aggregate-store
 slice-aggregate-store c = search needs
@@ -66,8 +66,8 @@ slice-aggregate-store c = search needs
 store-requires : tie.Need-store-requires
 store-requires c κs = search needs
 
-add-t19 : tie.Need-add-t19
-add-t19 c = search needs
+add-t18 : tie.Need-add-t18
+add-t18 c = search needs
 
 same-length-4 : tie.Need-same-length-4
 same-length-4 c = search needs
@@ -100,11 +100,11 @@ channel-keys-spec =
     same-length-3
     returns-3
     mul-store
+    cast-t24
     cast-t25
-    cast-t26
     slice-aggregate-store
     store-requires
-    add-t19
+    add-t18
     same-length-4
     same-length-5
     returns-4)

@@ -1,17 +1,13 @@
--- `channels` is its chunks, from flags that are all clear.
-use Rattle.tra4_channels.proofs.Turns.{unflagged}
+-- `channels` is its chunks.
 use borrow.Author.Needs.{needs}
 use Rattle.tra4_channels.proofs.channel.channels.Statement.{statement}
 use Rattle.tra4_channels.proofs.channel.channels.Tie as tie
-
-slice-aggregate-channel-chunks : tie.Need-slice-aggregate-channel-chunks
-slice-aggregate-channel-chunks c = search needs
 
 channel-chunks-requires : tie.Need-channel-chunks-requires
 channel-chunks-requires c κs = search needs
 
 returns : tie.Need-returns
-returns c = unflagged (c .before .channel-chunks .ensures)
+returns c = c .channel-chunks .ensures
 
 pub channels-spec : {M : Type 1} → statement M
-channels-spec = tie.close (tie.spec slice-aggregate-channel-chunks channel-chunks-requires returns)
+channels-spec = tie.close (tie.spec channel-chunks-requires returns)
