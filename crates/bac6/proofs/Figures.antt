@@ -42,7 +42,7 @@ use Rattle.bac6.specs.Internal.Places.{Within, totalOf}
 use Rattle.bac6.specs.Answers.{refusedWith, answerOf}
 use Rattle.bac6.specs.Internal.Answers.{downAnswer, downTable, laidNumbers}
 use Rattle.bac6.specs.Internal.Checks.{rulesFault, Held}
-use Rattle.bac6.proofs.Limits.{within-by, within-counts}
+use Rattle.bac6.proofs.Limits.{within-by, within-counts, rows-few}
 use Rattle.bac6.proofs.Numbers.{front, after, zeros, zeros-count, rows-same, rows-length, materials-part, bones-part, front-part, faces-part, first-part, second-part, parents, layout-parts, layout-length, groups-wide, groups-count}
 use Rattle.bac6.proofs.Settings.{answer-is, table-is, refused-answer, refused-table}
 
@@ -132,13 +132,10 @@ module _ {p : Parsed} {rows owners names : List ℤ} (h : Held p rows owners nam
     abbrev rest : List ℤ
     rest = drop (length (rowNumbers f)) (h .rows-entry)
 
-    few : rowsEnd (figureCounts f) ≤ 34912
-    few = omega (arith, v .textures, v .colours, v .materials, v .points, v .normals, v .bones, v .uvs, v .faces)
-
     rows-held : rows ≡ (front f whole ++ flat (boneRows (f .bones) (zeros f whole)) ++ flat (f .uvs) ++ flat (faceRows f)) ++ rest
     rows-held =
         rows-are
-        ∙ overlay-whole (rowNumbers f) (h .rows-entry) (rw (rows-length f whole, h .rows-most) few)
+        ∙ overlay-whole (rowNumbers f) (h .rows-entry) (rw (rows-length f whole, h .rows-most) (rows-few (figureCounts f) v))
         ∙ ap (λ (l : List ℤ). l ++ rest) (rows-same f whole)
 
     claims-same : claims .0 ≡ verticesFault (length (f .points)) [] 0 (f .bones)

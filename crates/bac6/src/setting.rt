@@ -30,13 +30,13 @@ pub(crate) fn refused(number: usize, place: usize) -> FigureAnswer
     }
 }
 
-// How many numbers the layout has.
+// How many numbers the layout has, by where the rows end in a table for the most of each list.
 fn total_of(n: FigureCounts) -> usize
     requires { ⌜ Within n ⌝ }
     ensures { λ r. ⌜ r ≡ totalOf n ⌝ }
 {
-    let front = n.textures * 2 + n.colours * 3 + n.materials * 9 + n.points * 3 + n.normals * 3;
-    2 + (front + n.bones * 14 + n.uvs * 2 + n.faces * 11) + n.points + n.groups * 2
+    let e = bac6_layout::row_ends(n, 34912);
+    2 + e.faces + n.points + n.groups * 2
 }
 
 // Lays the lists; or refuses a table that is too short (17).

@@ -1,10 +1,11 @@
 -- What parsing leaves in the tables is what the grammar's movement has: both sequences of readers are walked side by side.
-use mathlib.Core.Path.{_≡_, refl, sym, _∙_}
+use mathlib.Core.Path.{_≡_, refl, ap, sym, _∙_}
 use mathlib.Core.List.{List, []}
 use mathlib.Core.Option.{some}
-use Prim.Native.Nat.{ℕ}
+use Prim.Native.Nat.{ℕ, _≤_}
 use lib.IntN.{ℤ}
 use lib.ListN.{length}
+use Rattle.refusal.specs.Outcomes.{rejected, ruled}
 use Rattle.text_numbers.specs.Numbers.{INT}
 use Rattle.text_tokens.specs.Tokens.{Lexeme, lex, lexAt}
 use Rattle.parse_cursor.specs.declared.cursor.Cursor.{Cursor}
@@ -18,13 +19,18 @@ use Rattle.parse_cursor.proofs.Steps.{from-on, from-off}
 use Rattle.parse_cursor.proofs.Many.{not-got, got-value}
 use Rattle.parse_cursor.proofs.Given.{before}
 use Rattle.parse_cursor.proofs.Sequences.{into-then, into-bind}
+use Rattle.parse_text.specs.Texts.{shaped}
+use Rattle.parse_text.proofs.Outcomes.{shape-rejected}
 use Rattle.tra4_text.specs.Movement.{Bone, Pattern, Movement}
 use Rattle.tra4_text.specs.Grammar.{bone, pattern, repeated⁺, movement}
+use Rattle.tra4_text.specs.Rules.{movementFault}
 use Rattle.tra4_bones.specs.Internal.Into.{boneStep, bonesInto}
 use Rattle.tra4_bone.specs.Internal.Into.{Kept}
+use Rattle.tra4_parse.specs.declared.shape.Parsed.{Parsed}
 use Rattle.tra4_parse.specs.Internal.Patterns.{patternsInto}
 use Rattle.tra4_parse.specs.Internal.Parse.{MovementValue, movementValue, movementInto}
 use Rattle.tra4.specs.Internal.Parse.{valueOf}
+use Rattle.tra4.specs.Internal.Checks.{parsedAs, Held}
 
 pure-after : {A : Type 0} (g : Got A) → after g (λ a. pure a) ≡ g
 unfolding after pure
@@ -76,28 +82,49 @@ module _ (rows keys lines : List ℤ) where
 
 -- ---- what a parsed text says of the grammar's movement
 
--- the movement that was read, and what parsing keeps of it
-pub record Found (text : List ℕ) (rows keys lines : List ℤ) (x : MovementValue) : Type 0 where
-  pub read : Movement
-  pub left : List Lexeme
-  pub gives : movement (lex text) ≡ got read left
-  pub value : valueOf rows keys lines read ≡ x
+-- what was held, of the text's own movement
+pub record HeldOf (text : List ℕ) (p : Parsed) (b k g : List ℤ) : Type 0 where
+  pub held : Held p b k g
+  pub same : ruled (held .read) (movementFault (held .read)) ≡ shaped movementFault (movement (lex text))
 
-module _ (text : List ℕ) (rows keys lines : List ℤ) (d : Cursor) (x : MovementValue) (e : reads text d x ≡ movementInto rows keys lines (lex text)) where
+module _ (text : List ℕ) (rows keys lines : List ℤ) (p : Parsed) (b k g : List ℤ) (e : reads text (p .cursor) (parsedAs p b k g) ≡ movementInto rows keys lines (lex text)) where
+  abbrev d : Cursor
+  d = p .cursor
+
+  abbrev x : MovementValue
+  x = parsedAs p b k g
+
   same-movement : reads text d x ≡ after (movement (lex text)) (λ m. pure (valueOf rows keys lines m))
   unfolding _>>=_
   same-movement = e ∙ sym (movement-same rows keys lines (lex text))
 
-  pub parsed-found : d .refusal ≡ 0 → Found text rows keys lines x
-  unfolding reads pure
-  parsed-found z =
-      let b = before (movement (lex text)) (λ m. pure (valueOf rows keys lines m)) x (lexAt text (d .at)) (sym same-movement ∙ from-on text d (pure x) z) in
-      record { read = b .value; left = b .left; gives = b .first; value = got-value _ _ _ _ (b .second) }
+  pub shape-held : d .refusal ≡ 0 → length text ≤ 65536 → length rows ≡ 2816 → length keys ≡ 8192 → length lines ≡ 768 → HeldOf text p b k g
+  unfolding reads pure shaped
+  shape-held z s r o n =
+      let f = before (movement (lex text)) (λ m. pure (valueOf rows keys lines m)) x (lexAt text (d .at)) (sym same-movement ∙ from-on text d (pure x) z) in
+      record {
+        held =
+            record {
+              text = text;
+              short = s;
+              read = f .value;
+              left = f .left;
+              gives = f .first;
+              bones-entry = rows;
+              keys-entry = keys;
+              patterns-entry = lines;
+              bones-most = r;
+              keys-most = o;
+              patterns-most = n;
+              kept-as = got-value _ _ _ _ (f .second);
+            };
+        same = ap (shaped movementFault) (sym (f .first));
+      }
 
-  pub parsed-refused : (d .refusal ≡ 0 → ⊥) → movement (lex text) ≡ refused (d .refusal) (d .at)
+  pub shape-refused : (d .refusal ≡ 0 → ⊥) → shaped movementFault (movement (lex text)) ≡ rejected (d .refusal) (d .at)
   unfolding reads after pure
-  parsed-refused z = go (movement (lex text)) (sym same-movement ∙ from-off text d (pure x) z)
+  shape-refused z = shape-rejected movementFault (go (movement (lex text)) (sym same-movement ∙ from-off text d (pure x) z))
     where
-      go : (g : Got Movement) → after g (λ m. pure (valueOf rows keys lines m)) ≡ refused (d .refusal) (d .at) → g ≡ refused (d .refusal) (d .at)
+      go : (r : Got Movement) → after r (λ m. pure (valueOf rows keys lines m)) ≡ refused (d .refusal) (d .at) → r ≡ refused (d .refusal) (d .at)
       go (got m l) h = absurd (not-got (d .refusal) (d .at) (valueOf rows keys lines m) l (sym h))
-      go (refused n p) h = let a : n ≡ d .refusal = cc in let b : p ≡ d .at = cc in rw (a, b)
+      go (refused n i) h = let q : n ≡ d .refusal = cc in let w : i ≡ d .at = cc in rw (q, w)

@@ -3,19 +3,20 @@ ghost use mathlib.Core.Path.{_≡_};
 ghost use Prim.Native.Nat.{_≤_};
 ghost use lib.ListN.{length};
 ghost use Rattle.text_tokens.specs.Tokens.{lex};
-ghost use Rattle.refusal.specs.Outcomes.{fitted, laid};
+ghost use Rattle.refusal.specs.Outcomes.{fitted, laid, ruled};
 ghost use Rattle.parse_text.specs.Texts.{shaped};
 ghost use Rattle.tra4_text.specs.Grammar.{movement};
 ghost use Rattle.tra4_text.specs.Rules.{movementFault};
 ghost use Rattle.tra4_text.specs.Layout.{layoutOf};
 ghost use Rattle.tra4_text.specs.Answer.{movementAnswer, movementTable};
 ghost use Rattle.tra4.specs.Answers.{answerOf};
-ghost use Rattle.tra4.specs.Internal.Answers.{Blank, keyCount};
+ghost use Rattle.tra4.specs.Internal.Checks.{Held, keyCount};
 use crate::setting::MovementAnswer;
 use crate::setting::refused;
 use crate::setting::set_down;
 use refusal::Checked;
 use text_check::Format;
+use tra4_parse::Parsed;
 use tra4_parse::parse;
 
 // The answer is document 01's, and the table holds the layout from its start on; or, where refused, what it held.
@@ -38,13 +39,12 @@ fn read_shape(text: &[u8], table: &mut [i64]) -> MovementAnswer
     let mut bone_rows = [0i64; 2816];
     let mut key_rows = [0i64; 8192];
     let mut pattern_rows = [0i64; 768];
-    read_into(
-        text,
-        table,
-        &mut bone_rows,
-        &mut key_rows,
-        &mut pattern_rows,
-    )
+    let p = parse(text, &mut bone_rows, &mut key_rows, &mut pattern_rows);
+    let d = p.cursor;
+    if d.refusal != 0 {
+        return refused(d.refusal, d.at);
+    }
+    read_rows(table, p, &bone_rows, &key_rows, &pattern_rows)
 }
 
 // How many keys there are, or one more than the most where there are too many.
@@ -54,23 +54,18 @@ fn key_count(over: bool, keys: usize) -> usize
     if over { 4097 } else { keys }
 }
 
-// The text is parsed, the rules run over the rows, and the lent table is written where all of them hold.
-fn read_into(
-    text: &[u8],
+// The rules run over the rows, and the lent table is written where all of them hold.
+fn read_rows(
     table: &mut [i64],
-    bone_rows: &mut [i64; 2816],
-    key_rows: &mut [i64; 8192],
-    pattern_rows: &mut [i64; 768],
+    p: Parsed,
+    bone_rows: &[i64],
+    key_rows: &[i64],
+    pattern_rows: &[i64],
 ) -> MovementAnswer
-    requires { ⌜ Blank (now text) (now «bone_rows») (now «key_rows») (now «pattern_rows») ⌝ }
-    ensures answer { λ r. ⌜ r ≡ answerOf (fitted layoutOf (length (now (table .entry))) (shaped movementFault (movement (lex (now (text .entry)))))) ⌝ }
-    ensures content { λ r. ⌜ now (table .exit) ≡ laid layoutOf (now (table .entry)) (fitted layoutOf (length (now (table .entry))) (shaped movementFault (movement (lex (now (text .entry)))))) ⌝ }
+    requires { ⌜ Held p (now «bone_rows») (now «key_rows») (now «pattern_rows») ⌝ }
+    ensures answer { λ r. ⌜ ((h : Held p (now («bone_rows» .entry)) (now («key_rows» .entry)) (now («pattern_rows» .entry))) → r ≡ answerOf (fitted layoutOf (length (now (table .entry))) (ruled (h .read) (movementFault (h .read))))) ⌝ }
+    ensures content { λ r. ⌜ ((h : Held p (now («bone_rows» .entry)) (now («key_rows» .entry)) (now («pattern_rows» .entry))) → now (table .exit) ≡ laid layoutOf (now (table .entry)) (fitted layoutOf (length (now (table .entry))) (ruled (h .read) (movementFault (h .read))))) ⌝ }
 {
-    let p = parse(text, bone_rows, key_rows, pattern_rows);
-    let d = p.cursor;
-    if d.refusal != 0 {
-        return refused(d.refusal, d.at);
-    }
     let total = p.total;
     let keys = key_count(p.over, p.keys);
     match tra4_rules::first_fault(

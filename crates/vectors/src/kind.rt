@@ -27,6 +27,8 @@ pub(crate) const TOKENS: usize = 12;
 
 pub(crate) const FIGURE: usize = 13;
 
+pub(crate) const MOVEMENT: usize = 14;
+
 pub(crate) const SAMPLE: usize = 15;
 
 pub(crate) const CORNER: usize = 16;

@@ -1,12 +1,13 @@
-// Questions on tables: Sample, Corner and Shown.
+// Questions on tables: Sample, Corner and Shown. Each answer is put at the start of out, and its length told.
+use crate::kept::Kept;
 use crate::kind::CORNER;
+use crate::kind::FIGURE;
+use crate::kind::MOVEMENT;
 use crate::kind::SAMPLE;
 use crate::kind::SHOWN;
-use crate::record::count;
-use crate::record::numbers;
-use crate::record::put;
-use table_counts::FigureCounts;
-use table_counts::MovementCounts;
+use crate::kind::kind_of;
+use crate::record::next_number;
+use report_text::append;
 
 // Sets a number of a table, and answers what stood there.
 fn exchange(table: &mut [i64], at: usize, z: i64) -> i64 {
@@ -18,17 +19,17 @@ fn exchange(table: &mut [i64], at: usize, z: i64) -> i64 {
     old
 }
 
-// The same in the figure's table (0) or the movement's (1).
+// The same in the figure's table or the movement's, by its name.
 fn alter(
     table: &mut [i64; 11400],
     moves: &mut [i64; 11779],
-    file: usize,
+    name: usize,
     at: usize,
     z: i64,
 ) -> i64 {
-    match file {
-        0 => exchange(table, at, z),
-        1 => exchange(moves, at, z),
+    match name {
+        FIGURE => exchange(table, at, z),
+        MOVEMENT => exchange(moves, at, z),
         _ => z,
     }
 }
@@ -41,78 +42,60 @@ fn front(table: &[i64], size: usize) -> &[i64] {
     &table[0..size]
 }
 
-fn figure_counts(n: &[i64; 10]) -> FigureCounts {
-    FigureCounts {
-        textures: count(n[1]),
-        colours: count(n[2]),
-        materials: count(n[3]),
-        points: count(n[4]),
-        normals: count(n[5]),
-        bones: count(n[6]),
-        uvs: count(n[7]),
-        faces: count(n[8]),
-        groups: count(n[9]),
-    }
-}
-
-fn movement_counts(m: &[i64; 4]) -> MovementCounts {
-    MovementCounts {
-        bones: count(m[1]),
-        keys: count(m[2]),
-        patterns: count(m[3]),
-    }
-}
-
-fn tell_sample(moves: &[i64], m: MovementCounts, bone: usize, channel: usize, at: usize) {
-    let answer = player_samples::sample(moves, m, bone, channel, at);
-    let mut out = [0u8; 64];
-    let filled = sample_listing::list_fraction(&mut out, answer);
-    put(text_bytes::part(&out, 0, filled));
+fn tell_sample(
+    moves: &[i64],
+    k: Kept,
+    bone: usize,
+    channel: usize,
+    at: usize,
+    out: &mut [u8],
+) -> usize {
+    let m = k.movement;
+    let answer = player_samples::sample(front(moves, k.movement_size), m, bone, channel, at);
+    sample_listing::list_fraction(out, answer)
 }
 
 // A corner that does not exist has no line.
-fn tell_corner(table: &[i64], n: FigureCounts, face: usize, k: usize) {
-    let answer = player_corners::corner(table, n, face, k);
-    let mut out = [0u8; 256];
-    let filled = corner_listing::append_corner(&mut out, 0, face, k, answer);
+fn tell_corner(table: &[i64], k: Kept, face: usize, corner: usize, out: &mut [u8]) -> usize {
+    let n = k.figure;
+    let answer = player_corners::corner(front(table, k.figure_size), n, face, corner);
+    let filled = corner_listing::append_corner(out, 0, face, corner, answer);
     if filled == 0 {
-        put(b"refused\t21\t0\n");
-        return;
+        return append(out, 0, b"refused\t21\t0\n");
     }
-    put(text_bytes::part(&out, 0, filled));
+    filled
 }
 
 fn tell_shown(
     table: &[i64],
-    n: FigureCounts,
     moves: &[i64],
-    m: MovementCounts,
+    k: Kept,
     face: usize,
     at: usize,
-) {
-    let answer = player_shown::shown(table, n, moves, m, face, at);
-    let mut out = [0u8; 128];
-    let filled = shown_listing::append_shown(&mut out, 0, face, at, answer);
-    put(text_bytes::part(&out, 0, filled));
+    out: &mut [u8],
+) -> usize {
+    let n = k.figure;
+    let m = k.movement;
+    let figure = front(table, k.figure_size);
+    let answer = player_shown::shown(figure, n, front(moves, k.movement_size), m, face, at);
+    shown_listing::append_shown(out, 0, face, at, answer)
 }
 
 fn answer(
     kind: usize,
-    asked: &[i64; 3],
     table: &[i64; 11400],
     moves: &[i64; 11779],
-    n: &[i64; 10],
-    m: &[i64; 4],
-) {
-    let a = count(asked[0]);
-    let b = count(asked[1]);
-    let figure = front(table, count(n[0]));
-    let movement = front(moves, count(m[0]));
+    k: Kept,
+    a: usize,
+    b: usize,
+    c: usize,
+    out: &mut [u8],
+) -> usize {
     match kind {
-        SAMPLE => tell_sample(movement, movement_counts(m), a, b, count(asked[2])),
-        CORNER => tell_corner(figure, figure_counts(n), a, b),
-        SHOWN => tell_shown(figure, figure_counts(n), movement, movement_counts(m), a, b),
-        _ => put(b"no such kind\n"),
+        SAMPLE => tell_sample(moves, k, a, b, c, out),
+        CORNER => tell_corner(table, k, a, b, out),
+        SHOWN => tell_shown(table, moves, k, a, b, out),
+        _ => append(out, 0, b"no such kind\n"),
     }
 }
 
@@ -120,19 +103,20 @@ fn answer(
 pub(crate) fn ask(
     kind: usize,
     args: &[u8],
+    k: Kept,
     table: &mut [i64; 11400],
     moves: &mut [i64; 11779],
-    n: &[i64; 10],
-    m: &[i64; 4],
-) {
-    let mut asked = [0i64; 3];
-    let next = numbers(args, 0, &mut asked);
-    let name = text_tokens::next(args, next);
-    let file = parse_words::word_index(args, name, b"figure movement");
-    let mut altered = [0i64; 2];
-    numbers(args, name.end, &mut altered);
-    let at = count(altered[0]);
-    let old = alter(table, moves, file, at, altered[1]);
-    answer(kind, &asked, table, moves, n, m);
-    alter(table, moves, file, at, old);
+    out: &mut [u8],
+) -> usize {
+    let a = next_number(args, 0);
+    let b = next_number(args, a.at);
+    let c = next_number(args, b.at);
+    let word = text_tokens::next(args, c.at);
+    let name = kind_of(args, word);
+    let index = next_number(args, word.end);
+    let z = next_number(args, index.at);
+    let old = alter(table, moves, name, index.size, z.value);
+    let filled = answer(kind, table, moves, k, a.size, b.size, c.size, out);
+    alter(table, moves, name, index.size, old);
+    filled
 }

@@ -1,6 +1,7 @@
 // What a record holds: texts and numbers.
 ghost use Prim.Native.Nat.{_≤_, _<_, _^_};
 ghost use lib.ListN.{length};
+use crate::kept::Kept;
 use libc::STDOUT_FILENO;
 
 pub(crate) fn put(text: &[u8]) {
@@ -82,84 +83,79 @@ fn append_copies(buf: &mut [u8], n: usize, bytes: &[u8], times: usize) -> usize 
 // Puts the text of a question at the start of buf, which is spaces: the front and the copies after it, what stands from `from`
 // to `end`, and the back.
 // The answer is how long it is, padded to its least length.
-pub(crate) fn put_text(
-    buf: &mut [u8],
-    input: &[u8],
-    from: usize,
-    end: usize,
-    frame: &[usize; 8],
-) -> usize {
-    let fronts = append_text(buf, 0, text_bytes::part(input, frame[0], frame[1]));
-    let copied = text_bytes::part(input, frame[5], frame[6]);
-    let copies = append_copies(buf, fronts, copied, frame[7]);
+pub(crate) fn put_text(buf: &mut [u8], input: &[u8], from: usize, end: usize, k: Kept) -> usize {
+    let fronts = append_text(buf, 0, text_bytes::part(input, k.front, k.front_end));
+    let copied = text_bytes::part(input, k.copy, k.copy_end);
+    let copies = append_copies(buf, fronts, copied, k.copies);
     let parts = append_text(buf, copies, text_bytes::part(input, from, end));
-    let backs = append_text(buf, parts, text_bytes::part(input, frame[2], frame[3]));
-    let least = frame[4];
+    let backs = append_text(buf, parts, text_bytes::part(input, k.back, k.back_end));
+    let least = k.least;
     if backs < least { least } else { backs }
 }
 
 // The number that the digits of a word make, as far as 18 of them go.
-fn magnitude(word: &[u8]) -> u64
+fn magnitude(word: &[u8]) -> usize
     ensures { λ r. ⌜ r < 2 ^ 63 ⌝ }
 {
-    let mut value: u64 = 0;
+    let mut value: usize = 0;
     let mut i = 0;
     while i < word.len() {
         if 100000000000000000 <= value {
             return value;
         }
-        value = value * 10 + digit(word[i]) as u64;
+        value = value * 10 + digit(word[i]) as usize;
         i += 1;
     }
     value
 }
 
-// A word as a number in decimal; 0 where it is none.
-fn decimal(word: &[u8]) -> i64 {
+// A number in decimal, the same without its sign, and the offset after it; zeros and the offset before it where there is none.
+pub(crate) struct Number {
+    pub value: i64,
+    pub size: usize,
+    pub at: usize,
+}
+
+// The number that stands next.
+pub(crate) fn next_number(args: &[u8], at: usize) -> Number {
+    let t = text_tokens::next(args, at);
+    let word = text_bytes::part(args, t.start, t.end);
     if word.len() == 0 {
-        return 0;
+        return Number {
+            value: 0,
+            size: 0,
+            at,
+        };
     }
-    let value = magnitude(word) as i64;
+    let size = magnitude(word);
     match word[0] {
-        45 => 0 - value,
-        48..=57 => value,
-        _ => 0,
+        45 => Number {
+            value: 0 - size as i64,
+            size,
+            at: t.end,
+        },
+        48..=57 => Number {
+            value: size as i64,
+            size,
+            at: t.end,
+        },
+        _ => Number {
+            value: 0,
+            size: 0,
+            at,
+        },
     }
 }
 
-// The offset after a word that is a number, or the one before it.
-fn passed(word: &[u8], before: usize, end: usize) -> usize {
-    if word.len() == 0 {
-        return before;
-    }
-    match word[0] {
-        45 => end,
-        48..=57 => end,
-        _ => before,
-    }
-}
-
-// Fills out with the numbers that stand from an offset on, and with zeros where there are no more. Answers the offset after them.
-pub(crate) fn numbers(args: &[u8], from: usize, out: &mut [i64]) -> usize {
-    let mut at = from;
+// Fills out with the numbers that a record writes, and with zeros where there are no more.
+pub(crate) fn numbers(args: &[u8], out: &mut [i64]) {
+    let mut at = 0;
     let mut i = 0;
     while i < out.len() {
-        let t = text_tokens::next(args, at);
-        let word = text_bytes::part(args, t.start, t.end);
-        out[i] = decimal(word);
-        at = passed(word, at, t.end);
+        let n = next_number(args, at);
+        let z = n.value;
+        out[i] = z;
+        at = n.at;
         i += 1;
     }
-    at
-}
-
-pub(crate) fn count(z: i64) -> usize {
-    text_numbers::magnitude(z) as usize
-}
-
-// The first number.
-pub(crate) fn first(args: &[u8]) -> usize {
-    let mut out = [0i64; 1];
-    numbers(args, 0, &mut out);
-    count(out[0])
 }

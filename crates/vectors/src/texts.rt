@@ -1,99 +1,107 @@
-// Questions on texts: tokens, numbers, figures and movements.
+// Questions on texts: tokens, numbers, figures and movements. Each answer is put at the start of out, and its length told.
+use crate::kept::Kept;
 use crate::kind::BAC;
 use crate::kind::FIGURE;
 use crate::kind::FLOAT;
 use crate::kind::INT;
 use crate::kind::TOKENS;
 use crate::kind::TRA;
-use crate::record::count;
 use crate::record::numbers;
-use crate::record::put;
 use crate::record::put_text;
 use refusal::Checked;
+use report_lists::shown;
+use report_rows::append_row;
+use report_text::append;
 use text_check::Format;
 use text_numbers::Parsed;
 use text_tokens::Kind;
 
-// A line of a word, and of numbers after tabs.
-fn put_row(word: &[u8], row: &[i64]) {
-    let mut out = [0u8; 128];
-    let n = report_rows::append_row(&mut out, 0, word, row);
-    put(text_bytes::part(&out, 0, n));
-}
-
-fn tell_checked(answer: Checked) {
+fn tell_checked(answer: Checked, out: &mut [u8]) -> usize {
     match answer {
-        Checked::Clear => put(b"clear\n"),
+        Checked::Clear => append(out, 0, b"clear\n"),
         Checked::Refused { number, place } => {
-            put_row(b"refused", &[number as i64, report_lists::shown(place)])
+            append_row(out, 0, b"refused", &[number as i64, shown(place)])
         }
     }
 }
 
-fn tell_number(answer: Parsed) {
+fn tell_number(answer: Parsed, out: &mut [u8]) -> usize {
     match answer {
-        Parsed::Value(z) => put_row(b"value", &[z]),
-        Parsed::Beyond => put(b"refused\t6\n"),
-        Parsed::Malformed => put(b"refused\t5\n"),
+        Parsed::Value(z) => append_row(out, 0, b"value", &[z]),
+        Parsed::Beyond => append(out, 0, b"refused\t6\n"),
+        Parsed::Malformed => append(out, 0, b"refused\t5\n"),
     }
 }
 
-fn tell_token(kind: Kind, row: &[i64]) {
+// A kind's word, of all of them.
+fn word_of(words: &[u8], kind: Kind) -> &[u8] {
     match kind {
-        Kind::Opening => put_row(b"opening", row),
-        Kind::Closing => put_row(b"closing", row),
-        Kind::Quoted => put_row(b"quoted", row),
-        Kind::Plain => put_row(b"plain", row),
-        Kind::Ending => put_row(b"ending", row),
+        Kind::Opening => text_bytes::part(words, 0, 7),
+        Kind::Closing => text_bytes::part(words, 7, 14),
+        Kind::Quoted => text_bytes::part(words, 14, 20),
+        Kind::Plain => text_bytes::part(words, 20, 25),
+        Kind::Ending => text_bytes::part(words, 25, 31),
     }
 }
 
 // The tokens of a text, a line each: the kind, the offset, where it ends, how many bytes it holds.
-fn tell_tokens(text: &[u8]) {
+fn tell_tokens(text: &[u8], out: &mut [u8]) -> usize {
+    let mut filled = 0;
     let mut at = 0;
     let mut i = 0;
     while i <= text.len() {
         let t = text_tokens::next(text, at);
-        let row = [
-            report_lists::shown(t.start),
-            report_lists::shown(t.end),
-            report_lists::shown(t.length),
-        ];
         let kind = t.kind;
-        tell_token(kind, &row);
+        let word = word_of(b"openingclosingquotedplainending", kind);
+        let row = [shown(t.start), shown(t.end), shown(t.length)];
+        filled = append_row(out, filled, word, &row);
         if text.len() <= t.start {
-            return;
+            return filled;
         }
         at = t.end;
         i += 1;
     }
+    filled
 }
 
-fn tell_figure(text: &[u8], table: &mut [i64]) {
-    let answer = bac6::read(text, table);
-    let mut out = [0u8; 4096];
-    let n = bac6_listing::list_figure(answer, table, &mut out);
-    put(text_bytes::part(&out, 0, n));
-}
-
-fn tell_movement(text: &[u8], table: &mut [i64]) {
-    let answer = tra4::read(text, table);
-    let mut out = [0u8; 4096];
-    let n = tra4_listing::list_movement(answer, table, &mut out);
-    put(text_bytes::part(&out, 0, n));
-}
-
-// The listing of a figure or a movement, read into the first numbers of a table of zeros.
-fn tell_listing(kind: usize, text: &[u8], table: &mut [i64], size: usize) {
-    numbers(b"", 0, table);
+// The listing of a figure, read into the first numbers of a table of zeros.
+fn tell_figure(text: &[u8], table: &mut [i64], size: usize, out: &mut [u8]) -> usize {
+    numbers(text_bytes::part(text, 0, 0), table);
     if table.len() < size {
-        return;
+        return 0;
     }
-    if kind == FIGURE {
-        tell_figure(text, &mut table[0..size]);
-        return;
+    let answer = bac6::read(text, &mut table[0..size]);
+    bac6_listing::list_figure(answer, table, out)
+}
+
+// Likewise of a movement.
+fn tell_movement(text: &[u8], moves: &mut [i64], size: usize, out: &mut [u8]) -> usize {
+    numbers(text_bytes::part(text, 0, 0), moves);
+    if moves.len() < size {
+        return 0;
     }
-    tell_movement(text, &mut table[0..size]);
+    let answer = tra4::read(text, &mut moves[0..size]);
+    tra4_listing::list_movement(answer, moves, out)
+}
+
+// The answer to a question on a text.
+fn tell(
+    kind: usize,
+    text: &[u8],
+    k: Kept,
+    table: &mut [i64; 11400],
+    moves: &mut [i64; 11779],
+    out: &mut [u8],
+) -> usize {
+    match kind {
+        BAC => tell_checked(text_check::check_text(text, Format::Bac), out),
+        TRA => tell_checked(text_check::check_text(text, Format::Tra), out),
+        INT => tell_number(text_numbers::int(text), out),
+        FLOAT => tell_number(text_numbers::float(text), out),
+        TOKENS => tell_tokens(text, out),
+        FIGURE => tell_figure(text, table, k.figure_size, out),
+        _ => tell_movement(text, moves, k.movement_size, out),
+    }
 }
 
 pub(crate) fn ask(
@@ -101,22 +109,12 @@ pub(crate) fn ask(
     input: &[u8],
     from: usize,
     end: usize,
-    frame: &[usize; 8],
+    k: Kept,
     table: &mut [i64; 11400],
     moves: &mut [i64; 11779],
-    n: &[i64; 10],
-    m: &[i64; 4],
-) {
+    out: &mut [u8],
+) -> usize {
     let mut buf = [32u8; 65600];
-    let size = put_text(&mut buf, input, from, end, frame);
-    let text = text_bytes::part(&buf, 0, size);
-    match kind {
-        BAC => tell_checked(text_check::check_text(text, Format::Bac)),
-        TRA => tell_checked(text_check::check_text(text, Format::Tra)),
-        INT => tell_number(text_numbers::int(text)),
-        FLOAT => tell_number(text_numbers::float(text)),
-        TOKENS => tell_tokens(text),
-        FIGURE => tell_listing(kind, text, table, count(n[0])),
-        _ => tell_listing(kind, text, moves, count(m[0])),
-    }
+    let size = put_text(&mut buf, input, from, end, k);
+    tell(kind, text_bytes::part(&buf, 0, size), k, table, moves, out)
 }

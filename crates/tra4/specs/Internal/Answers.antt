@@ -1,15 +1,12 @@
 -- What a movement's answer says, and how it follows from what was parsed.
-use mathlib.Core.Path.{_≡_}
 use mathlib.Core.List.{List, [], _∷_, _++_}
-use mathlib.Core.Bool.{Bool, true, false}
+use mathlib.Core.Bool.{true, false}
 use Prim.Native.Nat.{ℕ, _+_, _*_, _≤_}
 use lib.Dec.{leb}
 use lib.IntN.{ℤ, pos}
 use lib.ListN.{length, take}
-use Rattle.refusal.specs.Faults.{Fault}
 use Rattle.table_rows.specs.Internal.Overlay.{overlayAt}
 use Rattle.tra4_parse.specs.declared.shape.Parsed.{Parsed}
-use Rattle.tra4_rules.specs.Internal.Order.{tablesFault}
 use Rattle.tra4.specs.declared.setting.MovementAnswer.{MovementAnswer}
 use Rattle.tra4.specs.Answers.{refusedWith}
 
@@ -42,19 +39,3 @@ pub record Fits (p : Parsed) (b k g : List ℤ) : Type 0 where
   pub bones : p .bones * 22 ≤ length b
   pub keys : p .keys * 2 ≤ length k
   pub patterns : p .patterns * 3 ≤ length g
-
--- more keys than the most, where how many is not known
-unfoldable pub keyCount : Bool → ℕ → ℕ
-keyCount true n = 4097
-keyCount false n = n
-
--- the first fault of the rules over what was parsed
-unfoldable pub rulesFault : Parsed → List ℤ → List ℤ → List ℤ → Fault
-rulesFault p b k g = tablesFault (p .total) (p .bones) (keyCount (p .over) (p .keys)) (p .patterns) b k g
-
--- tables of each list's most rows for a text that is not too long
-pub record Blank (text : List ℕ) (b k g : List ℤ) : Type 0 where
-  pub size : length text ≤ 65536
-  pub bones : length b ≡ 2816
-  pub keys : length k ≡ 8192
-  pub patterns : length g ≡ 768

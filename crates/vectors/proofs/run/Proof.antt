@@ -6,10 +6,13 @@ use Rattle.vectors.proofs.run.Statement.{statement}
 use Rattle.vectors.proofs.run.Tie as tie
 
 abbrev Inv-loop : tie.InvT-loop
-Inv-loop input table₀ moves₀ frame₀ n₀ m₀ at₀ table moves frame n m at = Unit {0}
+Inv-loop input table₀ moves₀ k₀ at₀ table moves k at = Unit {0}
 
 abbrev μ-loop : tie.MeasureT-loop
-μ-loop input table₀ moves₀ frame₀ n₀ m₀ at₀ table moves frame n m at = length input - at
+μ-loop input table₀ moves₀ k₀ at₀ table moves k at = length input - at
+
+nothing-requires : tie.Need-nothing-requires Inv-loop μ-loop
+nothing-requires c κs = search needs
 
 loop-holds : tie.Need-loop-holds Inv-loop μ-loop
 loop-holds c = search needs
@@ -38,6 +41,7 @@ run-spec =
     (tie.spec
     Inv-loop
     μ-loop
+    nothing-requires
     loop-holds
     run-end-requires
     run-record-requires

@@ -1,7 +1,8 @@
 -- `read_shape` refuses a text that its shape refuses, and answers as its rows else.
 use mathlib.Core.Path.{refl, ap, _∙_}
 use denote.Ref.{now}
-use lib.ListN.{length}
+use lib.IntN.{pos}
+use lib.ListN.{length, length-replicate}
 use Rattle.refusal.specs.Outcomes.{fitted, laid}
 use Rattle.bac6_text.specs.Layout.{layoutOf}
 use Rattle.bac6.specs.Answers.{answerOf}
@@ -45,7 +46,7 @@ slice-aggregate-read-rows-3 : tie.Need-slice-aggregate-read-rows-3
 slice-aggregate-read-rows-3 c = search needs
 
 read-rows-requires : tie.Need-read-rows-requires
-read-rows-requires c κs = shape-held (now (c .before .before .before .before .before .before .before .before .before .before .before .before .before .before .before .args .text)) _ _ _ _ _ _ _ (c .before .before .before .before .before .before .before .before .before .before .parse .ensures) (c .before .before .before .before .if1 .left) (c .before .before .before .before .before .before .before .before .before .before .before .before .before .before .before .pre) refl refl refl .held
+read-rows-requires c κs = shape-held (now (c .before .before .before .before .before .before .before .before .before .before .before .before .before .before .before .args .text)) _ _ _ _ _ _ _ (c .before .before .before .before .before .before .before .before .before .before .parse .ensures) (c .before .before .before .before .if1 .left) (c .before .before .before .before .before .before .before .before .before .before .before .before .before .before .before .pre) (length-replicate 34912 (pos 0)) refl (length-replicate 64 (pos 0)) .held
 
 same-length : tie.Need-same-length
 same-length c = search needs
@@ -53,7 +54,7 @@ same-length c = search needs
 returns-2 : tie.Need-returns-2
 returns-2 c =
     let a = c .before .before .before .before .before .before .before .before .before .before .before .before .before .before .before .before .before .before .args in
-    let h = shape-held (now (a .text)) _ _ _ _ _ _ _ (c .before .before .before .before .before .before .before .before .before .before .before .before .before .parse .ensures) (c .before .before .before .before .before .before .before .if1 .left) (c .before .before .before .before .before .before .before .before .before .before .before .before .before .before .before .before .before .before .pre) refl refl refl in
+    let h = shape-held (now (a .text)) _ _ _ _ _ _ _ (c .before .before .before .before .before .before .before .before .before .before .before .before .before .parse .ensures) (c .before .before .before .before .before .before .before .if1 .left) (c .before .before .before .before .before .before .before .before .before .before .before .before .before .before .before .before .before .before .pre) (length-replicate 34912 (pos 0)) refl (length-replicate 64 (pos 0)) in
     (c .before .before .read-rows .ensures .0 (h .held) ∙ ap (λ o. answerOf (fitted layoutOf (length (now (a .table))) o)) (h .same), c .before .before .read-rows .ensures .1 (h .held) ∙ ap (λ o. laid layoutOf (now (a .table)) (fitted layoutOf (length (now (a .table))) o)) (h .same))
 
 pub read-shape-spec : {M : Type 1} → statement M

@@ -1,5 +1,5 @@
 -- `key_count` is the count, or one more than the most, by the flag.
-use Rattle.tra4.specs.Internal.Answers.{keyCount}
+use Rattle.tra4.specs.Internal.Checks.{keyCount}
 use Rattle.tra4.proofs.reader.key_count.Statement.{statement}
 use Rattle.tra4.proofs.reader.key_count.Tie as tie
 

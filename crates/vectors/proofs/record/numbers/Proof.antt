@@ -7,31 +7,22 @@ use Rattle.vectors.proofs.record.numbers.Statement.{statement}
 use Rattle.vectors.proofs.record.numbers.Tie as tie
 
 abbrev Inv-loop : tie.InvT-loop
-Inv-loop args from out₀ at₀ i₀ out at i = length out ≡ length out₀
+Inv-loop args out₀ at₀ i₀ out at i = length out ≡ length out₀
 
 abbrev μ-loop : tie.MeasureT-loop
-μ-loop args from out₀ at₀ i₀ out at i = length out₀ - i
+μ-loop args out₀ at₀ i₀ out at i = length out₀ - i
 
 loop-holds : tie.Need-loop-holds Inv-loop μ-loop
 loop-holds c = search needs
 
-next-requires : tie.Need-next-requires Inv-loop μ-loop
-next-requires c κs = search needs
+next-number-requires : tie.Need-next-number-requires Inv-loop μ-loop
+next-number-requires c κs = search needs
 
-part-requires : tie.Need-part-requires Inv-loop μ-loop
-part-requires c κs = search needs
+mul-z : tie.Need-mul-z Inv-loop μ-loop
+mul-z c = search needs
 
-decimal-requires : tie.Need-decimal-requires Inv-loop μ-loop
-decimal-requires c κs = search needs
-
-mul-t8 : tie.Need-mul-t8 Inv-loop μ-loop
-mul-t8 c = search needs
-
-slice-set-from-out : tie.Need-slice-set-from-out Inv-loop μ-loop
-slice-set-from-out c = search needs
-
-passed-requires : tie.Need-passed-requires Inv-loop μ-loop
-passed-requires c κs = search needs
+slice-set-from-z : tie.Need-slice-set-from-z Inv-loop μ-loop
+slice-set-from-z c = search needs
 
 add-i : tie.Need-add-i Inv-loop μ-loop
 add-i c = search needs
@@ -55,12 +46,9 @@ numbers-spec =
     Inv-loop
     μ-loop
     loop-holds
-    next-requires
-    part-requires
-    decimal-requires
-    mul-t8
-    slice-set-from-out
-    passed-requires
+    next-number-requires
+    mul-z
+    slice-set-from-z
     add-i
     loop-less
     loop-again

@@ -1,9 +1,15 @@
--- `decimal`: a magnitude below 2 ^ 63 fits with either sign.
+-- `next_number`: a magnitude below 2 ^ 63 fits with either sign.
 use lib.IntN.{pos}
 use Rattle.text_numbers.proofs.Signed.{neg-fits, zero-minus, bits-pos}
 use borrow.Author.Needs.{needs}
-use Rattle.vectors.proofs.record.decimal.Statement.{statement}
-use Rattle.vectors.proofs.record.decimal.Tie as tie
+use Rattle.vectors.proofs.record.next_number.Statement.{statement}
+use Rattle.vectors.proofs.record.next_number.Tie as tie
+
+next-requires : tie.Need-next-requires
+next-requires c κs = search needs
+
+part-requires : tie.Need-part-requires
+part-requires c κs = search needs
 
 returns : tie.Need-returns
 returns c = search needs
@@ -11,16 +17,19 @@ returns c = search needs
 magnitude-requires : tie.Need-magnitude-requires
 magnitude-requires c κs = search needs
 
-cast-value : tie.Need-cast-value
-cast-value c = search needs
-
 shared-slice-read-match : tie.Need-shared-slice-read-match
 shared-slice-read-match c = search needs
 
-sub-result : tie.Need-sub-result
-sub-result c =
+cast-t12 : tie.Need-cast-t12
+cast-t12 c = search needs
+
+sub-t13 : tie.Need-sub-t13
+sub-t13 c =
     let m = c .before .before .magnitude in
     rw (bits-pos (m .result) (m .ensures), zero-minus (pos (m .result))) (neg-fits (m .result) (m .ensures))
+
+cast-t15 : tie.Need-cast-t15
+cast-t15 c = search needs
 
 returns-2 : tie.Need-returns-2
 returns-2 c = search needs
@@ -34,15 +43,18 @@ returns-4 c = search needs
 returns-5 : tie.Need-returns-5
 returns-5 c = search needs
 
-pub decimal-spec : {M : Type 1} → statement M
-decimal-spec =
+pub next-number-spec : {M : Type 1} → statement M
+next-number-spec =
     tie.close
     (tie.spec
+    next-requires
+    part-requires
     returns
     magnitude-requires
-    cast-value
     shared-slice-read-match
-    sub-result
+    cast-t12
+    sub-t13
+    cast-t15
     returns-2
     returns-3
     returns-4
