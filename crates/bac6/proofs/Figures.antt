@@ -16,7 +16,7 @@ use Rattle.table_rows.specs.Flat.{flat}
 use Rattle.table_rows.specs.Internal.Overlay.{overlayAt}
 use Rattle.table_rows.proofs.Chains.{overlay-whole}
 use Rattle.text_tokens.specs.Tokens.{lex}
-use Rattle.parse_cursor.specs.Internal.Places.{placeOf}
+use Rattle.parse_spec.specs.Internal.Places.{placeOf}
 use Rattle.parse_rows.proofs.Widths.{part-is}
 use Rattle.bac6_text.specs.Figure.{Figure}
 use Rattle.bac6_text.specs.Rules.{countsOf, figureCounts, flagsOf, wholeList, bonesFault, verticesFault, figureFault}

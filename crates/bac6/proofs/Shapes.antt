@@ -7,10 +7,10 @@ use lib.ListN.{length, replicate}
 use Rattle.refusal.specs.Outcomes.{rejected, ruled}
 use Rattle.text_tokens.specs.Tokens.{lex, lexAt}
 use Rattle.parse_cursor.specs.declared.cursor.Cursor.{Cursor}
-use Rattle.parse_cursor.specs.Readers.{Got, got, refused, after, _>>=_, pure}
+use Rattle.parse_spec.specs.Readers.{Got, got, refused, after, _>>=_, pure}
 use Rattle.parse_cursor.specs.Internal.Cursors.{reads}
 use Rattle.parse_cursor.proofs.Steps.{from-on, from-off}
-use Rattle.parse_cursor.proofs.Many.{not-got}
+use Rattle.parse_spec.proofs.Many.{not-got}
 use Rattle.parse_text.specs.Texts.{shaped}
 use Rattle.parse_text.proofs.Outcomes.{shape-rejected}
 use Rattle.bac6_text.specs.Figure.{Figure}

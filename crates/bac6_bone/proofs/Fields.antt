@@ -7,11 +7,12 @@ use Prim.Native.Nat.{ℕ, zero, suc, _<_}
 use native.Mathlib.Omega.{arith}
 use lib.IntN.{ℤ, pos}
 use lib.ListN.{length, getD, set, replicate}
-use Rattle.text_bytes.specs.Bytes.{bytes, same, inWord}
+use Rattle.text_bytes.specs.Bytes.{bytes, inWord}
+use Rattle.text_runs.specs.Runs.{same}
 use Rattle.table_rows.specs.Internal.Overlay.{overlayAt, overlay}
-use Rattle.parse_cursor.specs.Readers.{absent}
-use Rattle.parse_cursor.specs.Fields.{kind, unread}
-use Rattle.parse_cursor.specs.Internal.Fields.{neededOf}
+use Rattle.parse_spec.specs.Readers.{absent}
+use Rattle.parse_spec.specs.Fields.{kind, unread}
+use Rattle.parse_spec.specs.Internal.Fields.{neededOf}
 use Rattle.parse_words.specs.Internal.Words.{words, onto, keysOf, apart, differs}
 use Rattle.parse_words.proofs.Turns.{Listed}
 use Rattle.bac6_text.specs.Grammar.{BoneField, nameIn, flagIn, numbersIn, boneKinds}

@@ -12,15 +12,15 @@ use mir.Facts.{toZ-ofZ}
 use Rattle.text_bytes.specs.Bytes.{bytes}
 use Rattle.text_tokens.specs.Tokens.{lexAt}
 use Rattle.parse_cursor.specs.declared.cursor.Cursor.{Cursor}
-use Rattle.parse_cursor.specs.Readers.{Got, _>>_, pure, keyword, wordOf}
+use Rattle.parse_spec.specs.Readers.{Got, _>>_, pure, keyword, wordOf}
 use Rattle.parse_cursor.specs.Internal.Cursors.{reads, from}
 use Rattle.table_rows.specs.Internal.Overlay.{overlayAt}
-use Rattle.parse_cursor.specs.Fields.{isSome, fields, unread}
-use Rattle.parse_cursor.specs.Internal.Fields.{insideAt}
+use Rattle.parse_spec.specs.Fields.{isSome, fields, unread}
+use Rattle.parse_spec.specs.Internal.Fields.{insideAt}
 use Rattle.parse_cursor.proofs.Steps.{join, seq, reads-same, from-on}
 use Rattle.parse_cursor.proofs.Behind.{given}
 use Rattle.parse_cursor.proofs.Counts.{alive}
-use Rattle.parse_cursor.proofs.FieldFlags.{flags-length}
+use Rattle.parse_spec.proofs.FieldFlags.{flags-length}
 use Rattle.parse_words.specs.Internal.Words.{words}
 use Rattle.parse_words.specs.Internal.Heads.{headIn}
 use Rattle.parse_words.proofs.Turns.{Midway, turn-ends, turn-live, turn-holds, turn-left, turn-unread, turn-on}

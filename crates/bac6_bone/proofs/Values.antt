@@ -13,19 +13,18 @@ use Rattle.text_bytes.specs.Bytes.{bytes, inWord}
 use Rattle.text_numbers.specs.Numbers.{INT, FLOAT}
 use Rattle.text_tokens.specs.Tokens.{lexAt}
 use Rattle.parse_cursor.specs.declared.cursor.Cursor.{Cursor}
-use Rattle.parse_cursor.specs.Readers.{Got, Reader, _>>=_, _>>_, pure, closed, close-bracket, number, numbers, many, string, absent}
+use Rattle.parse_spec.specs.Readers.{Got, Reader, _>>=_, _>>_, pure, closed, close-bracket, number, numbers, many, string, absent}
 use Rattle.parse_cursor.specs.Internal.Cursors.{reads, from}
 use Rattle.table_rows.specs.Internal.Overlay.{overlayAt}
 use Rattle.parse_rows.specs.Internal.Into.{numbersInto}
-use Rattle.parse_cursor.specs.Internal.Places.{placeOf, nameOf}
-use Rattle.parse_cursor.specs.Fields.{kind}
-use Rattle.parse_cursor.specs.Internal.Fields.{insideAt}
+use Rattle.parse_spec.specs.Internal.Places.{placeOf, nameOf}
+use Rattle.parse_spec.specs.Fields.{kind}
+use Rattle.parse_spec.specs.Internal.Fields.{insideAt}
 use Rattle.parse_words.specs.Internal.Words.{words, onto, wordIn}
-use Rattle.parse_cursor.proofs.Steps.{from-on, from-same, join}
-use Rattle.parse_cursor.proofs.Binds.{closed-at}
+use Rattle.parse_cursor.proofs.Steps.{from-on, from-same, join, closed-at}
 use Rattle.parse_words.proofs.Vocabulary.{wordList, one-word}
 use Rattle.table_rows.proofs.Tables.{overlayAt-cons, overlayAt-none}
-use Rattle.parse_cursor.proofs.Ranges.{numbers-give}
+use Rattle.parse_spec.proofs.Ranges.{numbers-give}
 use Rattle.bac6_text.specs.Grammar.{BoneField, named, flag, several, nameIn, flagIn, numbersIn, boneKinds, truth, word}
 use Rattle.bac6_text.specs.Layout.{nameNumbers}
 use Rattle.bac6_bone_rules.specs.Internal.Claims.{claimed}

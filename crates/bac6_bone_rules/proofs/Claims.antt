@@ -16,7 +16,7 @@ use Rattle.text_numbers.proofs.Numerals.{and-true}
 use Rattle.refusal.specs.Faults.{Fault, clear, fault}
 use Rattle.bac6_text.specs.Figure.{Bone}
 use Rattle.bac6_text.specs.Rules.{entriesFine, verticesFault, ownerFrom, ownerOf}
-use Rattle.table_rows.specs.References.{isRow, isNone, sameNumber, member}
+use Rattle.table_references.specs.References.{isRow, isNone, sameNumber, member}
 use Rattle.bac6_text.specs.Layout.{ownersFrom}
 use Rattle.bac6_bone_rules.specs.Internal.Claims.{isFree, afterClaim, claimedOne, claimed, faultAt, afterBone, claimedBone, claimedBones}
 use Rattle.bac6_text.proofs.Parents.{fault-not-clear}

@@ -11,7 +11,7 @@ use lib.IntN.{ℤ, pos, negsuc, natAbs}
 use mir.Syntax.{w64}
 use mir.Val.{SFits, toZ, ofZ}
 use mir.Facts.{toZ-ofZ}
-use Rattle.table_rows.specs.References.{isRow, isNone}
+use Rattle.table_references.specs.References.{isRow, isNone}
 use Rattle.bac6_bone_rules.specs.Internal.Claims.{isFree, afterClaim}
 use Rattle.text_numbers.proofs.Tests.{and3}
 

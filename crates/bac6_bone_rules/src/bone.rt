@@ -6,6 +6,10 @@ ghost use Rattle.refusal.specs.Internal.Answers.{refusal};
 ghost use Rattle.bac6_text.specs.Rules.{boneList, wholeList, bonesFault};
 ghost use Rattle.bac6_bone_rules.specs.Internal.Bones.{flagsIn, oneBone, Walked, Settled};
 use refusal::Checked;
+use table_columns::BONE_BROTHER;
+use table_columns::BONE_CHILD;
+use table_columns::BONE_PARENT;
+use table_counts::BONE_WIDTH;
 
 // The row after the bones that were walked; or the rows ran out.
 enum Walk {
@@ -41,7 +45,7 @@ pub fn place_bones(table: &mut [i64], count: usize) -> Checked
 fn whole_rows(numbers: usize, count: usize) -> usize
     ensures { λ r. ⌜ r ≡ min count (numbers / 14) ⌝ }
 {
-    let whole = numbers / 14;
+    let whole = numbers / BONE_WIDTH;
     if whole < count { whole } else { count }
 }
 
@@ -53,9 +57,9 @@ fn bone(table: &mut [i64], rows: usize, row: usize, parent: i64) -> Walk
     if rows <= row {
         return Walk::Short;
     }
-    let base = row * 14;
-    table[base + 11] = parent;
-    if table[base + 9] == 0 {
+    let base = row * BONE_WIDTH;
+    table[base + BONE_PARENT] = parent;
+    if table[base + BONE_CHILD] == 0 {
         return Walk::At(row + 1);
     }
     bones(table, rows, row + 1, row as i64)
@@ -69,7 +73,7 @@ fn bones(table: &mut [i64], rows: usize, row: usize, parent: i64) -> Walk
     match bone(table, rows, row, parent) {
         Walk::Short => Walk::Short,
         Walk::At(next) => {
-            if table[row * 14 + 10] == 0 {
+            if table[row * BONE_WIDTH + BONE_BROTHER] == 0 {
                 return Walk::At(next);
             }
             bones(table, rows, next, parent)

@@ -2,8 +2,8 @@
 ghost use mathlib.Core.Path.{_≡_};
 ghost use Rattle.bac6_bone_rules.specs.Internal.Claims.{isFree, afterClaim};
 use table_columns::VertexRow;
-use table_rows::is_none;
-use table_rows::is_row;
+use table_references::is_none;
+use table_references::is_row;
 
 // Whether an entry names one of the first `points` vertices that is unclaimed; if so, the bone owns it.
 pub fn claim(owners: &mut [i64], points: usize, v: VertexRow, bone: i64) -> bool

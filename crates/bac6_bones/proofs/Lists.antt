@@ -18,21 +18,22 @@ use Rattle.text_numbers.specs.Numbers.{INT, FLOAT}
 use Rattle.refusal.specs.Faults.{Fault, clear, fault}
 use Rattle.text_tokens.specs.Tokens.{Lexeme, lexAt}
 use Rattle.parse_cursor.specs.declared.cursor.Cursor.{Cursor}
-use Rattle.parse_cursor.specs.Readers.{Got, got, Reader, after, _>>=_, _>>_, pure, open-bracket, keyword, wordOf, opened, openedOf, many, many⁺}
+use Rattle.parse_spec.specs.Readers.{Got, got, Reader, after, _>>=_, _>>_, pure, open-bracket, keyword, wordOf, opened, openedOf, many, many⁺}
 use Rattle.parse_cursor.specs.Internal.Cursors.{reads, from}
 use Rattle.table_rows.specs.Internal.Overlay.{overlayAt}
 use Rattle.table_rows.specs.Flat.{flat}
 use Rattle.parse_rows.specs.Internal.Folds.{fold, folded, stepped}
-use Rattle.parse_cursor.specs.Fields.{kind, fields}
-use Rattle.parse_cursor.specs.Internal.Branches.{itemOf}
+use Rattle.parse_spec.specs.Fields.{kind, fields}
+use Rattle.parse_spec.specs.Internal.Branches.{itemOf}
 use Rattle.parse_cursor.proofs.Steps.{join, seq, passed, from-same}
-use Rattle.parse_cursor.proofs.Binds.{after-after, after-same, after-when, then-assoc, then-bind}
-use Rattle.parse_cursor.proofs.Counts.{falls, lexAt-some}
+use Rattle.parse_spec.proofs.Binds.{after-after, after-same, after-when, then-assoc, then-bind}
+use Rattle.parse_cursor.proofs.Counts.{falls}
+use Rattle.parse_spec.proofs.TokenCounts.{lexAt-some}
 use Rattle.parse_rows.proofs.Folds.{folded-more}
 use Rattle.parse_cursor.proofs.Branches.{item-takes}
-use Rattle.parse_cursor.proofs.Many.{Keeps, Takes, takes-keeps, pure-keeps, bind-keeps, bind-takes, then-keeps, then-takes, keyword-takes, opened-takes, closed-keeps, number-takes, numbers-keeps, string-takes, one-of-takes, many-keeps}
-use Rattle.parse_cursor.proofs.FieldKeeps.{AllKeep, fields-keeps}
-use Rattle.parse_cursor.proofs.Given.{free, many-gives}
+use Rattle.parse_spec.proofs.Many.{Keeps, Takes, takes-keeps, pure-keeps, bind-keeps, bind-takes, then-keeps, then-takes, keyword-takes, opened-takes, closed-keeps, number-takes, numbers-keeps, string-takes, one-of-takes, many-keeps}
+use Rattle.parse_spec.proofs.FieldKeeps.{AllKeep, fields-keeps}
+use Rattle.parse_spec.proofs.Given.{free, many-gives}
 use Rattle.table_rows.proofs.Tables.{overlayAt-none, overlayAt-append, overlayAt-same}
 use Rattle.bac6_text.specs.Figure.{Bone}
 use Rattle.bac6_text.specs.Grammar.{BoneField, named, flag, several, boneOf, boneKinds, bone, word, truth}

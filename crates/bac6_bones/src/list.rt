@@ -10,6 +10,7 @@ ghost use Rattle.bac6_bone.specs.Internal.Into.{boneTail};
 use bac6_bone::bone_tail;
 use bac6_entries::Claims;
 use parse_cursor::Cursor;
+use table_counts::BONE_WIDTH;
 
 // How many bones were read, a cursor past them, and the row of the first whose claims are at fault, if there is one (rule 11);
 // where there is none, `fault` is free, and where the cursor has refused, all but the cursor is.
@@ -69,7 +70,7 @@ fn more_bones(
     let mut count = first.count;
     let mut faulty = first.faulty;
     let mut fault = first.fault;
-    let mut i = 14;
+    let mut i = BONE_WIDTH;
     loop {
         let item = parse_numbers::next_item(text, d);
         let start = item.cursor;
@@ -93,7 +94,7 @@ fn more_bones(
         count = b.count;
         faulty = b.faulty;
         fault = b.fault;
-        i = table_rows::advance(i, 14, table.len());
+        i = table_rows::advance(i, BONE_WIDTH, table.len());
     }
 }
 

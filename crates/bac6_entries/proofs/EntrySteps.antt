@@ -10,11 +10,12 @@ use Rattle.text_tokens.specs.Tokens.{Lexeme, lexeme, lexAt}
 use Rattle.text_tokens.specs.declared.token.Span.{Span}
 use Rattle.text_tokens.specs.Internal.Answers.{Next, lexemeOf}
 use Rattle.parse_cursor.specs.declared.cursor.Cursor.{Cursor}
-use Rattle.parse_cursor.specs.Readers.{Got, got, after, _>>=_, pure, tokenOf, rest, isClosing, number, many}
+use Rattle.parse_spec.specs.Readers.{Got, got, after, _>>=_, pure, tokenOf, rest, number, many}
+use Rattle.text_kinds.specs.Kinds.{isClosing}
 use Rattle.parse_cursor.specs.Internal.Cursors.{reads, from}
 use Rattle.parse_cursor.proofs.Steps.{from-on, reads-on, next-token, next-rest, live, after-reads}
-use Rattle.parse_cursor.proofs.Binds.{after-after, after-same}
-use Rattle.parse_cursor.proofs.Many.{number-takes, many-end, many-more}
+use Rattle.parse_spec.proofs.Binds.{after-after, after-same}
+use Rattle.parse_spec.proofs.Many.{number-takes, many-end, many-more}
 use Rattle.parse_cursor.proofs.Counts.{falls}
 use mir.Syntax.{w64}
 use mir.Val.{SFits, toZ, ofZ}

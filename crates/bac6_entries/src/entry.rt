@@ -40,7 +40,7 @@ pub fn entries(
     loop {
         let t = text_tokens::next(text, at);
         let kind = t.kind;
-        if parse_cursor::is_closing(kind) {
+        if text_kinds::is_closing(kind) {
             return Claims {
                 cursor: Cursor {
                     refusal: 0,

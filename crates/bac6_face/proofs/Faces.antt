@@ -13,15 +13,15 @@ use Rattle.text_numbers.specs.Numbers.{INT}
 use Rattle.text_bytes.specs.Bytes.{bytes, inWord}
 use Rattle.text_tokens.specs.Tokens.{Lexeme}
 use Rattle.parse_cursor.specs.declared.cursor.Cursor.{Cursor}
-use Rattle.parse_cursor.specs.Readers.{Got, Reader, after, _>>=_, _>>_, pure, open-bracket, close-bracket, keyword, wordOf, opened, openedOf, closed, number, numbers, oneOf, row, rowOf}
+use Rattle.parse_spec.specs.Readers.{Got, Reader, after, _>>=_, _>>_, pure, open-bracket, close-bracket, keyword, wordOf, opened, openedOf, closed, number, numbers, oneOf, row, rowOf}
 use Rattle.parse_words.specs.Internal.Words.{words, onto, wordIn}
 use Rattle.parse_rows.specs.Internal.Into.{numbersInto, rowInto}
 use Rattle.parse_cursor.specs.Internal.Cursors.{reads, from}
 use Rattle.table_rows.specs.Internal.Overlay.{overlay, overlayAt}
-use Rattle.parse_cursor.proofs.Binds.{after-after, after-same, after-when, then-assoc, then-bind, closed-map, closed-at}
-use Rattle.parse_cursor.proofs.Steps.{join, seq, from-same}
-use Rattle.parse_cursor.proofs.Given.{free, closed-gives}
-use Rattle.parse_cursor.proofs.Ranges.{numbers-give, row-of-gives}
+use Rattle.parse_spec.proofs.Binds.{after-after, after-same, after-when, then-assoc, then-bind, closed-map}
+use Rattle.parse_cursor.proofs.Steps.{closed-at, join, seq, from-same}
+use Rattle.parse_spec.proofs.Given.{free, closed-gives}
+use Rattle.parse_spec.proofs.Ranges.{numbers-give, row-of-gives}
 use Rattle.parse_words.proofs.Vocabulary.{wordList, one-word}
 use Rattle.bac6_text.specs.Grammar.{face, faceOf, faceBy}
 use Rattle.bac6_text.specs.Layout.{faceRow, corners}

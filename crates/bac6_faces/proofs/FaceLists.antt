@@ -7,14 +7,14 @@ use lib.ListN.{length}
 use Rattle.text_numbers.specs.Numbers.{INT}
 use Rattle.text_tokens.specs.Tokens.{Lexeme}
 use Rattle.parse_cursor.specs.declared.cursor.Cursor.{Cursor}
-use Rattle.parse_cursor.specs.Readers.{got, after, _>>=_, _>>_, pure, open-bracket, oneOf}
+use Rattle.parse_spec.specs.Readers.{got, after, _>>=_, _>>_, pure, open-bracket, oneOf}
 use Rattle.parse_cursor.specs.Internal.Cursors.{reads, from}
 use Rattle.table_rows.specs.Internal.Overlay.{overlayAt}
 use Rattle.parse_rows.specs.Internal.Folds.{stepped, rowStep}
 use Rattle.parse_cursor.proofs.Steps.{join, from-same}
-use Rattle.parse_cursor.proofs.Binds.{after-after, after-same}
+use Rattle.parse_spec.proofs.Binds.{after-after, after-same}
 use Rattle.table_rows.proofs.Tables.{overlayAt-same}
-use Rattle.parse_cursor.proofs.Many.{Keeps, Takes, takes-keeps, pure-keeps, bind-keeps, bind-takes, then-keeps, then-takes, keyword-takes, opened-takes, open-takes, close-takes, closed-keeps, number-takes, numbers-keeps, one-of-takes, row-takes}
+use Rattle.parse_spec.proofs.Many.{Keeps, Takes, takes-keeps, pure-keeps, bind-keeps, bind-takes, then-keeps, then-takes, keyword-takes, opened-takes, open-takes, close-takes, closed-keeps, number-takes, numbers-keeps, one-of-takes, row-takes}
 use Rattle.bac6_text.specs.Grammar.{face, faceOf, faceBy}
 use Rattle.bac6_text.specs.Layout.{faceRow}
 use Rattle.bac6_faces.specs.Internal.Into.{faceStep}

@@ -9,16 +9,16 @@ use lib.ListN.{length}
 use Rattle.text_bytes.specs.Bytes.{bytes}
 use Rattle.text_tokens.specs.Tokens.{Lexeme, lexAt}
 use Rattle.parse_cursor.specs.declared.cursor.Cursor.{Cursor}
-use Rattle.parse_cursor.specs.Readers.{Got, Reader, after, _>>=_, _>>_, pure, open-bracket, keyword, wordOf, opened, openedOf, closed, Name, absent, string, optional, many}
+use Rattle.parse_spec.specs.Readers.{Got, Reader, after, _>>=_, _>>_, pure, open-bracket, keyword, wordOf, opened, openedOf, closed, Name, absent, string, optional, many}
 use Rattle.parse_cursor.specs.Internal.Cursors.{reads, from}
 use Rattle.table_rows.specs.Internal.Overlay.{overlayAt}
-use Rattle.parse_cursor.specs.Internal.Places.{placeOf, optionalName}
+use Rattle.parse_spec.specs.Internal.Places.{placeOf, optionalName}
 use Rattle.parse_rows.specs.Internal.Folds.{folded, stepped, rowStep}
 use Rattle.text_numbers.proofs.Signed.{bits-pos}
 use Rattle.table_rows.proofs.Tables.{overlayAt-same}
 use Rattle.parse_cursor.proofs.Steps.{join, seq, reads-same, from-same}
-use Rattle.parse_cursor.proofs.Binds.{after-after, after-same, then-assoc, then-bind}
-use Rattle.parse_cursor.proofs.Many.{Keeps, Takes, takes-keeps, pure-keeps, bind-keeps, bind-takes, then-keeps, then-takes, keyword-takes, word-takes, opened-takes, closed-keeps, string-takes, optional-keeps, many-keeps}
+use Rattle.parse_spec.proofs.Binds.{after-after, after-same, then-assoc, then-bind}
+use Rattle.parse_spec.proofs.Many.{Keeps, Takes, takes-keeps, pure-keeps, bind-keeps, bind-takes, then-keeps, then-takes, keyword-takes, word-takes, opened-takes, closed-keeps, string-takes, optional-keeps, many-keeps}
 use Rattle.bac6_text.specs.Figure.{Group}
 use Rattle.bac6_text.specs.Grammar.{face, group}
 use Rattle.bac6_text.specs.Layout.{nameNumbers}

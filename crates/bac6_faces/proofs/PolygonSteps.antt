@@ -7,12 +7,12 @@ use lib.IntN.{ℤ, negsuc}
 use Rattle.text_bytes.specs.Bytes.{bytes}
 use Rattle.text_tokens.specs.Tokens.{Lexeme}
 use Rattle.parse_cursor.specs.declared.cursor.Cursor.{Cursor}
-use Rattle.parse_cursor.specs.Readers.{Got, got, Reader, after, _>>=_, _>>_, pure, openedOf, opened, trailing, many}
-use Rattle.parse_cursor.specs.Internal.Branches.{lastOf}
+use Rattle.parse_spec.specs.Readers.{Got, got, Reader, after, _>>=_, _>>_, pure, openedOf, opened, trailing, many}
+use Rattle.parse_spec.specs.Internal.Branches.{lastOf}
 use Rattle.parse_cursor.specs.Internal.Cursors.{reads, from}
 use Rattle.parse_rows.specs.Internal.Folds.{fold, folded}
 use Rattle.parse_cursor.proofs.Steps.{join, seq, from-same}
-use Rattle.parse_cursor.proofs.Binds.{after-after, after-same, then-bind}
+use Rattle.parse_spec.proofs.Binds.{after-after, after-same, then-bind}
 use Rattle.parse_cursor.proofs.Branches.{trailing-yes, trailing-no, trailing-map}
 use Rattle.bac6_text.specs.Figure.{Face, Figure}
 use Rattle.bac6_text.specs.Grammar.{face, group}

@@ -10,7 +10,7 @@ ghost use Rattle.bac6_faces.specs.Internal.Bounds.{Bounded, Fewer};
 use crate::list::face_list;
 use crate::list::row_index;
 use parse_cursor::Cursor;
-use parse_rows::Counted;
+use parse_lists::Counted;
 
 // How many faces and groups were read, and a cursor past them; where the cursor has refused, the counts are free.
 pub struct Polygons {

@@ -8,7 +8,8 @@ ghost use Rattle.bac6_faces.specs.Internal.Into.{faceStep};
 ghost use Rattle.bac6_faces.specs.Internal.Bounds.{Bounded, Fewer};
 use bac6_face::face_tail;
 use parse_cursor::Cursor;
-use parse_rows::Counted;
+use parse_lists::Counted;
+use table_counts::FACE_WIDTH;
 
 // The index of row `n` in a table of `length` numbers; past its end any index is as good as another.
 pub(crate) fn row_index(n: usize, width: usize, length: usize) -> usize
@@ -44,7 +45,7 @@ pub(crate) fn face_list(
                 count: n,
             };
         }
-        let to = row_index(n, 11, out.len());
+        let to = row_index(n, FACE_WIDTH, out.len());
         d = face_tail(text, start, group, out, to);
         if d.refusal != 0 {
             return Counted {

@@ -1,10 +1,6 @@
 // Reads the front of a figure's text, from its head to its normals, into a table of rows.
 mod lists;
 mod opening;
-mod rows;
 
 pub use opening::Front;
 pub use opening::read_front;
-pub use rows::Listed;
-pub use rows::section;
-pub use rows::with_end;

@@ -8,7 +8,7 @@ ghost use Rattle.bac6_front.specs.Internal.Front.{frontInto};
 use crate::lists::materials;
 use crate::lists::normals;
 use crate::lists::points;
-use crate::rows::section;
+use bac6_section::section;
 use parse_cursor::Cursor;
 use parse_cursor::opened;
 use parse_numbers::Form;

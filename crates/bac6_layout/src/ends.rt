@@ -1,7 +1,15 @@
 // Where the lists end in the table of rows.
 ghost use mathlib.Core.Path.{_≡_};
 ghost use Rattle.bac6_layout.specs.Internal.Ends.{endsOf};
+use table_counts::BONE_WIDTH;
+use table_counts::COLOUR_WIDTH;
+use table_counts::FACE_WIDTH;
 use table_counts::FigureCounts;
+use table_counts::MATERIAL_WIDTH;
+use table_counts::NORMAL_WIDTH;
+use table_counts::POINT_WIDTH;
+use table_counts::TEXTURE_WIDTH;
+use table_counts::UV_WIDTH;
 use table_rows::rows_end;
 
 // The index after each list's rows, or the table's end.
@@ -20,14 +28,14 @@ pub struct Ends {
 pub fn row_ends(n: FigureCounts, room: usize) -> Ends
     ensures { λ r. ⌜ r ≡ endsOf n room ⌝ }
 {
-    let textures = rows_end(0, n.textures, 2, room);
-    let colours = rows_end(textures, n.colours, 3, room);
-    let materials = rows_end(colours, n.materials, 9, room);
-    let points = rows_end(materials, n.points, 3, room);
-    let normals = rows_end(points, n.normals, 3, room);
-    let bones = rows_end(normals, n.bones, 14, room);
-    let uvs = rows_end(bones, n.uvs, 2, room);
-    let faces = rows_end(uvs, n.faces, 11, room);
+    let textures = rows_end(0, n.textures, TEXTURE_WIDTH, room);
+    let colours = rows_end(textures, n.colours, COLOUR_WIDTH, room);
+    let materials = rows_end(colours, n.materials, MATERIAL_WIDTH, room);
+    let points = rows_end(materials, n.points, POINT_WIDTH, room);
+    let normals = rows_end(points, n.normals, NORMAL_WIDTH, room);
+    let bones = rows_end(normals, n.bones, BONE_WIDTH, room);
+    let uvs = rows_end(bones, n.uvs, UV_WIDTH, room);
+    let faces = rows_end(uvs, n.faces, FACE_WIDTH, room);
     Ends {
         textures,
         colours,

@@ -9,19 +9,20 @@ use native.Mathlib.Omega.{arith}
 use lib.IntN.{ℤ, pos}
 use lib.ListN.{length, set, replicate}
 use Rattle.text_numbers.specs.Numbers.{INT, FLOAT}
-use Rattle.text_bytes.specs.Bytes.{bytes, same, inWord}
+use Rattle.text_bytes.specs.Bytes.{bytes, inWord}
+use Rattle.text_runs.specs.Runs.{same}
 use Rattle.text_tokens.specs.Tokens.{Lexeme}
 use Rattle.parse_cursor.specs.declared.cursor.Cursor.{Cursor}
-use Rattle.parse_cursor.specs.Readers.{Got, after, _>>=_, _>>_, pure, open-bracket, keyword, wordOf, opened, openedOf, closed, number}
+use Rattle.parse_spec.specs.Readers.{Got, after, _>>=_, _>>_, pure, open-bracket, keyword, wordOf, opened, openedOf, closed, number}
 use Rattle.parse_cursor.specs.Internal.Cursors.{reads, from}
 use Rattle.table_rows.specs.Internal.Overlay.{overlayAt}
-use Rattle.parse_cursor.proofs.Many.{Keeps, Takes, takes-keeps, pure-keeps, bind-keeps, bind-takes, then-keeps, then-takes, keyword-takes, opened-takes, closed-keeps, number-takes, one-of-takes}
-use Rattle.parse_cursor.proofs.FieldFlags.{flags-length}
-use Rattle.parse_cursor.proofs.FieldKeeps.{AllKeep, fields-keeps}
-use Rattle.parse_cursor.proofs.Binds.{then-assoc, then-bind}
+use Rattle.parse_spec.proofs.Many.{Keeps, Takes, takes-keeps, pure-keeps, bind-keeps, bind-takes, then-keeps, then-takes, keyword-takes, opened-takes, closed-keeps, number-takes, one-of-takes}
+use Rattle.parse_spec.proofs.FieldFlags.{flags-length}
+use Rattle.parse_spec.proofs.FieldKeeps.{AllKeep, fields-keeps}
+use Rattle.parse_spec.proofs.Binds.{then-assoc, then-bind}
 use Rattle.parse_cursor.proofs.Steps.{join, seq, reads-same}
-use Rattle.parse_cursor.specs.Fields.{kind, isSome, unread, fields}
-use Rattle.parse_cursor.specs.Internal.Fields.{insideAt, neededOf}
+use Rattle.parse_spec.specs.Fields.{kind, isSome, unread, fields}
+use Rattle.parse_spec.specs.Internal.Fields.{insideAt, neededOf}
 use Rattle.parse_words.specs.Internal.Words.{words, onto, keysOf, apart, differs}
 use Rattle.parse_words.specs.Internal.Heads.{headIn, Reached}
 use Rattle.parse_words.proofs.Turns.{Listed, Midway, turn-ends, turn-holds, turn-left, turn-on}

@@ -6,7 +6,7 @@ use Prim.Native.String.{String}
 use lib.IntN.{ℤ}
 use lib.ListN.{length}
 use Rattle.parse_cursor.specs.declared.cursor.Cursor.{Cursor}
-use Rattle.parse_cursor.specs.Readers.{Reader, closed}
+use Rattle.parse_spec.specs.Readers.{Reader, closed}
 use Rattle.parse_words.specs.Internal.Words.{words, wordIn}
 use Rattle.parse_cursor.specs.Internal.Cursors.{reads, from}
 use Rattle.parse_cursor.proofs.Steps.{join, from-same}

@@ -6,11 +6,11 @@ use native.Mathlib.Nat.{zero-add}
 use lib.IntN.{ℤ}
 use lib.ListN.{length}
 use Rattle.text_tokens.specs.Tokens.{Lexeme}
-use Rattle.parse_cursor.specs.Readers.{got, after, _>>=_, pure, many, many⁺}
+use Rattle.parse_spec.specs.Readers.{got, after, _>>=_, pure, many, many⁺}
 use Rattle.parse_rows.specs.Internal.Folds.{fold, folded, stepped, rowStep}
 use Rattle.parse_rows.proofs.Folds.{fold-rows}
-use Rattle.parse_cursor.proofs.Binds.{after-after, after-when}
-use Rattle.parse_cursor.proofs.Given.{Every, free, many-gives}
+use Rattle.parse_spec.proofs.Binds.{after-after, after-when}
+use Rattle.parse_spec.proofs.Given.{Every, free, many-gives}
 use Rattle.table_rows.specs.Flat.{flat}
 use Rattle.table_rows.specs.Internal.Overlay.{overlayAt}
 use Rattle.bac6_text.specs.Grammar.{material}

@@ -4,8 +4,8 @@ ghost use mathlib.Core.List.{map};
 ghost use Prim.Native.Nat.{_<_};
 ghost use lib.IntN.{pos};
 ghost use lib.ListN.{replicate};
-ghost use Rattle.parse_cursor.specs.Fields.{fields};
-ghost use Rattle.parse_cursor.specs.Internal.Fields.{insideAt};
+ghost use Rattle.parse_spec.specs.Fields.{fields};
+ghost use Rattle.parse_spec.specs.Internal.Fields.{insideAt};
 ghost use Rattle.parse_cursor.specs.Internal.Cursors.{reads, from};
 ghost use Rattle.parse_words.specs.Internal.Heads.{Reached};
 ghost use Rattle.bac6_text.specs.Grammar.{materialKinds, material, orZero};
@@ -13,9 +13,10 @@ ghost use Rattle.bac6_materials.specs.Internal.Closing.{closeWith};
 ghost use Rattle.bac6_materials.specs.Internal.Into.{materialInto, materialsInto};
 ghost use Rattle.parse_rows.specs.Internal.Folds.{folded, rowStep};
 use parse_cursor::Cursor;
+use parse_lists::Counted;
 use parse_numbers::Form;
 use parse_numbers::Numeric;
-use parse_rows::Counted;
+use table_counts::MATERIAL_WIDTH;
 
 // The value in the chunk of column k, and the closing bracket.
 fn material_value(text: &[u8], c: Cursor, k: usize) -> Numeric
@@ -103,7 +104,7 @@ fn more_materials(text: &[u8], c: Cursor, out: &mut [i64]) -> Counted
     ensures { λ r. ⌜ reads (now (text .entry)) (r .cursor) (r .count, now (out .exit)) ≡ from (now (text .entry)) c (folded (rowStep 9) material (1, now (out .entry))) ⌝ }
 {
     let mut d = c;
-    let mut i = 9;
+    let mut i = MATERIAL_WIDTH;
     let mut count = 1;
     loop {
         let item = parse_numbers::next_item(text, d);
@@ -119,6 +120,6 @@ fn more_materials(text: &[u8], c: Cursor, out: &mut [i64]) -> Counted
             return Counted { cursor: d, count };
         }
         count += 1;
-        i = table_rows::advance(i, 9, out.len());
+        i = table_rows::advance(i, MATERIAL_WIDTH, out.len());
     }
 }

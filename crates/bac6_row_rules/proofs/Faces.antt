@@ -12,7 +12,7 @@ use lib.IntN.{ℤ, pos, negsuc}
 use mir.Syntax.{w64}
 use mir.Val.{SFits, ofZ}
 use Rattle.refusal.specs.FirstBad.{all}
-use Rattle.table_rows.specs.References.{isRow, isNone, sameNumber}
+use Rattle.table_references.specs.References.{isRow, isNone, sameNumber}
 use Rattle.table_columns.specs.Columns.{faceMaterial, faceSize, cornerAt}
 use Rattle.table_columns.proofs.Corners.{corner-is}
 use Rattle.bac6_text.specs.Figure.{Face}

@@ -7,7 +7,7 @@ use lib.ListN.{getD}
 use lib.IntN.{ℤ, pos, negsuc, natAbs, pos-ne-negsuc}
 use lib.Signed.{mag, leZ}
 use Rattle.bac6_text.specs.Rules.{isLevel, materialFine}
-use Rattle.table_rows.specs.Index.{isIndex}
+use Rattle.table_references.specs.Index.{isIndex}
 use Rattle.text_numbers.proofs.Tests.{and3}
 
 and4 : (a b c d : Bool) → (a && b && c && d) ≡ (a && (b && (c && d)))

@@ -5,7 +5,7 @@ ghost use Prim.Native.Nat.{_≤_};
 ghost use lib.ListN.{length};
 ghost use Rattle.refusal.specs.Internal.Answers.{refusal};
 ghost use Rattle.refusal.specs.FirstBad.{firstBad};
-ghost use Rattle.table_rows.specs.References.{isRow, isNone};
+ghost use Rattle.table_references.specs.References.{isRow, isNone};
 ghost use Rattle.table_columns.specs.Parts.{rowsOf};
 ghost use Rattle.bac6_row_rules.specs.Internal.Rows.{faceRowFine, cornersKnown};
 use refusal::Checked;
@@ -17,8 +17,8 @@ use table_columns::VertexRow;
 use table_columns::face_uv;
 use table_columns::face_vertex;
 use table_counts::FACE_WIDTH;
-use table_rows::is_none;
-use table_rows::is_row;
+use table_references::is_none;
+use table_references::is_row;
 
 // The first of `count` rows of 11 that breaks the rule; a row that is not whole is not looked at.
 pub fn face_fault(

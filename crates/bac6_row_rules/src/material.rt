@@ -12,7 +12,7 @@ use table_columns::MATERIAL_SHININESS;
 use table_columns::MATERIAL_SPECULAR;
 use table_columns::MATERIAL_TEXTURE;
 use table_counts::MATERIAL_WIDTH;
-use table_rows::is_index;
+use table_references::is_index;
 
 // The first of `count` rows of 9 that breaks the rule; a row that is not whole is not looked at.
 pub fn material_fault(table: &[i64], count: usize, textures: usize, colours: usize) -> Checked

@@ -5,7 +5,7 @@ ghost use Rattle.bac6_text.specs.Rules.{normalsFault};
 use refusal::Checked;
 
 // Whether there are as many normals as points.
-pub fn normals_fault(points: usize, normals: usize) -> Checked
+pub(crate) fn normals_fault(points: usize, normals: usize) -> Checked
     ensures { λ r. ⌜ refusal r ≡ normalsFault points normals ⌝ }
 {
     if points != normals {

@@ -2,6 +2,5 @@
 mod count;
 mod order;
 
-pub use count::normals_fault;
 pub use order::counts_fault;
 pub use order::later_fault;

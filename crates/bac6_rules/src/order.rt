@@ -7,6 +7,15 @@ use bac6_row_rules::face_fault;
 use bac6_row_rules::material_fault;
 use refusal::Checked;
 use table_counts::FigureCounts;
+use table_counts::MOST_BONES;
+use table_counts::MOST_COLOURS;
+use table_counts::MOST_FACES;
+use table_counts::MOST_GROUPS;
+use table_counts::MOST_MATERIALS;
+use table_counts::MOST_NORMALS;
+use table_counts::MOST_POINTS;
+use table_counts::MOST_TEXTURES;
+use table_counts::MOST_UVS;
 
 // Rules 8 and 9: the first fault of the row counts.
 pub fn counts_fault(n: FigureCounts) -> Checked
@@ -23,7 +32,17 @@ pub fn counts_fault(n: FigureCounts) -> Checked
         n.faces,
         n.groups,
     ];
-    let mosts = [16, 256, 64, 2048, 2048, 128, 4096, 1024, 32];
+    let mosts = [
+        MOST_TEXTURES,
+        MOST_COLOURS,
+        MOST_MATERIALS,
+        MOST_POINTS,
+        MOST_NORMALS,
+        MOST_BONES,
+        MOST_UVS,
+        MOST_FACES,
+        MOST_GROUPS,
+    ];
     match refusal::too_many(&counts, &mosts) {
         Checked::Refused { number, place } => Checked::Refused { number, place },
         Checked::Clear => normals_fault(n.points, n.normals),

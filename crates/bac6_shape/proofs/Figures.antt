@@ -6,17 +6,17 @@ use lib.IntN.{ℤ}
 use lib.ListN.{length}
 use Rattle.refusal.specs.Faults.{Fault}
 use Rattle.text_tokens.specs.Tokens.{Lexeme}
-use Rattle.parse_cursor.specs.Readers.{Name, got, Reader, _>>=_, _>>_, pure, close-bracket, text-end}
-use Rattle.parse_cursor.specs.Internal.Places.{placeOf}
-use Rattle.parse_cursor.proofs.Binds.{after-when, bind-assoc}
-use Rattle.parse_cursor.proofs.Sequences.{bind-same, project, into-then, into-bind, into-end}
+use Rattle.parse_spec.specs.Readers.{Name, got, Reader, _>>=_, _>>_, pure, close-bracket, text-end}
+use Rattle.parse_spec.specs.Internal.Places.{placeOf}
+use Rattle.parse_spec.proofs.Binds.{after-when, bind-assoc}
+use Rattle.parse_spec.proofs.Sequences.{bind-same, project, into-then, into-bind, into-end}
 use Rattle.bac6_text.specs.Figure.{Bone, Face, Group, Figure}
 use Rattle.bac6_text.specs.Grammar.{nameSection, textureSection, colourSection, materialSection, pointSection, normalSection, boneSection, uvSection, polygonSection, figure}
 use Rattle.bac6_text.specs.Rules.{figureCounts}
 use Rattle.bac6_text.proofs.Rows.{face-rows-length}
 use Rattle.bac6_text.proofs.Whole.{WholeFigure, figure-whole}
 use Rattle.bac6_faces.proofs.PolygonSteps.{all-rows}
-use Rattle.bac6_front.specs.Internal.Lists.{rowsLaid, listInto}
+use Rattle.bac6_section.specs.Internal.Lists.{rowsLaid, listInto}
 use Rattle.bac6_front.specs.Internal.Front.{FrontValue, nameInto, frontInto}
 use Rattle.bac6_shape.specs.Internal.Parse.{Kept, blankBones, keptOf, figureInto}
 use Rattle.bac6_shape.specs.Internal.Steps.{bonesLaid, boneStep, facesLaid, endStep}

@@ -16,7 +16,7 @@ use Rattle.bac6_text.proofs.Rows.{bones-wide}
 use Rattle.bac6_text.proofs.Whole.{WholeFigure}
 use Rattle.bac6_faces.specs.Internal.Into.{allRows}
 use Rattle.bac6_faces.proofs.PolygonSteps.{all-rows}
-use Rattle.bac6_front.specs.Internal.Lists.{rowsLaid}
+use Rattle.bac6_section.specs.Internal.Lists.{rowsLaid}
 use Rattle.bac6_shape.specs.Internal.Parse.{blankBones, rowNumbers}
 
 -- rows that have no parent yet

@@ -8,10 +8,10 @@ use lib.ListN.{length, take, drop, length-map}
 use Rattle.refusal.specs.Faults.{Fault, clear}
 use Rattle.text_tokens.specs.Tokens.{Lexeme}
 use Rattle.parse_cursor.specs.declared.cursor.Cursor.{Cursor}
-use Rattle.parse_cursor.specs.Readers.{_>>=_, _>>_, pure, opened, close-bracket, text-end, many⁺}
+use Rattle.parse_spec.specs.Readers.{_>>=_, _>>_, pure, opened, close-bracket, text-end, many⁺}
 use Rattle.parse_cursor.specs.Internal.Cursors.{reads, from}
 use Rattle.parse_cursor.proofs.Steps.{seq, from-same, onward}
-use Rattle.parse_cursor.proofs.Sequences.{inside-bind, into-end}
+use Rattle.parse_spec.proofs.Sequences.{inside-bind, into-end}
 use Rattle.table_rows.specs.Flat.{flat}
 use Rattle.table_rows.specs.Internal.Overlay.{overlayAt}
 use Rattle.table_rows.proofs.Tables.{overlayAt-length}
@@ -22,8 +22,8 @@ use Rattle.bac6_text.specs.Layout.{groupNames}
 use Rattle.bac6_bones.specs.Internal.Into.{bonesInto}
 use Rattle.bac6_bone_rules.specs.Internal.Claims.{claimedBones}
 use Rattle.bac6_faces.specs.Internal.Into.{allRows, tablesOf, polygonsInto}
-use Rattle.bac6_front.specs.Internal.Lists.{rowsLaid}
-use Rattle.bac6_front.proofs.Laid.{map-read, then-read}
+use Rattle.bac6_section.specs.Internal.Lists.{rowsLaid}
+use Rattle.bac6_section.proofs.Laid.{map-read, then-read}
 use Rattle.bac6_shape.specs.Internal.Parse.{blankBones}
 use Rattle.bac6_shape.specs.Internal.Steps.{bonesLaid, boneStep, facesLaid, endStep}
 

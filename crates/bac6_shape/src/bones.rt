@@ -7,6 +7,7 @@ ghost use Rattle.bac6_bones.specs.Internal.Into.{faultOf};
 ghost use Rattle.bac6_shape.specs.Internal.Steps.{boneStep};
 use parse_cursor::Cursor;
 use parse_cursor::opened;
+use table_counts::BONE_WIDTH;
 
 // A cursor past the bones, how many there are, the row of the first whose claims are at fault, if there is one, and the index after their rows, or the table's end; where the cursor has refused, all else is free.
 pub(crate) struct Skeleton {
@@ -37,6 +38,6 @@ pub(crate) fn read_bones(
         count,
         faulty: b.faulty,
         fault: b.fault,
-        end: table_rows::rows_end(at, count, 14, rows.len()),
+        end: table_rows::rows_end(at, count, BONE_WIDTH, rows.len()),
     }
 }

@@ -30,7 +30,7 @@ pub fn parse(text: &[u8], rows: &mut [i64], owners: &mut [i64], names: &mut [i64
     let begun = f.cursor;
     let b = read_bones(text, begun, f.points, rows, f.end, owners);
     let boned = b.cursor;
-    let u = bac6_front::section(
+    let u = bac6_section::section(
         text,
         boned,
         b"TextureCoords",

@@ -4,24 +4,26 @@ use mathlib.Core.List.{List, [], _∷_, _++_}
 use Prim.Native.Nat.{ℕ}
 use lib.IntN.{ℤ, pos, negsuc}
 use lib.ListN.{replicate}
-use Rattle.text_bytes.specs.Bytes.{bytes, isBlank, between, isLetter, classOf, inLine, inString, inWord, isDigit, isContent, run, part, same}
+use Rattle.text_bytes.specs.Bytes.{bytes, isBlank, between, isLetter, classOf, inLine, inString, inWord, isDigit, isContent}
+use Rattle.text_runs.specs.Runs.{run, part, same}
 use Rattle.text_numbers.specs.Numbers.{refusalOf, decimalFrom, decimal, signed, notEmpty, allDigits, intMost, intOf, millionths, floatOf, numberFrom, afterDigits, unsigned, negative, unsignedPart, numberOf, inForm}
 use Rattle.text_tokens.specs.Tokens.{lexeme, tokens, lexAt, lex, first, bytesOf, widthOf, isKeyword}
 use Rattle.text_check.specs.Faults.{faultIn, markOf, blankOrEnd, begins, marked, textFault}
-use Rattle.parse_cursor.specs.Readers.{after, _>>=_, _>>_, pure, stop, tokenOf, rest, isOpening, isClosing, isPlain, isEnd, take-if, open-bracket, close-bracket, wordOf, keyword, text-end, openedOf, opened, closed, numberIn, numberAt, number, numbers, versionAt, version, absent, nameAt, string, oneFrom, oneOf, starts, optional, trailing, manyIn, many, many⁺, cells, rowOf, row, headOf, head}
-use Rattle.parse_cursor.specs.Fields.{kind, isSome, unread, complete, kindFrom, fieldsIn, fields}
+use Rattle.parse_spec.specs.Readers.{after, _>>=_, _>>_, pure, stop, tokenOf, rest, take-if, open-bracket, close-bracket, wordOf, keyword, text-end, openedOf, opened, closed, numberIn, numberAt, number, numbers, versionAt, version, absent, nameAt, string, oneFrom, oneOf, starts, optional, trailing, manyIn, many, many⁺, cells, rowOf, row, headOf, head}
+use Rattle.text_kinds.specs.Kinds.{isOpening, isClosing, isEnd}
+use Rattle.text_kinds.specs.Internal.Kinds.{isPlain}
+use Rattle.parse_spec.specs.Fields.{kind, isSome, unread, complete, kindFrom, fieldsIn, fields}
 use Rattle.table_rows.specs.Flat.{flat}
 use Rattle.bac6_text.specs.Grammar.{word, truth, blend, materialKinds, orZero, material, boneKinds, nameIn, flagIn, numbersIn, boneOf, bone, faceOf, faceBy, face, group, nameSection, textureSection, colourSection, materialSection, pointSection, normalSection, boneSection, uvSection, polygonSection, figure}
 use Rattle.refusal.specs.Rules.{orElse, tooMany}
 use Rattle.bac6_text.specs.Rules.{groupFaces, facesOf, countsOf, figureCounts, normalsFault, flagsOf, isSet, joined, thenIf, boneList, wholeList, placedFault, parentsIn, bonesFault, entriesFine, verticesFault, ownerFrom, ownerOf, isLevel, materialFine, faceFine, figureFault}
 use Rattle.refusal.specs.FirstBad.{all, firstBad}
-use Rattle.table_rows.specs.References.{isRow, isNone, sameNumber, member}
+use Rattle.table_references.specs.References.{isRow, isNone, sameNumber, member}
 use Rattle.bac6_text.specs.Layout.{nameNumbers, boneRow, boneRows, ownersFrom, corners, faceRow, groupRows, faceRows, groupNames, layoutOf}
 use Rattle.bac6_text.specs.Answer.{figureOutcome, figureAnswer, tableAfter}
 use Rattle.refusal.specs.Outcomes.{ruled, fitted, laid}
 use Rattle.parse_text.specs.Texts.{shaped, checked, outcome}
-use Rattle.table_counts.specs.Counts.{figureMosts}
-use Rattle.table_counts.specs.Counts.{figureLists}
+use Rattle.table_counts.specs.Counts.{figureMosts, figureLists}
 
 abbrev text : List ℕ
 text =

@@ -6,10 +6,10 @@ use lib.ListN.{length}
 use Rattle.text_check.specs.Faults.{bac, textFault}
 use Rattle.refusal.specs.Faults.{clear}
 use Rattle.text_tokens.specs.Tokens.{Lexeme, lex}
-use Rattle.parse_cursor.specs.Internal.Names.{NameStands}
-use Rattle.parse_cursor.specs.Readers.{got}
-use Rattle.parse_cursor.proofs.Names.{absent-stands, names-stand, text-gives}
-use Rattle.parse_cursor.proofs.Within.{Placed, absent-placed, names-placed, lex-within}
+use Rattle.parse_spec.specs.Internal.Names.{NameStands}
+use Rattle.parse_spec.specs.Readers.{got}
+use Rattle.parse_spec.proofs.Names.{absent-stands, names-stand, text-gives}
+use Rattle.parse_spec.proofs.Within.{Placed, absent-placed, names-placed, lex-within}
 use Rattle.bac6_text.specs.Figure.{Figure}
 use Rattle.bac6_text.specs.Grammar.{figure}
 use Rattle.bac6_text.specs.Internal.Names.{NamedFigure}

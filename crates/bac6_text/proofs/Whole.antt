@@ -11,12 +11,12 @@ use Rattle.text_bytes.specs.Internal.Every.{Every}
 use Rattle.text_numbers.specs.Numbers.{Form, INT, FLOAT}
 use Rattle.text_tokens.specs.Tokens.{Lexeme}
 use Rattle.text_bytes.proofs.Every.{every-as, every-append}
-use Rattle.parse_cursor.specs.Readers.{Name, absent, _>>=_, pure, closed, number, numbers, optional, many, row}
-use Rattle.parse_cursor.specs.Fields.{kind, fields}
-use Rattle.parse_cursor.specs.Internal.Fields.{neededOf}
-use Rattle.parse_cursor.proofs.Given.{GivesOn, LeavesOn, Gives, free, Naming, AnyToken, AnyName, any-names, pure-gives, bind-gives, then-gives, gives-as, leaves-on, closed-gives, open-leaves, close-leaves, opened-leaves, end-leaves, head-leaves, many-gives, some-give, optional-gives, trailing-gives, string-gives, name-gives}
-use Rattle.parse_cursor.proofs.FieldFits.{AllGive, AllFit, Whole, Stands, fields-fit, fields-stand}
-use Rattle.parse_cursor.proofs.Ranges.{AllIn, Numbers, number-gives, numbers-give, row-gives, choice-below}
+use Rattle.parse_spec.specs.Readers.{Name, absent, _>>=_, pure, closed, number, numbers, optional, many, row}
+use Rattle.parse_spec.specs.Fields.{kind, fields}
+use Rattle.parse_spec.specs.Internal.Fields.{neededOf}
+use Rattle.parse_spec.proofs.Given.{GivesOn, LeavesOn, Gives, free, Naming, AnyToken, AnyName, any-names, pure-gives, bind-gives, then-gives, gives-as, leaves-on, closed-gives, open-leaves, close-leaves, opened-leaves, end-leaves, head-leaves, many-gives, some-give, optional-gives, trailing-gives, string-gives, name-gives}
+use Rattle.parse_spec.proofs.FieldFits.{AllGive, AllFit, Whole, Stands, fields-fit, fields-stand}
+use Rattle.parse_spec.proofs.Ranges.{AllIn, Numbers, number-gives, numbers-give, row-gives, choice-below}
 use Rattle.parse_rows.proofs.Widths.{Wide}
 use Rattle.bac6_text.specs.Figure.{Bone, Face, Group, Figure}
 use Rattle.bac6_text.specs.Grammar.{word, truth, blend, BoneField, flag, several, boneKinds, boneOf, nameIn, numbersIn, bone, faceOf, faceBy, face, group, material, materialKinds, orZero, nameSection, textureSection, colourSection, materialSection, pointSection, normalSection, boneSection, uvSection, polygonSection, figure}

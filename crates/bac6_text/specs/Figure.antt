@@ -2,7 +2,7 @@
 use mathlib.Core.List.{List}
 use Prim.Native.Nat.{ℕ}
 use lib.IntN.{ℤ}
-use Rattle.parse_cursor.specs.Readers.{Name}
+use Rattle.parse_spec.specs.Readers.{Name}
 
 -- flags are 0 and 1; `vertices` are the vertex numbers that the bone names, as written
 pub record Bone : Type 0 where

@@ -3,7 +3,7 @@ use mathlib.Core.List.{List, [], _∷_, _++_, map}
 use Prim.Native.Nat.{ℕ, zero, suc}
 use lib.ListN.{length}
 use lib.IntN.{ℤ, pos, negsuc}
-unfoldable pub use Rattle.parse_cursor.specs.Places.{nameNumbers}
+unfoldable pub use Rattle.parse_spec.specs.Places.{nameNumbers}
 use Rattle.table_rows.specs.Flat.{flat}
 use Rattle.bac6_text.specs.Figure.{Bone, Face, Group, Figure}
 use Rattle.bac6_text.specs.Rules.{flagsOf, wholeList, parentsIn, ownerOf}

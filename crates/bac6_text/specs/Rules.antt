@@ -8,7 +8,7 @@ use lib.IntN.{ℤ, pos, negsuc}
 use Rattle.refusal.specs.Faults.{Fault, clear, fault}
 use Rattle.refusal.specs.Rules.{orElse, tooMany}
 use Rattle.bac6_text.specs.Figure.{Bone, Face, Group, Figure}
-use Rattle.table_rows.specs.References.{isNone, isRow, member}
+use Rattle.table_references.specs.References.{isNone, isRow, member}
 use Rattle.refusal.specs.FirstBad.{all, firstBad}
 use Rattle.table_counts.specs.declared.counts.FigureCounts.{FigureCounts}
 use Rattle.table_counts.specs.Counts.{figureLists, figureMosts}

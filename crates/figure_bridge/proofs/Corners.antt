@@ -10,21 +10,21 @@ use borrow.Author.Tests.{lt-ltb, le-leb}
 use lib.IntN.{ℤ, negsuc, natAbs}
 use lib.ListN.{length, length-append}
 use Rattle.text_numbers.specs.Numbers.{FLOAT}
-use Rattle.refusal.specs.Faults.{clear}
-use Rattle.parse_cursor.proofs.Given.{Every}
+use Rattle.refusal.specs.Faults.{clear, isClear}
+use Rattle.parse_spec.proofs.Given.{Every}
 use Rattle.bac6_text.specs.Figure.{Face, Figure}
 use Rattle.bac6_text.specs.Rules as bac6
 use Rattle.bac6_text.specs.Rules.{facesOf, countsOf, figureCounts, ownerOf, figureFault}
 use Rattle.refusal.specs.FirstBad.{all}
-use Rattle.table_rows.specs.References.{isRow, isNone}
+use Rattle.table_references.specs.References.{isRow, isNone}
 use Rattle.bac6_text.specs.Layout.{layoutOf, faceRow, faceRows}
-use Rattle.parse_cursor.proofs.Ranges.{AllIn}
+use Rattle.parse_spec.proofs.Ranges.{AllIn}
 use Rattle.bac6_text.proofs.Whole.{WholeFace, WholeFigure, faces-whole}
 use Rattle.bac6_text.proofs.Rows.{face-rows-wide, face-rows-length}
 use Rattle.table_counts.specs.declared.counts.FigureCounts.{FigureCounts}
 use Rattle.player_spec.specs.Faces.{rowAt, uvAt, cornerOf}
-use Rattle.table_sections.specs.Sections.{isClear, figureEnd, fewInFigure, holdsFigure}
-use Rattle.table_rows.specs.Index.{isIndex}
+use Rattle.table_figure.specs.Sections.{figureEnd, fewInFigure, holdsFigure}
+use Rattle.table_references.specs.Index.{isIndex}
 use Rattle.player_spec.specs.Lookups.{onlyIf, allFloat, faceAt, ownerAt, faceSound, pointAt, uvRow, uvFine, uvIn, canCorner, cornerIn}
 use Rattle.movement_bridge.proofs.Laid.{row-laid}
 use Rattle.figure_bridge.specs.Rows.{noFace, faceOf, groupedFaceOf}

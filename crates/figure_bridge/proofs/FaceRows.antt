@@ -11,11 +11,11 @@ use Rattle.text_numbers.proofs.Numerals.{and-true}
 use Rattle.bac6_text.specs.Figure.{Face}
 use Rattle.bac6_text.specs.Rules as bac6
 use Rattle.refusal.specs.FirstBad.{all}
-use Rattle.table_rows.specs.References.{isRow, isNone, sameNumber}
+use Rattle.table_references.specs.References.{isRow, isNone, sameNumber}
 use Rattle.bac6_text.specs.Layout.{corners, faceRow}
 use Rattle.bac6_text.proofs.Whole.{WholeFace}
 use Rattle.table_counts.specs.declared.counts.FigureCounts.{FigureCounts}
-use Rattle.table_rows.specs.Index.{isIndex}
+use Rattle.table_references.specs.Index.{isIndex}
 use Rattle.player_spec.specs.Lookups.{sizeFine, cornersFine, allNone, faceSound}
 
 -- a corner's number, -1 where there is none

@@ -8,13 +8,13 @@ use native.Mathlib.Omega.{arith}
 use borrow.Author.Tests.{lt-ltb}
 use lib.IntN.{ℤ, pos, negsuc}
 use lib.ListN.{length, getD, length-map, List·getD-map}
-use Rattle.parse_cursor.proofs.Given.{Every}
+use Rattle.parse_spec.proofs.Given.{Every}
 use Rattle.bac6_text.specs.Figure.{Face, Group, Figure}
 use Rattle.bac6_text.specs.Rules.{groupFaces, facesOf}
-use Rattle.table_rows.specs.References.{isRow, isNone}
+use Rattle.table_references.specs.References.{isRow, isNone}
 use Rattle.bac6_text.specs.Layout.{faceRow, groupRows, faceRows}
 use Rattle.player_spec.specs.Faces.{inGroup, inGroups, groupedFaces}
-use Rattle.table_rows.specs.Index.{isIndex}
+use Rattle.table_references.specs.Index.{isIndex}
 use Rattle.figure_bridge.specs.Rows.{noFace, faceOf, groupedFaceOf}
 use Rattle.figure_bridge.proofs.Sound.{every-at}
 

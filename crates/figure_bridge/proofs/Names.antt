@@ -7,13 +7,13 @@ use lib.IntN.{ℤ, pos}
 use lib.ListN.{length, getD}
 use lib.Seq.{getD-append-add}
 use Rattle.refusal.specs.Faults.{clear}
-use Rattle.parse_cursor.specs.Readers.{Name, absent}
+use Rattle.parse_spec.specs.Readers.{Name, absent}
 use Rattle.bac6_text.specs.Figure.{Bone, Figure}
 use Rattle.bac6_text.specs.Rules.{figureFault, flagsOf, wholeList, parentsIn}
 use Rattle.bac6_text.specs.Layout.{nameNumbers, boneRow, boneRows, layoutOf}
 use Rattle.bac6_text.proofs.Whole.{WholeBone, WholeBones, WholeFigure}
 use Rattle.bac6_text.proofs.Rows.{nine, nine-length, bones-wide, bones-count}
-use Rattle.table_sections.specs.Sections.{bonesBegin}
+use Rattle.table_figure.specs.Sections.{bonesBegin}
 use Rattle.table_columns.specs.Parts.{numberAt}
 use Rattle.movement_bridge.proofs.Laid.{number-laid}
 use Rattle.figure_bridge.proofs.Sound.{parents-sound}

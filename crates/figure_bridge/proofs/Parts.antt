@@ -15,7 +15,7 @@ use Rattle.bac6_text.specs.Layout.{layoutOf, nameNumbers, boneRows, ownersFrom,
 use Rattle.bac6_text.proofs.Whole.{WholeFigure}
 use Rattle.bac6_text.proofs.Rows.{bones-wide, bones-count, face-rows-wide, face-rows-length}
 use Rattle.table_counts.specs.declared.counts.FigureCounts.{FigureCounts}
-use Rattle.table_sections.specs.Sections.{pointsBegin, bonesBegin, ownersBegin, uvsBegin, facesBegin, groupsBegin, figureEnd}
+use Rattle.table_figure.specs.Sections.{pointsBegin, bonesBegin, ownersBegin, uvsBegin, facesBegin, groupsBegin, figureEnd}
 use Rattle.table_columns.specs.Parts.{numberAt}
 use Rattle.movement_bridge.proofs.Laid.{Laid}
 

@@ -7,13 +7,13 @@ use Prim.Native.Nat.{ℕ, _<_}
 use borrow.Author.Tests.{lt-ltb}
 use lib.IntN.{ℤ, pos}
 use lib.ListN.{length, getD}
-use Rattle.refusal.specs.Faults.{clear}
+use Rattle.refusal.specs.Faults.{clear, isClear}
 use Rattle.text_numbers.proofs.Numerals.{and-true}
-use Rattle.parse_cursor.proofs.Given.{Every}
+use Rattle.parse_spec.proofs.Given.{Every}
 use Rattle.bac6_text.specs.Figure.{Bone, Face, Figure}
 use Rattle.bac6_text.specs.Rules.{facesOf, ownerOf, figureFault}
 use Rattle.refusal.specs.FirstBad.{all}
-use Rattle.table_rows.specs.References.{isRow, isNone}
+use Rattle.table_references.specs.References.{isRow, isNone}
 use Rattle.bac6_text.specs.Layout.{layoutOf, corners, faceRow}
 use Rattle.bac6_text.proofs.Whole.{WholeFace, WholeFigure}
 use Rattle.tra4_text.specs.Movement.{Pattern, groupOf, Movement}
@@ -21,9 +21,10 @@ use Rattle.tra4_text.specs.Rules.{patternsFault}
 use Rattle.table_counts.specs.declared.counts.FigureCounts.{FigureCounts}
 use Rattle.table_counts.specs.declared.counts.MovementCounts.{MovementCounts}
 use Rattle.player_spec.specs.Faces.{allOwned, groupShown, shownOf}
-use Rattle.table_sections.specs.Sections.{isClear, holdsFigure, holdsMovement}
+use Rattle.table_figure.specs.Sections.{holdsFigure}
+use Rattle.table_movement.specs.Sections.{holdsMovement}
 use Rattle.table_columns.specs.Parts.{numberAt}
-use Rattle.table_rows.specs.Index.{isIndex}
+use Rattle.table_references.specs.Index.{isIndex}
 use Rattle.player_spec.specs.Lookups.{onlyIf, isAsked, sizeFine, cornersFine, faceAt, ownerAt, ownersFine, ownedCorners, patternRows, linesFine, patternsFine, canShow, groupFlag, shownIn}
 use Rattle.pair_text.specs.Rules.{groupsFault}
 use Rattle.figure_bridge.specs.Rows.{groupedFaceOf, hasNoGroup}

@@ -8,7 +8,7 @@ use Rattle.refusal.specs.Faults.{clear}
 pub use Rattle.text_bytes.proofs.Every.{every-at}
 use Rattle.refusal.specs.Rules.{orElse, tooMany}
 use Rattle.refusal.proofs.Rules.{or-first, or-second}
-use Rattle.parse_cursor.proofs.Given.{Every}
+use Rattle.parse_spec.proofs.Given.{Every}
 use Rattle.bac6_text.specs.Figure.{Figure}
 use Rattle.bac6_text.specs.Rules.{facesOf, countsOf, normalsFault, flagsOf, wholeList, parentsIn, bonesFault, verticesFault, materialFine, faceFine, figureFault}
 use Rattle.refusal.specs.FirstBad.{firstBad}

@@ -13,10 +13,10 @@ use Rattle.text_numbers.proofs.Numerals.{and-true}
 use Rattle.bac6_text.specs.Figure.{Bone}
 use Rattle.bac6_text.specs.Rules.{ownerFrom, ownerOf}
 use Rattle.refusal.specs.FirstBad.{all, firstBad}
-use Rattle.table_rows.specs.References.{isRow, isNone, member}
-use Rattle.parse_cursor.proofs.Ranges.{AllIn}
-use Rattle.table_rows.specs.Index.{isIndex}
-use Rattle.table_sections.specs.Sections.{isClear}
+use Rattle.table_references.specs.References.{isRow, isNone, member}
+use Rattle.parse_spec.proofs.Ranges.{AllIn}
+use Rattle.table_references.specs.Index.{isIndex}
+use Rattle.refusal.specs.Faults.{isClear}
 use Rattle.player_spec.specs.Lookups.{allFloat}
 use Rattle.movement_bridge.proofs.Faultless.{float-in-form}
 

@@ -7,12 +7,12 @@ use Prim.Native.Nat.{ℕ, _<_}
 use lib.IntN.{ℤ, natAbs}
 use lib.ListN.{length, drop}
 use Rattle.text_check.specs.Faults.{bac}
-use Rattle.refusal.specs.Faults.{clear}
+use Rattle.refusal.specs.Faults.{clear, isClear}
 use Rattle.text_tokens.specs.Tokens.{lex}
 use Rattle.refusal.specs.Outcomes.{Outcome, accepted, laid}
 use Rattle.bac6_text.specs.Figure.{Figure}
 use Rattle.bac6_text.specs.Grammar.{figure}
-use Rattle.bac6_text.specs.Rules.{facesOf, figureFault}
+use Rattle.bac6_text.specs.Rules.{facesOf, figureFault, figureCounts}
 use Rattle.bac6_text.specs.Layout.{layoutOf}
 use Rattle.bac6_text.specs.Answer.{figureOutcome, figureAnswer, tableAfter}
 use Rattle.bac6_text.proofs.Whole.{WholeFigure, figure-whole}
@@ -21,7 +21,6 @@ use Rattle.tra4.specs.Answers as tra4
 use Rattle.tra4_text.specs.Movement.{Movement}
 use Rattle.tra4_text.specs.Answer.{movementAnswer, movementTable}
 use Rattle.player_spec.specs.Faces.{cornerOf, shownOf}
-use Rattle.table_sections.specs.Sections.{isClear}
 use Rattle.player_spec.specs.Lookups.{onlyIf, patternRows, cornerIn, shownIn}
 use Rattle.movement_bridge.specs.Counts as movement
 use Rattle.movement_bridge.proofs.Taken.{Taken, taken}
@@ -32,7 +31,6 @@ use Rattle.figure_bridge.proofs.Parts.{counts}
 use Rattle.figure_bridge.proofs.Tests.{or-yes}
 use Rattle.figure_bridge.proofs.Corners.{corner-stands}
 use Rattle.figure_bridge.proofs.Showing.{shown-stands}
-use Rattle.bac6_text.specs.Rules.{figureCounts}
 use Rattle.tra4_text.specs.Rules.{movementCounts}
 
 pub counts-are : (f : Figure) → figureCounts f ≡ counts f

@@ -5,7 +5,7 @@ use Prim.Native.Nat.{ℕ, zero, suc, _+_, _*_, _<_}
 use native.Mathlib.Omega.{arith}
 use lib.IntN.{ℤ, pos}
 use lib.ListN.{length, getD, length-append}
-use Rattle.parse_cursor.proofs.Given.{Every}
+use Rattle.parse_spec.proofs.Given.{Every}
 use Rattle.tra4_text.specs.Movement.{Channel, Bone}
 use Rattle.tra4_text.specs.Rules.{allKeys, channelsOf}
 use Rattle.tra4_text.specs.Layout.{nameNumbers, keyRanges, boneRow, boneRows}

@@ -8,15 +8,14 @@ use native.Mathlib.Omega.{arith}
 use borrow.Author.Tests.{leb-true, le-leb, lt-ltb}
 use lib.IntN.{ℤ, pos, negsuc, natAbs}
 use lib.ListN.{length, getD}
-use Rattle.refusal.specs.Faults.{clear, fault}
+use Rattle.refusal.specs.Faults.{clear, fault, isClear}
 use Rattle.text_numbers.specs.Numbers.{FLOAT, inForm}
-use Rattle.parse_cursor.proofs.Given.{Every}
+use Rattle.parse_spec.proofs.Given.{Every}
 use Rattle.refusal.proofs.Rules.{or-first, or-second}
-use Rattle.table_rows.specs.References.{isRow}
+use Rattle.table_references.specs.References.{isRow}
 use Rattle.tra4_text.specs.Movement.{Key, Channel, Pattern, frameOf}
 use Rattle.tra4_text.specs.Rules.{totalFault, framesFault, keyFine, keysFault}
 use Rattle.tra4_text.proofs.Whole.{FloatValue, Flagged}
-use Rattle.table_sections.specs.Sections.{isClear}
 use Rattle.player_spec.specs.Lookups.{isFloat, isAsked, isRange, valuesFine}
 
 -- ---- frames

@@ -5,7 +5,7 @@ use Prim.Native.Nat.{ℕ, zero, suc, _+_, _*_, _<_}
 use native.Mathlib.Omega.{arith}
 use lib.IntN.{ℤ, pos}
 use lib.ListN.{length, getD}
-use Rattle.parse_cursor.specs.Readers.{Name, absent}
+use Rattle.parse_spec.specs.Readers.{Name, absent}
 use Rattle.tra4_text.specs.Movement.{Bone, Movement}
 use Rattle.tra4_text.specs.Rules.{allKeys}
 use Rattle.tra4_text.specs.Layout.{nameNumbers, boneRow, boneRows, layoutOf}

@@ -8,12 +8,12 @@ use native.Mathlib.Omega.{arith}
 use borrow.Author.Tests.{lt-ltb}
 use lib.IntN.{ℤ, pos, natAbs}
 use lib.ListN.{length, drop, length-append}
-use Rattle.refusal.specs.Faults.{clear}
+use Rattle.refusal.specs.Faults.{clear, isClear}
 use Rattle.text_bytes.proofs.Every.{every-append, every-first, every-last}
 use Rattle.refusal.specs.Outcomes.{accepted}
-use Rattle.parse_cursor.proofs.Given.{Every}
+use Rattle.parse_spec.proofs.Given.{Every}
 use Rattle.tra4_text.specs.Movement.{Key, Channel, Bone, Movement}
-use Rattle.tra4_text.specs.Rules.{allKeys, channelsOf, keyRows, framesFault, keyFine, keysFault, movementFault}
+use Rattle.tra4_text.specs.Rules.{allKeys, channelsOf, keyRows, framesFault, keyFine, keysFault, movementFault, movementCounts}
 use Rattle.tra4_text.specs.Layout.{layoutOf}
 use Rattle.tra4_text.specs.Answer.{movementAnswer, movementTable}
 use Rattle.tra4_text.proofs.Whole.{WholeChannel, WholeBone, WholeMovement, wide-keys}
@@ -21,7 +21,7 @@ use Rattle.tra4_text.proofs.Layouts.{keys-append, keys-wide}
 use Rattle.tra4.specs.Answers.{answerOf}
 use Rattle.table_counts.specs.declared.counts.MovementCounts.{MovementCounts}
 use Rattle.player_spec.specs.Samples.{sampleOf}
-use Rattle.table_sections.specs.Sections.{isClear, keysBegin, holdsMovement}
+use Rattle.table_movement.specs.Sections.{keysBegin, holdsMovement}
 use Rattle.table_columns.specs.Parts.{numberAt, rowsAt}
 use Rattle.player_spec.specs.Lookups.{onlyIf, isAsked, isRange, valuesFine, pairAt, channelKeys, canSample, sampleIn}
 use Rattle.movement_bridge.specs.Counts.{channelOf}
@@ -29,7 +29,6 @@ use Rattle.movement_bridge.proofs.Laid.{Laid, laid-part, rows-laid}
 use Rattle.movement_bridge.proofs.Channels.{Found, in-rows}
 use Rattle.movement_bridge.proofs.Faultless.{one-clear, range-within, values-fine}
 use Rattle.movement_bridge.proofs.Tables.{countsRead, bone-number, keys-laid, keys-clear, whole-read, clean-read, table-read, movement-holds, total-stands, frame-asked}
-use Rattle.tra4_text.specs.Rules.{movementCounts}
 
 -- ---- what holds of each channel
 

@@ -8,15 +8,15 @@ use borrow.Author.Tests.{le-leb}
 use lib.IntN.{ℤ, pos, natAbs}
 use lib.ListN.{length, getD, drop, length-append}
 use Rattle.text_check.specs.Faults.{tra}
-use Rattle.refusal.specs.Faults.{clear}
+use Rattle.refusal.specs.Faults.{clear, isClear}
 use Rattle.text_tokens.specs.Tokens.{lex}
 use Rattle.table_rows.specs.Flat.{flat}
 use Rattle.refusal.specs.Rules.{tooMany, orElse}
 use Rattle.refusal.specs.Outcomes.{Outcome, accepted, laid}
-use Rattle.parse_cursor.proofs.Given.{Every}
+use Rattle.parse_spec.proofs.Given.{Every}
 use Rattle.refusal.proofs.Rules.{or-first, or-second}
 use Rattle.parse_rows.proofs.Widths.{Wide, flat-length}
-use Rattle.table_rows.specs.References.{isRow}
+use Rattle.table_references.specs.References.{isRow}
 use Rattle.tra4_text.specs.Movement.{Movement}
 use Rattle.tra4_text.specs.Grammar.{movement}
 use Rattle.tra4_text.specs.Rules.{channelsOf, keyRows, countsOf, movementCounts, totalFault, keysFault, patternsFault, movementFault}
@@ -26,15 +26,13 @@ use Rattle.tra4_text.proofs.Whole.{WholeMovement, movement-whole}
 use Rattle.tra4_text.proofs.Layouts.{all-wide, rows-wide, rows-count, layout-length}
 use Rattle.tra4.specs.Answers.{answerOf}
 use Rattle.table_counts.specs.declared.counts.MovementCounts.{MovementCounts}
-use Rattle.table_sections.specs.Sections.{isClear, keysBegin, patternsBegin, movementEnd, fewInMovement, holdsMovement}
+use Rattle.table_movement.specs.Sections.{keysBegin, patternsBegin, movementEnd, fewInMovement, holdsMovement}
 use Rattle.table_columns.specs.Parts.{numberAt, rowsAt}
 use Rattle.player_spec.specs.Lookups.{isAsked}
 use Rattle.movement_bridge.proofs.Laid.{Laid, rows-laid, number-laid}
 use Rattle.movement_bridge.proofs.Taken.{Taken, taken}
 use Rattle.movement_bridge.proofs.Faultless.{asked-below, flags-in-row}
-use Rattle.table_counts.specs.Counts.{movementMosts}
-use Rattle.table_counts.specs.Counts.{movementLists}
-use Rattle.tra4_text.specs.Rules.{movementCounts}
+use Rattle.table_counts.specs.Counts.{movementMosts, movementLists}
 
 -- the counts that reading answers
 abbrev pub countsRead : Movement → MovementCounts

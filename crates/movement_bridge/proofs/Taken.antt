@@ -10,7 +10,7 @@ use lib.IntN.{ℤ}
 use Rattle.text_check.specs.Faults.{Format, textFault}
 use Rattle.refusal.specs.Faults.{Fault, clear, fault}
 use Rattle.text_tokens.specs.Tokens.{Lexeme, lex}
-use Rattle.parse_cursor.specs.Readers.{Got, got, refused, Reader}
+use Rattle.parse_spec.specs.Readers.{Got, got, refused, Reader}
 use Rattle.parse_text.proofs.Outcomes.{rejected-no}
 use Rattle.refusal.specs.Outcomes.{Outcome, rejected, accepted, ruled, fitted}
 use Rattle.parse_text.specs.Texts.{shaped, checked, outcome}

@@ -17,9 +17,9 @@ use Rattle.tra4_text.specs.Movement.{Movement}
 use Rattle.tra4_text.specs.Layout as movements
 use Rattle.tra4_text.proofs.Whole.{WholeMovement}
 use Rattle.tra4.specs.Answers.{answerOf}
-use Rattle.table_sections.specs.Sections.{holdsMovement}
+use Rattle.table_movement.specs.Sections.{holdsMovement}
 use Rattle.player_spec.specs.Lookups.{onlyIf}
-use Rattle.player_label.specs.Names.{ifTrue}
+use Rattle.player_names.specs.Names.{ifTrue}
 use Rattle.player_label.specs.Labels.{labelFrom, labelIn}
 use Rattle.movement_bridge.proofs.Tables.{countsRead}
 use Rattle.movement_bridge.proofs.Names as movement

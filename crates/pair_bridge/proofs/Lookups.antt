@@ -8,20 +8,20 @@ use borrow.Author.Tests.{ltb-true, ltb-false}
 use lib.Dec.{ltb}
 use lib.IntN.{ℤ, pos, natAbs}
 use lib.ListN.{length, getD, drop}
-use Rattle.refusal.specs.Faults.{clear}
+use Rattle.refusal.specs.Faults.{clear, isClear}
 use Rattle.refusal.specs.Outcomes.{accepted}
 use Rattle.bac6_text.specs.Figure.{Face, Figure}
-use Rattle.bac6_text.specs.Rules.{facesOf}
+use Rattle.bac6_text.specs.Rules.{facesOf, figureCounts}
 use Rattle.bac6_text.specs.Layout.{layoutOf}
 use Rattle.bac6_text.specs.Answer.{figureAnswer, tableAfter}
 use Rattle.tra4_text.specs.Movement.{Movement}
-use Rattle.tra4_text.specs.Rules.{totalFault}
+use Rattle.tra4_text.specs.Rules.{totalFault, movementCounts}
 use Rattle.tra4_text.specs.Answer.{movementAnswer, movementTable}
 use Rattle.pair_text.specs.Rules.{groupsFault}
 use Rattle.bac6.specs.Answers as bac6
 use Rattle.tra4.specs.Answers as tra4
 use Rattle.player_spec.specs.Fractions.{Fraction}
-use Rattle.table_sections.specs.Sections.{isClear, holdsFigure}
+use Rattle.table_figure.specs.Sections.{holdsFigure}
 use Rattle.table_columns.specs.Parts.{numberAt}
 use Rattle.player_spec.specs.Faces.{CornerOf}
 use Rattle.player_corners.specs.Internal.CornerRow.{rowCorner}
@@ -40,8 +40,6 @@ use Rattle.figure_bridge.proofs.FaceRows.{row-size}
 use Rattle.figure_bridge.proofs.Corners.{figure-holds, face-stands}
 use Rattle.figure_bridge.proofs.Texts.{counts-are, figure-taken, whole-figure, figure-table, corner-from-text, shown-from-text}
 use Rattle.pair_bridge.specs.Playing.{framesOf, sampleAsked, cornerAsked, shownAsked}
-use Rattle.bac6_text.specs.Rules.{figureCounts}
-use Rattle.tra4_text.specs.Rules.{movementCounts}
 
 not-below : (total : ℤ) (at : ℕ) → ltb at (natAbs total) ≡ false → isAsked total at ≡ false
 unfolding isAsked

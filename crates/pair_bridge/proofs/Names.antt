@@ -10,8 +10,8 @@ use lib.IntN.{ℤ, pos}
 use lib.ListN.{length, getD, length-map}
 use Rattle.text_check.specs.Internal.Strings.{StringAt}
 use Rattle.refusal.specs.Faults.{clear}
-use Rattle.parse_cursor.specs.Readers.{Name, absent}
-use Rattle.parse_cursor.specs.Fields.{isSome}
+use Rattle.parse_spec.specs.Readers.{Name, absent}
+use Rattle.parse_spec.specs.Fields.{isSome}
 use Rattle.bac6_text.specs.Figure as bac6
 use Rattle.bac6_text.specs.Rules.{figureFault}
 use Rattle.bac6_text.specs.Layout as figures
@@ -20,10 +20,10 @@ use Rattle.tra4_text.specs.Movement as tra4
 use Rattle.tra4_text.specs.Layout as movements
 use Rattle.tra4_text.proofs.Whole.{WholeMovement}
 use Rattle.pair_text.specs.Rules.{figureNames, movementNames}
-use Rattle.table_sections.specs.Sections.{bonesBegin}
+use Rattle.table_figure.specs.Sections.{bonesBegin}
 use Rattle.table_columns.specs.Parts.{numberAt}
 use Rattle.player_spec.specs.Lookups.{onlyIf}
-use Rattle.player_label.specs.Names.{isName, nameSpan, partAt, figureSpan, figureName, movementSpan, movementName}
+use Rattle.player_names.specs.Names.{isName, nameSpan, partAt, figureSpan, figureName, movementSpan, movementName}
 use Rattle.player_label.specs.Labels.{orEmpty}
 use Rattle.movement_bridge.proofs.Names as movement
 use Rattle.figure_bridge.proofs.Parts.{counts}

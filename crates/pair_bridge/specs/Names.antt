@@ -4,11 +4,11 @@ use mathlib.Core.Bool.{Bool, true, _&&_}
 use mathlib.Core.Option.{Option}
 use Prim.Native.Nat.{ℕ, zero, suc}
 use lib.IntN.{ℤ}
-use Rattle.parse_cursor.specs.Fields.{isSome}
+use Rattle.parse_spec.specs.Fields.{isSome}
 use Rattle.table_counts.specs.declared.counts.FigureCounts.{FigureCounts}
-use Rattle.table_sections.specs.Sections.{holdsFigure}
+use Rattle.table_figure.specs.Sections.{holdsFigure}
 use Rattle.player_spec.specs.Lookups.{onlyIf}
-use Rattle.player_label.specs.Names.{figureName}
+use Rattle.player_names.specs.Names.{figureName}
 use Rattle.player_label.specs.Labels.{orEmpty}
 
 -- so many names from a row on, of what gives a row's name

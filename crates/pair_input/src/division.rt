@@ -2,8 +2,8 @@
 ghost use mathlib.Core.Path.{_≡_};
 ghost use Rattle.pair_input.specs.Division.{headOf, dividedAt, divided};
 ghost use Rattle.pair_input.specs.Answers.{lengthNamed, divisionNamed};
-use text_bytes::Run;
 use text_numbers::Parsed;
+use text_runs::Run;
 
 // The figure's length, or no head.
 pub enum Head {
@@ -25,7 +25,7 @@ pub fn parse_head(bytes: &[u8]) -> Head
         return Head::Wrong;
     }
     let digits = &bytes[..8];
-    if text_bytes::run_end(digits, 0, Run::Digits) < 8 {
+    if text_runs::run_end(digits, 0, Run::Digits) < 8 {
         return Head::Wrong;
     }
     if bytes[8] != b'\n' {

@@ -5,7 +5,7 @@ ghost use Rattle.pair_bridge.specs.Playing.{labelAsked};
 ghost use Rattle.pair_laws.specs.Playing.{played};
 ghost use Rattle.pair_labels.specs.Answers.{refusalOf, bytesOf};
 use pair_load::load;
-use text_bytes::part;
+use text_runs::part;
 
 pub struct Refusal {
     pub number: usize,

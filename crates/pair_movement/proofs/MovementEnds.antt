@@ -9,15 +9,15 @@ use lib.ListN.{length}
 use Rattle.refusal.specs.Faults.{clear, fault}
 use Rattle.text_numbers.proofs.Numerals.{and-true}
 use Rattle.text_check.specs.Internal.Strings.{StringAt}
-use Rattle.parse_cursor.specs.Fields.{isSome}
+use Rattle.parse_spec.specs.Fields.{isSome}
 use Rattle.refusal.specs.Outcomes.{rejected, accepted}
 use Rattle.tra4_text.specs.Movement.{Movement}
 use Rattle.tra4_text.specs.Answer.{movementAnswer, movementTable}
 use Rattle.tra4.specs.Answers.{answerOf}
 use Rattle.table_counts.specs.declared.counts.FigureCounts.{FigureCounts}
-use Rattle.table_sections.specs.Sections.{holdsFigure}
+use Rattle.table_figure.specs.Sections.{holdsFigure}
 use Rattle.player_spec.specs.Lookups.{onlyIf}
-use Rattle.player_label.specs.Names.{figureName}
+use Rattle.player_names.specs.Names.{figureName}
 use Rattle.movement_bridge.proofs.Tables.{countsRead, whole-read, table-read, patterns-stand}
 use Rattle.movement_bridge.proofs.Names.{boneName}
 use Rattle.pair_text.specs.Rules.{pairFault}

@@ -29,15 +29,12 @@ use Rattle.tra4_text.proofs.Whole.{movement-whole}
 use Rattle.tra4_text.proofs.Layouts.{layout-length}
 use Rattle.bac6.specs.Answers as bac6
 use Rattle.tra4.specs.Answers as tra4
-use Rattle.table_sections.specs.Sections.{pointsBegin, bonesBegin, ownersBegin, uvsBegin, facesBegin, groupsBegin, figureEnd}
+use Rattle.table_figure.specs.Sections.{pointsBegin, bonesBegin, ownersBegin, uvsBegin, facesBegin, groupsBegin, figureEnd}
 use Rattle.movement_bridge.proofs.Taken.{taken}
 use Rattle.movement_bridge.proofs.Tables.{counts-clear}
 use Rattle.figure_bridge.proofs.Sound.{counts-sound, parents-sound}
 use Rattle.figure_bridge.proofs.Parts.{counts, figure-long}
-use Rattle.table_counts.specs.Counts.{figureMosts}
-use Rattle.table_counts.specs.Counts.{figureLists}
-use Rattle.table_counts.specs.Counts.{movementMosts}
-use Rattle.table_counts.specs.Counts.{movementLists}
+use Rattle.table_counts.specs.Counts.{figureMosts, figureLists, movementMosts, movementLists}
 
 -- ---- over a format
 

@@ -8,7 +8,7 @@ use lib.ListN.{length, getD}
 use Rattle.text_bytes.specs.Internal.Every.{Every}
 use Rattle.text_check.specs.Internal.Strings.{StringAt}
 use Rattle.text_check.specs.Faults.{bac, tra}
-use Rattle.parse_cursor.specs.Readers.{Name, absent}
+use Rattle.parse_spec.specs.Readers.{Name, absent}
 use Rattle.refusal.specs.Outcomes.{accepted, fitted}
 use Rattle.parse_text.proofs.Outcomes.{fitted-room, accepted-clear}
 use Rattle.bac6_text.specs.Figure as bac6

@@ -9,15 +9,15 @@ use borrow.Author.Tests.{leb-true}
 use lib.Dec.{leb}
 use lib.IntN.{ℤ, pos, negsuc, natAbs}
 use lib.ListN.{length}
-use Rattle.text_bytes.specs.Bytes.{part}
-use Rattle.text_bytes.proofs.Parts.{part-length}
+use Rattle.text_runs.specs.Runs.{part}
+use Rattle.text_runs.proofs.Parts.{part-length}
 use Rattle.text_numbers.proofs.Numerals.{and-true}
 use Rattle.report_text.specs.Output.{output}
 use Rattle.report_lists.specs.Lists.{appendedEach, textOf}
 use Rattle.table_counts.specs.declared.counts.FigureCounts.{FigureCounts}
 use Rattle.table_counts.specs.declared.counts.MovementCounts.{MovementCounts}
 use Rattle.player_spec.specs.Lookups.{onlyIf}
-use Rattle.player_label.specs.Names.{isName, nameSpan, partAt, figureSpan, figureName, movementSpan, movementName, ifTrue}
+use Rattle.player_names.specs.Names.{isName, nameSpan, partAt, figureSpan, figureName, movementSpan, movementName, ifTrue}
 use Rattle.player_label.specs.Labels.{labelOf, labelFrom, labelIn, orEmpty}
 use Rattle.pair_listing.specs.Lines.{labelParts}
 

@@ -7,7 +7,7 @@ use native.Mathlib.Omega.{arith}
 use lib.IntN.{ℤ, pos}
 use lib.ListN.{length, take, replicate, length-append, length-replicate}
 use lib.Seq.{length-take-le}
-use Rattle.text_bytes.specs.Bytes.{part}
+use Rattle.text_runs.specs.Runs.{part}
 use Rattle.io.specs.Counts.{Counts}
 use Rattle.report_text.specs.Output.{Output, output, appended}
 use Rattle.report_lists.specs.Lists.{appendedEach, textOf}
@@ -15,7 +15,7 @@ use Rattle.report_lists.proofs.Texts.{each-within, each-whole}
 use Rattle.bac6_text.specs.Figure.{Figure}
 use Rattle.bac6.specs.Answers as bac6
 use Rattle.tra4_text.specs.Movement.{Movement}
-use Rattle.table_sections.proofs.Mosts.{figure-small}
+use Rattle.table_figure.proofs.Mosts.{figure-small}
 use Rattle.player_label.specs.Labels.{orEmpty}
 use Rattle.report_lists.specs.Parts.{linesFrom}
 use Rattle.pair_text.specs.Answer.{Loaded, refused, loaded, pairAnswer, figureLeft, movementOf, movementLeft}

@@ -3,7 +3,7 @@ use mathlib.Core.List.{List, [], _∷_}
 use Prim.Native.Nat.{ℕ}
 use lib.IntN.{ℤ}
 use lib.ListN.{length}
-use Rattle.text_bytes.specs.Bytes.{part}
+use Rattle.text_runs.specs.Runs.{part}
 use Rattle.report_lists.specs.Lists.{textOf}
 use Rattle.bac6_text.specs.Figure.{Figure}
 use Rattle.bac6_text.specs.Layout as figures

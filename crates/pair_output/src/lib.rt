@@ -70,8 +70,8 @@ pub fn list_input(buf: &mut [u8], text: &[u8], more: usize) -> usize
         Division::Refused(number) => list_reply(buf, number, 0, 0, 0, 0),
         Division::Figure(end) => list_texts(
             buf,
-            text_bytes::part(text, 9, end),
-            text_bytes::part(text, end, text.len()),
+            text_runs::part(text, 9, end),
+            text_runs::part(text, end, text.len()),
         ),
     }
 }

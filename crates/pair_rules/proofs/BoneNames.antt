@@ -8,13 +8,14 @@ use native.Mathlib.Omega.{arith}
 use borrow.Author.Tests.{lt-ltb}
 use lib.IntN.{ℤ}
 use lib.ListN.{length}
-use Rattle.text_bytes.specs.Bytes.{same}
-use Rattle.parse_cursor.specs.Fields.{isSome}
+use Rattle.text_runs.specs.Runs.{same}
+use Rattle.parse_spec.specs.Fields.{isSome}
 use Rattle.table_counts.specs.declared.counts.FigureCounts.{FigureCounts}
 use Rattle.table_counts.specs.declared.counts.MovementCounts.{MovementCounts}
-use Rattle.table_sections.specs.Sections.{holdsFigure, holdsMovement}
+use Rattle.table_figure.specs.Sections.{holdsFigure}
+use Rattle.table_movement.specs.Sections.{holdsMovement}
 use Rattle.player_spec.specs.Lookups.{onlyIf}
-use Rattle.player_label.specs.Names.{partAt, figureSpan, figureName, movementName, ifTrue, figureNamed, movementNamed}
+use Rattle.player_names.specs.Names.{partAt, figureSpan, figureName, movementName, ifTrue, figureNamed, movementNamed}
 use Rattle.pair_text.specs.Rules.{namesAgree}
 use Rattle.pair_bridge.specs.Names.{allNamed, namesIn}
 

@@ -11,10 +11,11 @@ use Rattle.refusal.specs.Faults.{Fault, clear, fault}
 use Rattle.refusal.proofs.Rules.{or-clear, or-fault}
 use Rattle.table_counts.specs.declared.counts.FigureCounts.{FigureCounts}
 use Rattle.table_counts.specs.declared.counts.MovementCounts.{MovementCounts}
-use Rattle.table_sections.specs.Sections.{keysBegin, patternsBegin, holdsFigure, holdsMovement}
+use Rattle.table_movement.specs.Sections.{keysBegin, patternsBegin, holdsMovement}
+use Rattle.table_figure.specs.Sections.{holdsFigure}
 use Rattle.table_columns.specs.Parts.{rowsAt}
 use Rattle.table_columns.proofs.Parts.{part-rows}
-use Rattle.player_label.specs.Names.{figureName, movementName}
+use Rattle.player_names.specs.Names.{figureName, movementName}
 use Rattle.pair_text.specs.Rules.{bonesFault, namesFault, groupsFault}
 use Rattle.pair_bridge.specs.Names.{namesFrom}
 use Rattle.pair_rules.specs.Internal.Tables.{rowsFault, tablesFault}

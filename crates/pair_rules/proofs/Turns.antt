@@ -11,9 +11,9 @@ use lib.IntN.{ℤ, pos}
 use lib.ListN.{getD, drop}
 use lib.Seq.{getD-take, getD-drop}
 use Rattle.refusal.specs.Faults.{Fault, clear, fault}
-use Rattle.parse_cursor.specs.Fields.{isSome}
+use Rattle.parse_spec.specs.Fields.{isSome}
 use Rattle.refusal.specs.FirstBad.{firstBad}
-use Rattle.table_rows.specs.References.{isRow}
+use Rattle.table_references.specs.References.{isRow}
 use Rattle.tra4_text.specs.Movement.{Pattern, groupOf}
 use Rattle.table_columns.specs.Parts.{numbersAt, rowsAt}
 use Rattle.player_label.specs.Labels.{orEmpty}

@@ -4,14 +4,18 @@ ghost use mathlib.Core.Bool.{true};
 ghost use Prim.Native.Nat.{_*_, _≤_};
 ghost use lib.ListN.{length};
 ghost use Rattle.refusal.specs.Internal.Answers.{refusal};
-ghost use Rattle.table_sections.specs.Sections.{holdsFigure, holdsMovement};
+ghost use Rattle.table_figure.specs.Sections.{holdsFigure};
+ghost use Rattle.table_movement.specs.Sections.{holdsMovement};
 ghost use Rattle.table_columns.specs.Parts.{rowsAt};
 ghost use Rattle.pair_text.specs.Rules.{groupsFault};
 ghost use Rattle.pair_rules.specs.Internal.Tables.{rowsFault, tablesFault};
 use crate::names::names_fault;
 use refusal::Checked;
 use table_counts::FigureCounts;
+use table_counts::KEY_WIDTH;
+use table_counts::MOVEMENT_BONE_WIDTH;
 use table_counts::MovementCounts;
+use table_counts::PATTERN_WIDTH;
 
 // 20, at the first pattern line whose group is none of so many; lines are rows of three numbers.
 fn groups_fault(lines: &[i64], count: usize, groups: usize) -> Checked
@@ -21,7 +25,7 @@ fn groups_fault(lines: &[i64], count: usize, groups: usize) -> Checked
     let mut row = 0;
     while row < count {
         let group = lines[row * 3 + 1];
-        if !table_rows::is_row(groups, group) {
+        if !table_references::is_row(groups, group) {
             return Checked::Refused {
                 number: 20,
                 place: row,
@@ -56,8 +60,8 @@ fn rows_fault(
     match names_fault(figure, table, n, movement, moves, m) {
         Checked::Refused { number, place } => Checked::Refused { number, place },
         Checked::Clear => {
-            let from = 3 + bones * 22 + keys * 2;
-            groups_fault(&moves[from..from + count * 3], count, n.groups)
+            let from = 3 + bones * MOVEMENT_BONE_WIDTH + keys * KEY_WIDTH;
+            groups_fault(&moves[from..from + count * PATTERN_WIDTH], count, n.groups)
         }
     }
 }
@@ -73,13 +77,13 @@ pub fn pair_fault(
 ) -> Checked
     ensures { λ r. ⌜ refusal r ≡ tablesFault (now (figure .entry)) n (now (table .entry)) (now (movement .entry)) m (now (moves .entry)) ⌝ }
 {
-    if !table_sections::holds_figure(table, n) {
+    if !table_figure::holds_figure(table, n) {
         return Checked::Refused {
             number: 21,
             place: 0,
         };
     }
-    if !table_sections::holds_movement(moves, m) {
+    if !table_movement::holds_movement(moves, m) {
         return Checked::Refused {
             number: 21,
             place: 0,

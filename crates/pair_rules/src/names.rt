@@ -4,21 +4,22 @@ ghost use mathlib.Core.Bool.{true};
 ghost use Prim.Native.Nat.{_<_};
 ghost use lib.ListN.{length};
 ghost use Rattle.refusal.specs.Internal.Answers.{refusal};
-ghost use Rattle.parse_cursor.specs.Fields.{isSome};
-ghost use Rattle.table_sections.specs.Sections.{holdsFigure, holdsMovement};
-ghost use Rattle.player_label.specs.Internal.Answers.{found};
-ghost use Rattle.player_label.specs.Names.{partAt, figureNamed, figureName, movementName};
+ghost use Rattle.parse_spec.specs.Fields.{isSome};
+ghost use Rattle.table_figure.specs.Sections.{holdsFigure};
+ghost use Rattle.table_movement.specs.Sections.{holdsMovement};
+ghost use Rattle.player_names.specs.Internal.Answers.{found};
+ghost use Rattle.player_names.specs.Names.{partAt, figureNamed, figureName, movementName};
 ghost use Rattle.player_label.specs.Labels.{orEmpty};
 ghost use Rattle.pair_text.specs.Rules.{namesAgree, namesFault};
 ghost use Rattle.pair_bridge.specs.Names.{namesFrom, namesIn};
-use player_label::Found;
-use player_label::figure_name;
-use player_label::movement_name;
+use player_names::Found;
+use player_names::figure_name;
+use player_names::movement_name;
 use refusal::Checked;
 use table_counts::FigureCounts;
 use table_counts::MovementCounts;
-use text_bytes::part;
-use text_bytes::same;
+use text_runs::part;
+use text_runs::same;
 
 fn has_name(figure: &[u8], table: &[i64], n: FigureCounts, row: usize) -> bool
     ensures { λ r. ⌜ r ≡ isSome (figureNamed (length (now (figure .entry))) n (now (table .entry)) row) ⌝ }
@@ -33,7 +34,7 @@ fn has_name(figure: &[u8], table: &[i64], n: FigureCounts, row: usize) -> bool
 pub fn has_names(figure: &[u8], table: &[i64], n: FigureCounts) -> bool
     ensures { λ r. ⌜ r ≡ isSome (namesIn (now (figure .entry)) n (now (table .entry))) ⌝ }
 {
-    if !table_sections::holds_figure(table, n) {
+    if !table_figure::holds_figure(table, n) {
         return false;
     }
     let bones = n.bones;

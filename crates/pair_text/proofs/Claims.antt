@@ -4,14 +4,15 @@ use mathlib.Core.List.{List, [], _∷_, map}
 use Prim.Native.Nat.{ℕ}
 use Prim.Native.String.{String}
 use lib.IntN.{ℤ, pos}
-use Rattle.text_bytes.specs.Bytes.{bytes, same}
+use Rattle.text_bytes.specs.Bytes.{bytes}
+use Rattle.text_runs.specs.Runs.{same}
 use Rattle.refusal.specs.Faults.{Fault, clear, fault}
-use Rattle.parse_cursor.specs.Readers.{absent}
+use Rattle.parse_spec.specs.Readers.{absent}
 use Rattle.refusal.specs.Rules.{orElse}
 use Rattle.refusal.specs.Outcomes.{rejected, accepted}
 use Rattle.bac6_text.specs.Figure.{Figure}
 use Rattle.refusal.specs.FirstBad.{firstBad}
-use Rattle.table_rows.specs.References.{isRow}
+use Rattle.table_references.specs.References.{isRow}
 use Rattle.tra4_text.specs.Movement.{Bone, Movement, groupOf}
 use Rattle.pair_text.specs.Rules.{bonesFault, namesAgree, namesFault, groupsFault, movementNames, pairFault}
 use Rattle.pair_text.specs.Answer.{refused, withMovement, withFigure, paired}

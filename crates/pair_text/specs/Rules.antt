@@ -4,12 +4,12 @@ use mathlib.Core.Bool.{Bool, true, false, cond}
 use Prim.Native.Nat.{ℕ, suc}
 use lib.Dec.{eqb}
 use lib.ListN.{length}
-use Rattle.text_bytes.specs.Bytes.{same}
+use Rattle.text_runs.specs.Runs.{same}
 use Rattle.refusal.specs.Faults.{Fault, clear, fault}
 use Rattle.refusal.specs.Rules.{orElse}
 use Rattle.bac6_text.specs.Figure as bac6
 use Rattle.refusal.specs.FirstBad.{firstBad}
-use Rattle.table_rows.specs.References.{isRow}
+use Rattle.table_references.specs.References.{isRow}
 use Rattle.tra4_text.specs.Movement as tra4
 use Rattle.tra4_text.specs.Movement.{Pattern, groupOf}
 

@@ -6,8 +6,8 @@ ghost use lib.ListN.{length};
 use libc::STDIN_FILENO;
 use libc::STDOUT_FILENO;
 use pair_input::Head;
-use text_bytes::Run;
-use text_bytes::part;
+use text_runs::Run;
+use text_runs::part;
 
 fn tell(label: &[u8], input: &[u8], more: usize) {
     let mut out = [0u8; 36295];
@@ -31,7 +31,7 @@ fn line_end(text: &[u8], at: usize) -> usize
     requires { ⌜ at ≤ length (now text) ⌝ }
     ensures { λ r. ⌜ (at ≤ r) × (r ≤ length (now (text .entry))) ⌝ }
 {
-    text_bytes::run_end(text, at, Run::Line)
+    text_runs::run_end(text, at, Run::Line)
 }
 
 // Where the record after the one at `at` begins.

@@ -7,11 +7,11 @@ use borrow.Author.Tests.{eqb-true, eqb-false}
 use lib.Dec.{eqb}
 use Rattle.text_tokens.specs.Tokens.{Lexeme, lexAt}
 use Rattle.parse_cursor.specs.declared.cursor.Cursor.{Cursor}
-use Rattle.parse_cursor.specs.Readers.{Got, got, refused, Reader, after, pure}
+use Rattle.parse_spec.specs.Readers.{Got, got, refused, Reader, after, pure}
 use Rattle.parse_cursor.specs.Internal.Cursors.{reads}
 use Rattle.parse_cursor.proofs.Steps.{from-off, reads-on}
-use Rattle.parse_cursor.proofs.Many.{not-got, got-value}
-use Rattle.parse_cursor.proofs.Given.{GivesOn, AnyToken, free}
+use Rattle.parse_spec.proofs.Many.{not-got, got-value}
+use Rattle.parse_spec.proofs.Given.{GivesOn, AnyToken, free}
 
 -- what holds of each value that a reader gives
 pub given : {A : Type 0} {P : A → Type 0} {s : Reader A} → GivesOn AnyToken P s → (text : List ℕ) (r : Cursor) (ms : List Lexeme) (a : A) → reads text r a ≡ s ms → r .refusal ≡ 0 → P a

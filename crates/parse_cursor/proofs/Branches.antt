@@ -11,12 +11,13 @@ use Rattle.text_tokens.specs.Tokens.{Lexeme, lexAt, lexeme, isKeyword}
 use Rattle.text_tokens.specs.declared.token.Span.{Span}
 use Rattle.text_tokens.specs.Internal.Answers.{Next, lexemeOf}
 use Rattle.parse_cursor.specs.declared.cursor.Cursor.{Cursor}
-use Rattle.parse_cursor.specs.Readers.{Got, got, refused, Reader, after, _>>=_, _>>_, pure, tokenOf, rest, isOpening, isClosing, open-bracket, take-if, wordOf, openedOf, opened, starts, optional, trailing, many}
+use Rattle.parse_spec.specs.Readers.{Got, got, refused, Reader, after, _>>=_, _>>_, pure, tokenOf, rest, open-bracket, take-if, wordOf, openedOf, opened, starts, optional, trailing, many}
+use Rattle.text_kinds.specs.Kinds.{isOpening, isClosing}
 use Rattle.parse_cursor.specs.Internal.Cursors.{reads, from}
-use Rattle.parse_cursor.specs.Internal.Branches.{itemOf, startOf, lastOf}
+use Rattle.parse_spec.specs.Internal.Branches.{itemOf, startOf, lastOf}
 use Rattle.parse_cursor.proofs.Steps.{from-on, from-off, reads-on, next-token, next-rest, live, taken, not-taken, from-same, from-bind, after-reads, seq}
-use Rattle.parse_cursor.proofs.Binds.{after-after, after-same}
-use Rattle.parse_cursor.proofs.Many.{Keeps, Takes, not-got, got-rest, takes-keeps, pure-keeps, then-keeps, then-takes, open-takes, opened-of-takes, many-end, many-more}
+use Rattle.parse_spec.proofs.Binds.{after-after, after-same}
+use Rattle.parse_spec.proofs.Many.{Keeps, Takes, not-got, got-rest, takes-keeps, pure-keeps, then-keeps, then-takes, open-takes, opened-of-takes, many-end, many-more}
 
 -- one reader or another
 unfoldable pub pick : {A : Type 0} → Bool → Reader A → Reader A → Reader A

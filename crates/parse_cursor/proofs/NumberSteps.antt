@@ -5,17 +5,18 @@ use mathlib.Core.Bool.{false}
 use Prim.Native.Nat.{ℕ}
 use native.Mathlib.Omega.{arith}
 use lib.IntN.{ℤ}
-use Rattle.text_tokens.specs.Tokens.{Token, opening, closing, ending, quoted, plain, Lexeme, lexeme, lexAt}
+use Rattle.text_tokens.specs.Tokens.{lexeme, lexAt}
 use Rattle.text_numbers.specs.Numbers.{value, beyond, wrong, Form, refusalOf}
 use Rattle.text_tokens.specs.declared.token.Kind.{Kind}
 use Rattle.text_tokens.specs.declared.token.Kind.the-variants.{Opening, Closing, Quoted, Plain, Ending}
 use Rattle.text_tokens.specs.declared.token.Span.{Span}
 use Rattle.text_tokens.specs.Internal.Answers.{Next, lexemeOf, isEnding, tokenOf as spanToken}
 use Rattle.parse_cursor.specs.declared.cursor.Cursor.{Cursor}
-use Rattle.parse_cursor.specs.Readers.{got, number, numberAt, numberIn, pure}
+use Rattle.parse_spec.specs.Readers.{got, number, numberIn, pure}
 use Rattle.parse_cursor.specs.Internal.Cursors.{reads, from}
-use Rattle.parse_cursor.specs.Internal.Tokens.{tokenNumber}
+use Rattle.parse_spec.specs.Internal.Tokens.{tokenNumber}
 use Rattle.parse_cursor.proofs.Steps.{from-on, from-off, reads-on, next-token, next-stop, next-rest}
+use Rattle.parse_spec.proofs.NumberTokens.{number-of}
 
 wrong-value : (z : ℤ) → wrong ≡ value z → ⊥
 wrong-value z e = let x : _≡_ {A = ℕ} 0 1 = cc in omega arith
@@ -28,14 +29,6 @@ counts f Closing bs z e = refl
 counts f Quoted bs z e = refl
 counts f Plain bs z e = refl
 counts f Ending bs z e = absurd (wrong-value z e)
-
-pub number-of : (f : Form) (t : Token) (ms : List Lexeme) → numberAt f t ms ≡ numberIn (tokenNumber f t) ms
-unfolding numberAt numberIn refusalOf tokenNumber
-number-of f opening ms = refl
-number-of f closing ms = refl
-number-of f ending ms = refl
-number-of f (quoted bs) ms = refl
-number-of f (plain bs) ms = refl
 
 -- a cursor past the next token, or refused at it
 module _ (text : List ℕ) (c : Cursor) (t : Span) (n : Next text (c .at) t) (o : c .refusal ≡ 0) (f : Form) where

@@ -13,7 +13,7 @@ use Rattle.text_tokens.specs.declared.token.Span.{Span}
 use Rattle.text_tokens.specs.Internal.Answers.{Next, lexemeOf, isEnding, tokenOf as spanToken}
 use Rattle.text_tokens.proofs.Spans.{after-more}
 use Rattle.parse_cursor.specs.declared.cursor.Cursor.{Cursor}
-use Rattle.parse_cursor.specs.Readers.{Got, got, refused, Reader, after, _>>=_, _>>_, pure, stop, tokenOf, rest, take-if}
+use Rattle.parse_spec.specs.Readers.{Got, got, refused, Reader, after, _>>=_, _>>_, pure, stop, tokenOf, rest, take-if, close-bracket, closed}
 use Rattle.parse_cursor.specs.Internal.Cursors.{reads, from}
 
 -- ---- cursors
@@ -144,3 +144,7 @@ onward text c d r p x k q =
 pub onward-then : {A B : Type 0} (text : List ℕ) (c d : Cursor) (a : A) (r : Reader A) (k : Reader B) → reads text d a ≡ from text c r → from text c (r >> k) ≡ from text d k
 unfolding _>>_
 onward-then text c d a r k q = unfold _>>=_ in (from-bind text c (λ _. k) r ∙ ap (λ (g : Got _). after g (λ _. k)) (sym q) ∙ after-reads text d (λ _. k) a)
+
+pub closed-at : {A : Type 0} (text : List ℕ) (c d e : Cursor) (a : A) (r : Reader A) → reads text d a ≡ from text c r → reads text e tt ≡ from text d close-bracket → reads text e a ≡ from text c (closed r)
+unfolding closed reads
+closed-at text c d e a r p q = join text c d e a a r (λ x. close-bracket >> pure x) p (seq text d e e tt a close-bracket (pure a) q refl)

@@ -1,4 +1,1 @@
-pub mod Fields
-pub mod Places
-pub mod Readers
 pub mod Internal

@@ -1,9 +1,9 @@
 // A cursor goes from reader to reader. Once one refuses, the others pass the refusal on, so that a sequence has no branches.
 ghost use mathlib.Core.Path.{_≡_};
-ghost use Rattle.parse_cursor.specs.Readers.{open-bracket, close-bracket, wordOf, openedOf};
+ghost use Rattle.parse_spec.specs.Readers.{open-bracket, close-bracket, wordOf, openedOf};
 ghost use Rattle.parse_cursor.specs.Internal.Cursors.{reads, from};
-use crate::kinds::is_closing;
-use crate::kinds::is_opening;
+use text_kinds::is_closing;
+use text_kinds::is_opening;
 
 // Where to read on, with `refusal` 0; or a refusal's number and offset. Where to read on is settled up to blanks and comments before the next token.
 pub struct Cursor {
@@ -39,17 +39,17 @@ pub fn closing(text: &[u8], c: Cursor) -> Cursor
     if c.refusal != 0 {
         return c;
     }
-    let t = text_tokens::next(text, c.at);
-    let kind = t.kind;
+    let span = text_tokens::next(text, c.at);
+    let kind = span.kind;
     if is_closing(kind) {
         return Cursor {
             refusal: 0,
-            at: t.end,
+            at: span.end,
         };
     }
     Cursor {
         refusal: 5,
-        at: t.start,
+        at: span.start,
     }
 }
 
@@ -60,16 +60,16 @@ pub fn keyword(text: &[u8], c: Cursor, word: &[u8]) -> Cursor
     if c.refusal != 0 {
         return c;
     }
-    let t = text_tokens::next(text, c.at);
-    if text_tokens::is_keyword(text, t, word) {
+    let word_span = text_tokens::next(text, c.at);
+    if text_tokens::is_keyword(text, word_span, word) {
         return Cursor {
             refusal: 0,
-            at: t.end,
+            at: word_span.end,
         };
     }
     Cursor {
         refusal: 5,
-        at: t.start,
+        at: word_span.start,
     }
 }
 

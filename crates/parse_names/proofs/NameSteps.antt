@@ -11,12 +11,13 @@ use Rattle.text_tokens.specs.declared.token.Span.{Span}
 use Rattle.text_tokens.specs.Internal.Answers.{Next, lexemeOf, spanAt, spanOf}
 use Rattle.text_tokens.proofs.Spans.{after-more}
 use Rattle.parse_cursor.specs.declared.cursor.Cursor.{Cursor}
-use Rattle.parse_cursor.specs.Readers.{got, after, _>>=_, pure, stop, tokenOf, closed, Name, absent, nameAt, string, optional}
+use Rattle.parse_spec.specs.Readers.{got, after, _>>=_, pure, stop, tokenOf, closed, Name, absent, nameAt, string, optional}
 use Rattle.parse_cursor.specs.Internal.Cursors.{reads, from}
-use Rattle.parse_cursor.specs.Internal.Places.{isQuoted, placeOf, stringOf, nameOf, optionalName}
+use Rattle.text_kinds.specs.Internal.Kinds.{isQuoted}
+use Rattle.parse_spec.specs.Internal.Places.{placeOf, stringOf, nameOf, optionalName}
 use Rattle.parse_cursor.proofs.Steps.{from-on, from-off, reads-on, next-token, next-stop, live}
-use Rattle.parse_cursor.proofs.Binds.{closed-map}
-use Rattle.parse_cursor.proofs.Many.{Keeps, takes-keeps, pure-keeps, bind-keeps, closed-keeps, string-takes, optional-keeps}
+use Rattle.parse_spec.proofs.Binds.{closed-map}
+use Rattle.parse_spec.proofs.Many.{Keeps, takes-keeps, pure-keeps, bind-keeps, closed-keeps, string-takes, optional-keeps}
 use Rattle.parse_cursor.proofs.Branches.{optional-map}
 
 -- a span has as many bytes as it says

@@ -1,10 +1,10 @@
 // Chunks that may be left out.
 ghost use mathlib.Core.Path.{_≡_};
 ghost use Rattle.parse_cursor.specs.Internal.Cursors.{reads, from};
-ghost use Rattle.parse_cursor.specs.Internal.Branches.{startOf, lastOf};
+ghost use Rattle.parse_spec.specs.Internal.Branches.{startOf, lastOf};
 use parse_cursor::Cursor;
-use parse_cursor::is_opening;
 use parse_cursor::keyword;
+use text_kinds::is_opening;
 
 // Whether a chunk stands, and a cursor past its ( and keyword or where it was; where the cursor has refused, `present` is free.
 pub struct Start {

@@ -1,10 +1,10 @@
 // Where an item of a list begins, or the list ends.
 ghost use mathlib.Core.Path.{_≡_};
 ghost use Rattle.parse_cursor.specs.Internal.Cursors.{reads, from};
-ghost use Rattle.parse_cursor.specs.Internal.Branches.{itemOf};
+ghost use Rattle.parse_spec.specs.Internal.Branches.{itemOf};
 use parse_cursor::Cursor;
-use parse_cursor::is_closing;
-use parse_cursor::is_opening;
+use text_kinds::is_closing;
+use text_kinds::is_opening;
 
 // Where an item of a list begins or the list has ended; where the cursor has refused, `ended` is free.
 pub struct Item {

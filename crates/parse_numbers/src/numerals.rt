@@ -3,10 +3,10 @@ ghost use mathlib.Core.Path.{_≡_};
 ghost use Rattle.text_tokens.specs.Internal.Answers.{lexemeOf};
 ghost use Rattle.text_numbers.specs.Internal.Answers.{numberNamed};
 ghost use Rattle.text_numbers.specs.Numbers.{numberOf};
-ghost use Rattle.parse_cursor.specs.Readers.{number as numberRead};
+ghost use Rattle.parse_spec.specs.Readers.{number as numberRead};
 ghost use Rattle.parse_cursor.specs.Internal.Cursors.{reads, from};
 ghost use Rattle.parse_numbers.specs.Internal.Answers.{formNamed};
-ghost use Rattle.parse_cursor.specs.Internal.Tokens.{tokenNumber};
+ghost use Rattle.parse_spec.specs.Internal.Tokens.{tokenNumber};
 use parse_cursor::Cursor;
 use text_numbers::Parsed;
 use text_tokens::Kind;
@@ -39,7 +39,7 @@ fn token_number(text: &[u8], t: Span, form: Form) -> Parsed
 {
     let kind = t.kind;
     match kind {
-        Kind::Plain => parsed(text_bytes::part(text, t.start, t.end), form),
+        Kind::Plain => parsed(text_runs::part(text, t.start, t.end), form),
         Kind::Opening => Parsed::Malformed,
         Kind::Closing => Parsed::Malformed,
         Kind::Quoted => Parsed::Malformed,

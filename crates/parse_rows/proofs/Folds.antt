@@ -8,17 +8,17 @@ use lib.IntN.{ℤ}
 use lib.ListN.{length}
 use Rattle.text_tokens.specs.Tokens.{Lexeme, lexAt}
 use Rattle.parse_cursor.specs.declared.cursor.Cursor.{Cursor}
-use Rattle.parse_cursor.specs.Readers.{Got, got, Reader, after, _>>=_, _>>_, pure, open-bracket, many}
+use Rattle.parse_spec.specs.Readers.{Got, got, Reader, after, _>>=_, _>>_, pure, open-bracket, many}
 use Rattle.parse_cursor.specs.Internal.Cursors.{from, reads}
 use Rattle.table_rows.specs.Internal.Overlay.{overlayAt}
-use Rattle.parse_cursor.specs.Internal.Branches.{itemOf}
+use Rattle.parse_spec.specs.Internal.Branches.{itemOf}
 use Rattle.parse_rows.specs.Internal.Folds.{fold, folded, stepped, rowStep}
 use Rattle.parse_cursor.proofs.Steps.{join, seq, from-same, from-bind, after-reads}
-use Rattle.parse_cursor.proofs.Binds.{after-after, after-same, then-bind}
-use Rattle.parse_cursor.proofs.Many.{Takes, Keeps, pure-keeps, bind-keeps, then-takes}
+use Rattle.parse_spec.proofs.Binds.{after-after, after-same, then-bind}
+use Rattle.parse_spec.proofs.Many.{Takes, Keeps, pure-keeps, bind-keeps, then-takes}
 use Rattle.table_rows.proofs.Tables.{overlayAt-none, overlayAt-append, overlayAt-same}
 use Rattle.table_rows.specs.Flat.{flat}
-use Rattle.parse_cursor.proofs.Given.{Every}
+use Rattle.parse_spec.proofs.Given.{Every}
 use Rattle.parse_cursor.proofs.Counts.{falls}
 use Rattle.parse_cursor.proofs.Branches.{items-end, items-more, item-takes}
 

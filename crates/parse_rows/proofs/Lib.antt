@@ -2,5 +2,4 @@
 pub mod Before
 pub mod Folds
 pub mod Into
-pub mod RowCounts
 pub mod Widths

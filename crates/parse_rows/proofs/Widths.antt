@@ -11,7 +11,7 @@ use Rattle.text_bytes.proofs.Every.{every-append}
 use Rattle.table_rows.specs.Internal.Overlay.{overlayAt}
 use Rattle.table_rows.specs.Flat.{flat}
 use Rattle.table_rows.proofs.Chains.{overlay-whole}
-use Rattle.parse_cursor.proofs.Given.{Every}
+use Rattle.parse_spec.proofs.Given.{Every}
 
 abbrev pub Wide : ℕ → List (List ℤ) → Type 0
 Wide w rs = Every (λ r. length r ≡ w) rs

@@ -1,8 +1,6 @@
-// Rows of numbers, written to a lent table.
-mod lists;
+// Numbers and a row of them, written to a lent table.
+mod cells;
 
-pub use lists::Counted;
-pub use lists::numbers;
-pub use lists::row;
-pub use lists::rows;
-pub use lists::some_rows;
+pub use cells::numbers;
+pub use cells::row;
+pub use cells::row_tail;

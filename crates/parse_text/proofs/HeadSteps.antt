@@ -8,7 +8,9 @@ use Rattle.text_tokens.specs.Tokens.{Token, opening, closing, ending, quoted, p
 use Rattle.text_tokens.specs.declared.token.Span.{Span}
 use Rattle.text_tokens.specs.Internal.Answers.{Next, lexemeOf}
 use Rattle.parse_cursor.specs.declared.cursor.Cursor.{Cursor}
-use Rattle.parse_cursor.specs.Readers.{got, pure, stop, rest, isPlain, isEnd, versionAt, version, text-end}
+use Rattle.parse_spec.specs.Readers.{got, pure, stop, rest, versionAt, version, text-end}
+use Rattle.text_kinds.specs.Internal.Kinds.{isPlain}
+use Rattle.text_kinds.specs.Kinds.{isEnd}
 use Rattle.parse_cursor.specs.Internal.Cursors.{reads, from}
 use Rattle.parse_cursor.proofs.Steps.{from-on, from-off, reads-on, next-token, next-stop, next-rest, live}
 

@@ -12,7 +12,7 @@ use Rattle.text_check.specs.Faults.{Format, textFault}
 use Rattle.refusal.specs.Faults.{Fault, clear, fault}
 use Rattle.text_tokens.specs.Tokens.{Lexeme, lex}
 use Rattle.refusal.proofs.Faults.{fault-not-clear}
-use Rattle.parse_cursor.specs.Readers.{Got, got, refused, Reader}
+use Rattle.parse_spec.specs.Readers.{Got, got, refused, Reader}
 use Rattle.table_rows.specs.Internal.Overlay.{overlayAt}
 use Rattle.refusal.specs.Outcomes.{Outcome, rejected, accepted, ruled, fitted, laid}
 use Rattle.parse_text.specs.Texts.{shaped, checked, outcome}

@@ -4,7 +4,7 @@ use Prim.Native.Nat.{ℕ}
 use Rattle.text_check.specs.Faults.{Format, textFault}
 use Rattle.refusal.specs.Faults.{Fault, clear, fault}
 use Rattle.text_tokens.specs.Tokens.{lex}
-use Rattle.parse_cursor.specs.Readers.{Got, got, refused, Reader}
+use Rattle.parse_spec.specs.Readers.{Got, got, refused, Reader}
 use Rattle.refusal.specs.Outcomes.{Outcome, rejected, ruled}
 
 -- by the rules of what was read

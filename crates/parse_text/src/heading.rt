@@ -1,13 +1,13 @@
 // What stands first in a text and last.
 ghost use mathlib.Core.Path.{_≡_};
-ghost use Rattle.parse_cursor.specs.Readers.{headOf, text-end};
-ghost use Rattle.parse_cursor.specs.Readers.{version as versionOf};
+ghost use Rattle.parse_spec.specs.Readers.{headOf, text-end};
+ghost use Rattle.parse_spec.specs.Readers.{version as versionOf};
 ghost use Rattle.parse_cursor.specs.Internal.Cursors.{reads, from};
 use parse_cursor::Cursor;
 use parse_cursor::closing;
-use parse_cursor::is_ending;
-use parse_cursor::is_plain;
 use parse_cursor::opened;
+use text_kinds::is_ending;
+use text_kinds::is_plain;
 
 // A version: another plain word is refusal 7.
 fn version(text: &[u8], c: Cursor, wanted: &[u8]) -> Cursor

@@ -12,12 +12,14 @@ use Rattle.text_tokens.specs.declared.token.Span.{Span}
 use Rattle.text_tokens.specs.Internal.Answers.{Next, lexemeOf}
 use Rattle.text_numbers.proofs.Numerals.{and-true}
 use Rattle.parse_cursor.specs.declared.cursor.Cursor.{Cursor}
-use Rattle.parse_cursor.specs.Readers.{Got, got, Reader, after, _>>_, pure, stop, tokenOf, rest, isOpening, isClosing, isPlain, take-if, open-bracket}
+use Rattle.parse_spec.specs.Readers.{Got, got, Reader, after, _>>_, pure, stop, tokenOf, rest, take-if, open-bracket}
+use Rattle.text_kinds.specs.Kinds.{isOpening, isClosing}
+use Rattle.text_kinds.specs.Internal.Kinds.{isPlain}
 use Rattle.parse_cursor.specs.Internal.Cursors.{reads, from}
-use Rattle.parse_cursor.specs.Internal.Fields.{coversAll}
-use Rattle.parse_cursor.proofs.Choices.{after-stop}
+use Rattle.parse_spec.specs.Internal.Fields.{coversAll}
+use Rattle.parse_spec.proofs.Choices.{after-stop}
 use Rattle.parse_cursor.proofs.Steps.{from-on, from-off, reads-on, next-token, next-stop, next-rest, live}
-use Rattle.parse_cursor.proofs.Many.{got-value, stop-not}
+use Rattle.parse_spec.proofs.Many.{got-value, stop-not}
 use Rattle.parse_words.specs.Internal.Words.{indexIn}
 use Rattle.parse_words.specs.Internal.Heads.{unmet, keyIn, openIn, headIn}
 

@@ -5,7 +5,7 @@ use mathlib.Core.Bool.{Bool, true, false, not, _&&_, _||_}
 use Prim.Native.Nat.{ℕ, suc, _≤_, _<_}
 use lib.ListN.{length, drop, getD, drop-of-length-le}
 use lib.Seq.{drop-cons}
-use Rattle.parse_cursor.specs.Internal.Fields.{coversAll}
+use Rattle.parse_spec.specs.Internal.Fields.{coversAll}
 
 module _ (needed seen : List Bool) (i : ℕ) where
   pub covers-end : length needed ≤ i → coversAll (drop i needed) (drop i seen) ≡ true

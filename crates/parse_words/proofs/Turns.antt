@@ -10,14 +10,15 @@ use lib.Dec.{eqb, ltb}
 use lib.ListN.{length, getD, set, length-set}
 use Rattle.text_tokens.specs.Tokens.{Lexeme, lexAt}
 use Rattle.parse_cursor.specs.declared.cursor.Cursor.{Cursor}
-use Rattle.parse_cursor.specs.Readers.{Got, got, Reader, after, _>>=_, pure, stop, tokenOf, rest, isOpening, isClosing}
-use Rattle.parse_cursor.specs.Fields.{Kind, isSome, complete, kindFrom, fieldsIn}
+use Rattle.parse_spec.specs.Readers.{Got, got, Reader, after, _>>=_, pure, stop, tokenOf, rest}
+use Rattle.text_kinds.specs.Kinds.{isOpening, isClosing}
+use Rattle.parse_spec.specs.Fields.{Kind, isSome, complete, kindFrom, fieldsIn}
 use Rattle.parse_cursor.specs.Internal.Cursors.{reads, from}
-use Rattle.parse_cursor.specs.Internal.Fields.{hits, single, insideAt, neededOf, coversAll}
-use Rattle.parse_cursor.proofs.Choices.{after-stop, kind-miss, kind-again, kind-hit, fields-close, fields-early, fields-full, fields-other, fields-chunk}
-use Rattle.parse_cursor.proofs.Binds.{after-after}
+use Rattle.parse_spec.specs.Internal.Fields.{hits, single, insideAt, neededOf, coversAll}
+use Rattle.parse_spec.proofs.Choices.{after-stop, kind-miss, kind-again, kind-hit, fields-close, fields-early, fields-full, fields-other, fields-chunk}
+use Rattle.parse_spec.proofs.Binds.{after-after}
 use Rattle.parse_cursor.proofs.Counts.{alive}
-use Rattle.parse_cursor.proofs.FieldFlags.{flags-length, flag-unread, flag-read, flags-set, complete-seen}
+use Rattle.parse_spec.proofs.FieldFlags.{flags-length, flag-unread, flag-read, flags-set, complete-seen}
 use Rattle.parse_cursor.proofs.Steps.{from-on, from-same, from-bind, reads-on, after-reads}
 use Rattle.parse_words.specs.Internal.Words.{words, indexIn, keysOf, apart}
 use Rattle.parse_words.specs.Internal.Heads.{keyIn, headIn, Reached}

@@ -10,20 +10,22 @@ use Prim.Native.String.{String}
 use lib.Dec.{eqb, leb, ltb}
 use lib.ListN.{length, drop, length-drop}
 use lib.Seq.{drop-drop}
-use Rattle.text_bytes.specs.Bytes.{bytes, same, inWord, run, part}
+use Rattle.text_bytes.specs.Bytes.{bytes, inWord}
+use Rattle.text_runs.specs.Runs.{same, run, part}
 use lib.IntN.{ℤ, pos}
 use Rattle.text_tokens.specs.Tokens.{Token, opening, closing, ending, quoted, plain, Lexeme, lexeme, isKeyword}
 use Rattle.text_tokens.specs.declared.token.Span.{Span}
 use Rattle.text_tokens.specs.Internal.Answers.{Next, lexemeOf}
-use Rattle.text_bytes.proofs.Runs.{run-yes, run-no, run-take}
+use Rattle.text_runs.proofs.Runs.{run-yes, run-no, run-take}
 use Rattle.text_numbers.proofs.Numerals.{and-true}
 use Rattle.parse_cursor.specs.declared.cursor.Cursor.{Cursor}
-use Rattle.parse_cursor.specs.Readers.{got, after, _>>=_, pure, stop, tokenOf, rest, isPlain, oneFrom, oneOf}
+use Rattle.parse_spec.specs.Readers.{got, after, _>>=_, pure, stop, tokenOf, rest, oneFrom, oneOf}
+use Rattle.text_kinds.specs.Internal.Kinds.{isPlain}
 use Rattle.parse_cursor.specs.Internal.Cursors.{reads, from}
-use Rattle.parse_cursor.specs.Fields.{Kind}
-use Rattle.parse_cursor.specs.Internal.Fields.{hits, single}
+use Rattle.parse_spec.specs.Fields.{Kind}
+use Rattle.parse_spec.specs.Internal.Fields.{hits, single}
 use Rattle.parse_words.specs.Internal.Words.{onto, words, indexIn, keysOf, differs, apart, among, wordIn}
-use Rattle.parse_cursor.proofs.Choices.{after-stop, one-yes, one-no}
+use Rattle.parse_spec.proofs.Choices.{after-stop, one-yes, one-no}
 use Rattle.parse_cursor.proofs.Steps.{from-on, from-off, reads-on, next-token, next-stop, next-rest, live}
 
 -- ---- a token that is a keyword

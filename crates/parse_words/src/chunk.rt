@@ -4,7 +4,7 @@ ghost use mathlib.Core.Bool.{true};
 ghost use lib.ListN.{length, set};
 ghost use Rattle.text_tokens.specs.Tokens.{lexAt};
 ghost use Rattle.parse_cursor.specs.Internal.Cursors.{reads, from};
-ghost use Rattle.parse_cursor.specs.Internal.Fields.{coversAll};
+ghost use Rattle.parse_spec.specs.Internal.Fields.{coversAll};
 ghost use Rattle.parse_words.specs.Internal.Heads.{keyIn, headIn};
 ghost use Rattle.parse_words.specs.Internal.Words.{words};
 use crate::words::word_index;
@@ -51,7 +51,7 @@ fn next_keyword(text: &[u8], at: usize, list: &[u8], seen: &mut [bool]) -> Chunk
         kind: count,
     };
     let kind = t.kind;
-    if !parse_cursor::is_plain(kind) {
+    if !text_kinds::is_plain(kind) {
         return refused;
     }
     let k = word_index(text, t, list);
@@ -101,7 +101,7 @@ pub fn next_chunk(
         },
         kind: count,
     };
-    if parse_cursor::is_closing(kind) {
+    if text_kinds::is_closing(kind) {
         if !covers(needed, seen) {
             return refused;
         }
@@ -117,7 +117,7 @@ pub fn next_chunk(
     if left == 0 {
         return refused;
     }
-    if !parse_cursor::is_opening(kind) {
+    if !text_kinds::is_opening(kind) {
         return refused;
     }
     next_keyword(text, t.end, list, seen)

@@ -4,9 +4,9 @@ ghost use Rattle.text_tokens.specs.Internal.Answers.{lexemeOf};
 ghost use Rattle.parse_words.specs.Internal.Words.{words, indexIn, wordIn};
 ghost use Rattle.parse_cursor.specs.Internal.Cursors.{reads, from};
 use parse_cursor::Cursor;
-use parse_cursor::is_plain;
 use parse_numbers::Numeric;
-use text_bytes::Run;
+use text_kinds::is_plain;
+use text_runs::Run;
 use text_tokens::Span;
 
 // The row of the first word of a list that a token is, or how many words there are. Single spaces part the words.
@@ -16,8 +16,8 @@ pub fn word_index(text: &[u8], t: Span, list: &[u8]) -> usize
     let mut row = 0;
     let mut start = 0;
     loop {
-        let end = text_bytes::run_end(list, start, Run::Word);
-        if text_tokens::is_keyword(text, t, text_bytes::part(list, start, end)) {
+        let end = text_runs::run_end(list, start, Run::Word);
+        if text_tokens::is_keyword(text, t, text_runs::part(list, start, end)) {
             return row;
         }
         row += 1;

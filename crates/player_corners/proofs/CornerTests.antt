@@ -7,11 +7,11 @@ use Prim.Native.Nat.{ℕ, _+_, _≤_, _<_}
 use borrow.Author.Tests.{lt-ltb, le-ltb}
 use lib.IntN.{ℤ, pos, natAbs}
 use lib.ListN.{getD}
-use Rattle.table_rows.specs.References.{isNone}
-use Rattle.table_rows.specs.Index.{isIndex}
+use Rattle.table_references.specs.References.{isNone}
+use Rattle.table_references.specs.Index.{isIndex}
 use Rattle.table_counts.specs.declared.counts.FigureCounts.{FigureCounts}
 use Rattle.player_spec.specs.Faces.{CornerOf}
-use Rattle.table_sections.specs.Sections.{holdsFigure}
+use Rattle.table_figure.specs.Sections.{holdsFigure}
 use Rattle.player_spec.specs.Lookups.{onlyIf, allFloat, faceSound, faceAt, ownerAt, pointAt, uvRow, uvFine, uvIn, canCorner, cornerIn}
 use Rattle.player_corners.specs.Internal.CornerRow.{rowCorner}
 

@@ -8,11 +8,11 @@ use lib.IntN.{ℤ, pos, natAbs}
 use lib.ListN.{length, getD, take, drop, length-take, length-drop}
 use lib.Seq.{getD-take, getD-drop}
 use Rattle.text_numbers.proofs.Numerals.{and-true}
-use Rattle.table_rows.specs.References.{isRow, isNone}
-use Rattle.table_rows.specs.Index.{isIndex}
+use Rattle.table_references.specs.References.{isRow, isNone}
+use Rattle.table_references.specs.Index.{isIndex}
 use Rattle.table_counts.specs.declared.counts.FigureCounts.{FigureCounts}
 use Rattle.player_spec.specs.Lookups.{isFloat, allFloat, sizeFine, cornersFine, allNone, faceSound}
-use Rattle.player_tests.proofs.Corners.{size-is, used-row}
+use Rattle.player_face_tests.proofs.Corners.{size-is, used-row}
 
 -- ---- corners
 

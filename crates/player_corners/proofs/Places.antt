@@ -10,16 +10,16 @@ use lib.Seq.{getD-drop}
 use mir.Syntax.{w64}
 use mir.Val.{SFits, toZ, ofZ}
 use mir.Facts.{toZ-ofZ}
-use Rattle.table_rows.specs.References.{isRow}
+use Rattle.table_references.specs.References.{isRow}
 use Rattle.table_counts.specs.declared.counts.FigureCounts.{FigureCounts}
 use Rattle.table_columns.specs.Parts.{numberAt}
 use Rattle.table_columns.proofs.Rows.{part-rest}
-use Rattle.table_sections.specs.declared.sections.FigureSections.{FigureSections}
-use Rattle.table_sections.specs.Sections.{pointsBegin, ownersBegin, uvsBegin, facesBegin, figureSections}
-use Rattle.table_sections.proofs.Indices.{owner-place, point-place, uv-place, owners-place}
+use Rattle.table_figure.specs.declared.sections.FigureSections.{FigureSections}
+use Rattle.table_figure.specs.Sections.{pointsBegin, ownersBegin, uvsBegin, facesBegin, figureSections}
+use Rattle.table_figure.proofs.Indices.{owner-place, point-place, uv-place, owners-place}
 use Rattle.player_spec.specs.Lookups.{ownerAt}
-use Rattle.player_tests.proofs.Corners.{row-is}
-use Rattle.table_sections.specs.Internal.Found.{Found}
+use Rattle.player_face_tests.proofs.Corners.{row-is}
+use Rattle.table_figure.specs.Internal.Found.{Found}
 
 module _ (n : FigureCounts) (table : List ℤ) (s : FigureSections) (f : Found n table s) (z : ℤ) (k : SFits w64 z) where
   -- the index as the code computes it

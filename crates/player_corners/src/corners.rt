@@ -5,7 +5,7 @@ ghost use Rattle.player_spec.specs.Lookups.{cornerIn};
 ghost use Rattle.player_spec.specs.Answers.{numbered};
 ghost use Rattle.player_corners.specs.Answers.{cornered};
 ghost use Rattle.player_corners.specs.Internal.CornerRow.{rowCorner};
-ghost use Rattle.table_sections.specs.Internal.Found.{Found};
+ghost use Rattle.table_figure.specs.Internal.Found.{Found};
 use crate::face::face_sound;
 use crate::point::point_at;
 use crate::point::uv_at;
@@ -15,9 +15,9 @@ use table_columns::face_uv;
 use table_columns::face_vertex;
 use table_counts::FACE_WIDTH;
 use table_counts::FigureCounts;
-use table_rows::is_none;
-use table_sections::FigureSections;
-use table_sections::figure_in;
+use table_figure::FigureSections;
+use table_figure::figure_in;
+use table_references::is_none;
 
 // A position, its owner and a material's row, with a texture coordinate or without one; or refusal 21.
 pub enum Cornered {

@@ -3,16 +3,16 @@ ghost use mathlib.Core.Path.{_≡_};
 ghost use mathlib.Core.Bool.{_||_};
 ghost use lib.ListN.{length};
 ghost use Rattle.player_spec.specs.Lookups.{cornersFine, allNone, faceSound};
-use player_tests::corners_fine;
-use player_tests::size_fine;
+use player_face_tests::corners_fine;
+use player_face_tests::size_fine;
 use table_columns::FACE_GROUP;
 use table_columns::FACE_MATERIAL;
 use table_columns::FACE_SIZE;
 use table_columns::FACE_UVS;
 use table_columns::FACE_VERTICES;
 use table_counts::FigureCounts;
-use table_rows::is_index;
-use table_rows::is_row;
+use table_references::is_index;
+use table_references::is_row;
 
 // Texture coordinates are all none, or as sound as vertices.
 fn uvs_fine(corners: &[i64], n: usize, used: usize) -> bool

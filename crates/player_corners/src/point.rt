@@ -2,10 +2,10 @@
 ghost use mathlib.Core.Path.{_≡_};
 ghost use mathlib.Core.List.{[], _∷_};
 ghost use mathlib.Core.Bool.{true, _&&_};
-ghost use Rattle.table_rows.specs.References.{isRow};
-ghost use Rattle.table_rows.specs.Index.{isIndex};
+ghost use Rattle.table_references.specs.References.{isRow};
+ghost use Rattle.table_references.specs.Index.{isIndex};
 ghost use Rattle.player_spec.specs.Lookups.{allFloat, ownerAt, pointAt, uvRow};
-ghost use Rattle.table_sections.specs.Internal.Found.{Found};
+ghost use Rattle.table_figure.specs.Internal.Found.{Found};
 use player_tests::is_float;
 use table_columns::UvRow;
 use table_columns::VertexRow;
@@ -13,8 +13,8 @@ use table_columns::owner_at;
 use table_counts::FigureCounts;
 use table_counts::POINT_WIDTH;
 use table_counts::UV_WIDTH;
-use table_rows::is_index;
-use table_sections::FigureSections;
+use table_figure::FigureSections;
+use table_references::is_index;
 
 // Three numbers and an owner, and whether they may be so.
 pub(crate) struct Point {

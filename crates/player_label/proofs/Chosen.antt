@@ -8,14 +8,15 @@ use native.Mathlib.Omega.{arith}
 use lib.Dec.{ltb}
 use lib.IntN.{ℤ}
 use lib.ListN.{length, drop, length-take, length-drop}
-use Rattle.text_bytes.specs.Bytes.{part}
-use Rattle.text_bytes.proofs.Parts.{part-none}
+use Rattle.text_runs.specs.Runs.{part}
+use Rattle.text_runs.proofs.Parts.{part-none}
 use Rattle.table_counts.specs.declared.counts.MovementCounts.{MovementCounts}
 use Rattle.table_counts.specs.declared.counts.FigureCounts.{FigureCounts}
-use Rattle.table_sections.specs.Sections.{holdsMovement, holdsFigure}
-use Rattle.player_label.specs.Names.{partAt, figureSpan, movementSpan, figureName, movementName, ifTrue, figureNamed, movementNamed}
+use Rattle.table_movement.specs.Sections.{holdsMovement}
+use Rattle.table_figure.specs.Sections.{holdsFigure}
+use Rattle.player_names.specs.Names.{partAt, figureSpan, movementSpan, figureName, movementName, ifTrue, figureNamed, movementNamed}
 use Rattle.player_label.specs.Labels.{labelOf, labelFrom, labelIn}
-use Rattle.player_label.proofs.Spans.{span-within}
+use Rattle.player_names.proofs.Spans.{span-within}
 
 -- ---- the tests parted
 

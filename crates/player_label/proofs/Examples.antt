@@ -5,19 +5,21 @@ use mathlib.Core.Bool.{true, false}
 use mathlib.Core.Option.{none, some}
 use Prim.Native.Nat.{ℕ}
 use lib.IntN.{ℤ, pos, negsuc}
-use Rattle.text_bytes.specs.Bytes.{bytes, part}
+use Rattle.text_bytes.specs.Bytes.{bytes}
+use Rattle.text_runs.specs.Runs.{part}
 use Rattle.refusal.specs.Rules.{tooMany}
 use Rattle.bac6_text.specs.Rules as bac6
 use Rattle.tra4_text.specs.Rules as tra4
 use Rattle.table_counts.specs.declared.counts.MovementCounts.{MovementCounts}
 use Rattle.table_counts.specs.declared.counts.FigureCounts.{FigureCounts}
-use Rattle.table_sections.specs.Sections.{fewInMovement, fewInFigure, groupsBegin, isClear, keysBegin, patternsBegin, movementEnd, holdsMovement, pointsBegin, bonesBegin, ownersBegin, uvsBegin, facesBegin, figureEnd, holdsFigure}
+use Rattle.table_movement.specs.Sections.{fewInMovement, keysBegin, patternsBegin, movementEnd, holdsMovement}
+use Rattle.table_figure.specs.Sections.{fewInFigure, groupsBegin, pointsBegin, bonesBegin, ownersBegin, uvsBegin, facesBegin, figureEnd, holdsFigure}
+use Rattle.refusal.specs.Faults.{isClear}
 use Rattle.table_columns.specs.Parts.{numberAt}
 use Rattle.player_spec.specs.Lookups.{onlyIf}
-use Rattle.player_label.specs.Names.{isName, nameSpan, partAt, figureSpan, figureName, movementSpan, movementName, ifTrue}
+use Rattle.player_names.specs.Names.{isName, nameSpan, partAt, figureSpan, figureName, movementSpan, movementName, ifTrue}
 use Rattle.player_label.specs.Labels.{labelOf, labelFrom, labelIn}
-use Rattle.table_counts.specs.Counts.{figureLists, figureMosts}
-use Rattle.table_counts.specs.Counts.{movementLists, movementMosts}
+use Rattle.table_counts.specs.Counts.{figureLists, figureMosts, movementLists, movementMosts}
 
 -- ---- one bone and nothing else in each table
 

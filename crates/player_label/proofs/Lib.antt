@@ -1,4 +1,3 @@
--- Laws of names and labels.
-pub mod Spans
+-- Laws of labels.
 pub mod Chosen
 pub mod Examples

@@ -7,8 +7,9 @@ use lib.Dec.{ltb}
 use lib.IntN.{ℤ}
 use Rattle.table_counts.specs.declared.counts.MovementCounts.{MovementCounts}
 use Rattle.table_counts.specs.declared.counts.FigureCounts.{FigureCounts}
-use Rattle.table_sections.specs.Sections.{holdsMovement, holdsFigure}
-use Rattle.player_label.specs.Names.{figureName, movementName, ifTrue}
+use Rattle.table_movement.specs.Sections.{holdsMovement}
+use Rattle.table_figure.specs.Sections.{holdsFigure}
+use Rattle.player_names.specs.Names.{figureName, movementName, ifTrue}
 
 -- ---- from the two texts: of the figure's name and the movement's, an absent one being empty
 

@@ -3,12 +3,12 @@ ghost use mathlib.Core.Path.{_≡_};
 ghost use Rattle.player_spec.specs.Answers.{numbered};
 ghost use Rattle.player_label.specs.Labels.{labelIn, orEmpty};
 ghost use Rattle.player_label.specs.Internal.Answers.{named};
-use crate::names::Found;
-use crate::names::figure_name;
-use crate::names::movement_name;
+use player_names::Found;
+use player_names::figure_name;
+use player_names::movement_name;
 use table_counts::FigureCounts;
 use table_counts::MovementCounts;
-use text_bytes::part;
+use text_runs::part;
 
 // Which text holds the name, and from where to where; or refusal 21.
 pub(crate) enum Named {

@@ -11,7 +11,7 @@ use Rattle.tra4_text.specs.Movement.{Key, frameOf}
 use Rattle.tra4_text.specs.Rules.{framesFault, keyFine}
 use Rattle.player_spec.specs.Fractions.{Fraction}
 use Rattle.player_spec.specs.Samples.{keyFrame, keyValue, sampleFrom, sampleOf}
-use Rattle.table_sections.specs.Sections.{isClear}
+use Rattle.refusal.specs.Faults.{isClear}
 use Rattle.player_spec.specs.Lookups.{onlyIf, isFloat, valuesFine}
 use Rattle.player_samples.specs.Internal.Pass.{mayFollow, decided, orLast, passFrom, passOver}
 

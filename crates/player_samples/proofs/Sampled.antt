@@ -13,12 +13,13 @@ use Rattle.player_samples.specs.declared.pass.Pass.{Pass}
 use Rattle.table_counts.specs.declared.counts.MovementCounts.{MovementCounts}
 use Rattle.player_spec.specs.Fractions.{Fraction, whole}
 use Rattle.player_spec.specs.Samples.{keyValue, sampleOf}
-use Rattle.table_sections.specs.Sections.{isClear, holdsMovement}
+use Rattle.refusal.specs.Faults.{isClear}
+use Rattle.table_movement.specs.Sections.{holdsMovement}
 use Rattle.table_columns.specs.Parts.{numberAt, rowsAt}
 use Rattle.player_spec.specs.Lookups.{onlyIf, isAsked, isRange, valuesFine, pairAt, channelKeys, canSample, sampleIn}
 use Rattle.player_samples.specs.Internal.Pass.{orLast, passOver}
 use Rattle.player_samples.specs.Internal.Passing.{KeyRows, keyOf, knownAs, stateOf, ifFine, finished}
-use Rattle.table_sections.proofs.Mosts.{movement-room}
+use Rattle.table_movement.proofs.Mosts.{movement-room}
 use Rattle.player_tests.proofs.Numbers.{asked-total}
 use Rattle.player_samples.proofs.Passes.{pass-is}
 use Rattle.table_columns.proofs.Parts.{part-rows}

@@ -11,7 +11,7 @@ use player_tests::is_range;
 use table_counts::KEY_WIDTH;
 use table_counts::MOVEMENT_BONE_WIDTH;
 use table_counts::MovementCounts;
-use table_sections::movement_in;
+use table_movement::movement_in;
 
 // A fraction of millionths in lowest terms, or refusal 21.
 pub enum Sampled {

@@ -7,11 +7,10 @@ use Prim.Native.Nat.{ℕ, suc}
 use lib.IntN.{ℤ, pos}
 use lib.ListN.{getD}
 use lib.Signed.{leZ}
-use Rattle.table_rows.specs.References.{isRow}
-use Rattle.refusal.specs.Faults.{Fault}
+use Rattle.table_references.specs.References.{isRow}
+use Rattle.refusal.specs.Faults.{Fault, isClear}
 use Rattle.tra4_text.specs.Movement.{Pattern, frameOf, groupOf}
 use Rattle.tra4_text.specs.Rules.{isFrame, isZero, neverFalls, framesFault, patternFine, patternsFault}
-use Rattle.table_sections.specs.Sections.{isClear}
 use Rattle.player_spec.specs.Faces.{applies, lastFlag}
 use Rattle.player_spec.specs.Lookups.{onlyIf, linesFine}
 use Rattle.player_spec.specs.Internal.Flags.{lineFine, nextFlag, flagFrom, flagOver}

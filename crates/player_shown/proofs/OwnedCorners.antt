@@ -8,8 +8,8 @@ use native.Mathlib.Omega.{arith}
 use lib.IntN.{ℤ, pos, natAbs}
 use lib.ListN.{length, getD, take, drop}
 use lib.Seq.{drop-cons}
-use Rattle.table_rows.specs.References.{isNone}
-use Rattle.table_rows.specs.Index.{isIndex}
+use Rattle.table_references.specs.References.{isNone}
+use Rattle.table_references.specs.Index.{isIndex}
 use Rattle.table_counts.specs.declared.counts.FigureCounts.{FigureCounts}
 use Rattle.player_spec.specs.Lookups.{onlyIf, sizeFine, cornersFine, ownerAt, ownersFine, ownedCorners}
 use Rattle.player_shown.specs.Internal.Rows.{ownedIn, rowOwned}

@@ -7,16 +7,18 @@ use Prim.Native.Nat.{ℕ, _≤_, _<_}
 use borrow.Author.Tests.{lt-ltb, le-ltb}
 use lib.IntN.{ℤ, pos, natAbs}
 use lib.ListN.{getD, take, drop}
-use Rattle.table_rows.specs.References.{isNone}
+use Rattle.table_references.specs.References.{isNone}
 use Rattle.tra4_text.specs.Movement.{Pattern}
 use Rattle.tra4_text.specs.Rules.{patternsFault}
-use Rattle.table_rows.specs.Index.{isIndex}
+use Rattle.table_references.specs.Index.{isIndex}
 use Rattle.table_counts.specs.declared.counts.MovementCounts.{MovementCounts}
 use Rattle.table_counts.specs.declared.counts.FigureCounts.{FigureCounts}
 use Rattle.player_shown.specs.declared.flags.Visibility.{Visibility}
 use Rattle.player_shown.specs.declared.flags.Visibility.the-variants as flags
 use Rattle.player_spec.specs.Faces.{lastFlag}
-use Rattle.table_sections.specs.Sections.{isClear, holdsMovement, holdsFigure}
+use Rattle.refusal.specs.Faults.{isClear}
+use Rattle.table_movement.specs.Sections.{holdsMovement}
+use Rattle.table_figure.specs.Sections.{holdsFigure}
 use Rattle.table_columns.specs.Parts.{numberAt}
 use Rattle.player_spec.specs.Lookups.{onlyIf, isAsked, sizeFine, cornersFine, linesFine, faceAt, ownersFine, ownedCorners, patternRows, patternsFine, canShow, groupFlag, shownIn}
 use Rattle.player_shown.specs.Internal.Rows.{rowOwned, rowShown, bothShown}

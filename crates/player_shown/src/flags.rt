@@ -7,7 +7,7 @@ ghost use lib.ListN.{length};
 ghost use Rattle.player_shown.specs.Answers.{visible};
 ghost use Rattle.table_columns.specs.Parts.{rowsAt};
 ghost use Rattle.player_spec.specs.Internal.Flags.{nextFlag, flagOver};
-use player_tests::line_fine;
+use player_face_tests::line_fine;
 use table_counts::PATTERN_WIDTH;
 
 // Whether it is shown, or refusal 21.

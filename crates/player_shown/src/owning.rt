@@ -3,21 +3,21 @@ ghost use mathlib.Core.Path.{_≡_};
 ghost use Prim.Native.Nat.{_≤_};
 ghost use lib.ListN.{length};
 ghost use Rattle.table_columns.specs.Columns.{faceVertices};
-ghost use Rattle.table_sections.specs.Internal.Found.{Found};
+ghost use Rattle.table_figure.specs.Internal.Found.{Found};
 ghost use Rattle.player_shown.specs.Internal.Rows.{ownedIn, rowOwned};
 ghost use Rattle.player_shown.specs.Answers.{visible};
 use crate::flags::Visibility;
-use player_tests::corners_fine;
-use player_tests::size_fine;
+use player_face_tests::corners_fine;
+use player_face_tests::size_fine;
 use table_columns::FACE_SIZE;
 use table_columns::FACE_UVS;
 use table_columns::FACE_VERTICES;
 use table_columns::face_vertex;
 use table_columns::owner_at;
 use table_counts::FigureCounts;
-use table_rows::is_index;
-use table_rows::is_none;
-use table_sections::FigureSections;
+use table_figure::FigureSections;
+use table_references::is_index;
+use table_references::is_none;
 
 // The owners of so many vertices of a face's row.
 fn owned(table: &[i64], n: FigureCounts, s: FigureSections, row: &[i64], used: usize) -> Visibility

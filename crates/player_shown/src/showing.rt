@@ -3,7 +3,7 @@ ghost use mathlib.Core.Path.{_≡_};
 ghost use Prim.Native.Nat.{_*_, _≤_};
 ghost use lib.ListN.{length};
 ghost use Rattle.table_columns.specs.Parts.{rowsAt};
-ghost use Rattle.table_sections.specs.Internal.Found.{Found};
+ghost use Rattle.table_figure.specs.Internal.Found.{Found};
 ghost use Rattle.player_spec.specs.Lookups.{shownIn};
 ghost use Rattle.player_spec.specs.Answers.{numbered};
 ghost use Rattle.player_shown.specs.Internal.Rows.{rowShown, bothShown};
@@ -17,11 +17,11 @@ use table_counts::FACE_WIDTH;
 use table_counts::FigureCounts;
 use table_counts::MovementCounts;
 use table_counts::PATTERN_WIDTH;
-use table_rows::is_index;
-use table_rows::is_none;
-use table_sections::FigureSections;
-use table_sections::figure_in;
-use table_sections::movement_in;
+use table_figure::FigureSections;
+use table_figure::figure_in;
+use table_movement::movement_in;
+use table_references::is_index;
+use table_references::is_none;
 
 fn both(a: Visibility, b: Visibility) -> Visibility
     ensures { λ r. ⌜ visible r ≡ bothShown (visible a) (visible b) ⌝ }

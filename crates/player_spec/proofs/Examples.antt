@@ -8,12 +8,14 @@ use lib.IntN.{ℤ, pos, negsuc}
 use Rattle.refusal.specs.Rules.{tooMany}
 use Rattle.tra4_text.specs.Rules as tra4
 use Rattle.tra4_text.specs.Movement.{frameOf, groupOf}
-use Rattle.table_rows.specs.References.{isRow, isNone, sameNumber}
-use Rattle.table_rows.specs.Index.{isIndex}
+use Rattle.table_references.specs.References.{isRow, isNone, sameNumber}
+use Rattle.table_references.specs.Index.{isIndex}
 use Rattle.player_spec.specs.Fractions.{Fraction, factorIn, factor, signedAs, lowest, whole}
 use Rattle.player_spec.specs.Samples.{keyFrame, keyValue, line, sampleFrom, sampleOf}
 use Rattle.player_spec.specs.Faces.{inGroup, inGroups, groupedFaces, allOwned, applies, flagOf, lastFlag, groupShown, shownOf, rowAt, uvAt, cornerOf}
-use Rattle.table_sections.specs.Sections.{isClear, fewInMovement, fewInFigure, groupsBegin, keysBegin, patternsBegin, movementEnd, holdsMovement, pointsBegin, bonesBegin, ownersBegin, uvsBegin, facesBegin, figureEnd, holdsFigure}
+use Rattle.refusal.specs.Faults.{isClear}
+use Rattle.table_movement.specs.Sections.{fewInMovement, keysBegin, patternsBegin, movementEnd, holdsMovement}
+use Rattle.table_figure.specs.Sections.{fewInFigure, groupsBegin, pointsBegin, bonesBegin, ownersBegin, uvsBegin, facesBegin, figureEnd, holdsFigure}
 use Rattle.table_columns.specs.Parts.{numberAt, numbersAt, rowsAt}
 use Rattle.player_spec.specs.Lookups.{onlyIf, isFloat, allFloat, isAsked, isRange, valuesFine, pairAt, channelKeys, canSample, sampleIn, sizeFine, cornersFine, allNone, faceAt, ownerAt, faceSound, pointAt, uvRow, uvFine, uvIn, canCorner, cornerIn, ownersFine, ownedCorners, patternRows, linesFine, patternsFine, canShow, groupFlag, shownIn}
 use Rattle.table_counts.specs.declared.counts.MovementCounts.{MovementCounts}

@@ -8,7 +8,7 @@ use lib.IntN.{ℤ, pos, negsuc, natAbs}
 use lib.ListN.{getD}
 use Rattle.bac6_text.specs.Figure.{Bone, Face, Group, Figure}
 use Rattle.bac6_text.specs.Rules.{ownerOf}
-use Rattle.table_rows.specs.References.{isNone}
+use Rattle.table_references.specs.References.{isNone}
 use Rattle.tra4_text.specs.Movement.{Pattern, frameOf, groupOf}
 use Rattle.table_columns.specs.Columns.{patternFlag}
 

@@ -6,8 +6,8 @@ use Prim.Native.Nat.{ℕ, zero, suc, _+_, _*_}
 use lib.Dec.{leb, ltb}
 use lib.IntN.{ℤ, pos, negsuc, natAbs}
 use lib.ListN.{getD, take, drop}
-use Rattle.table_rows.specs.References.{isRow, isNone, sameNumber}
-use Rattle.table_rows.specs.Index.{isIndex}
+use Rattle.table_references.specs.References.{isRow, isNone, sameNumber}
+use Rattle.table_references.specs.Index.{isIndex}
 use Rattle.tra4_text.specs.Movement.{Key, Pattern, groupOf}
 use Rattle.tra4_text.specs.Rules.{totalFault, framesFault, keyFine, patternsFault}
 use Rattle.table_counts.specs.declared.counts.MovementCounts.{MovementCounts}
@@ -15,7 +15,9 @@ use Rattle.table_counts.specs.declared.counts.FigureCounts.{FigureCounts}
 use Rattle.player_spec.specs.Fractions.{Fraction}
 use Rattle.player_spec.specs.Samples.{sampleOf}
 use Rattle.player_spec.specs.Faces.{lastFlag, CornerOf}
-use Rattle.table_sections.specs.Sections.{isClear, keysBegin, patternsBegin, holdsMovement, pointsBegin, ownersBegin, uvsBegin, facesBegin, holdsFigure}
+use Rattle.refusal.specs.Faults.{isClear}
+use Rattle.table_movement.specs.Sections.{keysBegin, patternsBegin, holdsMovement}
+use Rattle.table_figure.specs.Sections.{pointsBegin, ownersBegin, uvsBegin, facesBegin, holdsFigure}
 use Rattle.table_columns.specs.Parts.{numberAt, numbersAt, rowsAt}
 use Rattle.table_columns.specs.Columns.{faceMaterial, faceSize, faceVertices, faceUvs, faceGroup, faceVertex, faceUv, valueOf, patternFlag}
 use Rattle.text_numbers.specs.Numbers.{FLOAT, inForm}

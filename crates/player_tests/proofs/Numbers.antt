@@ -11,7 +11,7 @@ use mir.Syntax.{w64}
 use mir.Val.{SFits, toZ, ofZ}
 use mir.Facts.{toZ-ofZ}
 use Rattle.tra4_text.specs.Rules.{totalFault, isZero}
-use Rattle.table_sections.specs.Sections.{isClear}
+use Rattle.refusal.specs.Faults.{isClear}
 use Rattle.player_spec.specs.Lookups.{isFloat, isAsked, isRange}
 use Rattle.text_numbers.specs.Numbers.{inForm}
 

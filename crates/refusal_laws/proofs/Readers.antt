@@ -7,12 +7,14 @@ use Prim.Native.Nat.{ℕ, zero, suc}
 use Prim.Native.String.{String}
 use native.Mathlib.Omega.{arith}
 use lib.ListN.{length}
-use Rattle.text_bytes.specs.Bytes.{bytes, same}
+use Rattle.text_bytes.specs.Bytes.{bytes}
+use Rattle.text_runs.specs.Runs.{same}
 use Rattle.text_bytes.specs.Internal.Every.{Every}
 use Rattle.text_numbers.specs.Numbers.{Number, value, beyond, wrong, Form, INT, numberOf, refusalOf}
 use Rattle.text_tokens.specs.Tokens.{Token, opening, closing, ending, quoted, plain, Lexeme, isKeyword}
-use Rattle.parse_cursor.specs.Readers.{Got, got, refused, Reader, after, _>>=_, _>>_, pure, stop, tokenOf, rest, take-if, isOpening, isClosing, isEnd, open-bracket, close-bracket, wordOf, text-end, openedOf, opened, closed, numberIn, numberAt, number, numbers, versionAt, version, Name, absent, nameAt, string, oneFrom, oneOf, starts, optional, trailing, manyIn, many, many⁺, cells, rowOf, row, headOf, head}
-use Rattle.parse_cursor.specs.Fields.{Kind, unread, complete, kindFrom, fieldsIn, fields}
+use Rattle.parse_spec.specs.Readers.{Got, got, refused, Reader, after, _>>=_, _>>_, pure, stop, tokenOf, rest, take-if, open-bracket, close-bracket, wordOf, text-end, openedOf, opened, closed, numberIn, numberAt, number, numbers, versionAt, version, Name, absent, nameAt, string, oneFrom, oneOf, starts, optional, trailing, manyIn, many, many⁺, cells, rowOf, row, headOf, head}
+use Rattle.text_kinds.specs.Kinds.{isOpening, isClosing, isEnd}
+use Rattle.parse_spec.specs.Fields.{Kind, unread, complete, kindFrom, fieldsIn, fields}
 use Rattle.refusal_laws.specs.Numbers.{isAmong}
 use Rattle.refusal_laws.proofs.Texts.{earlyNumbers, Early, Begins}
 

@@ -10,8 +10,8 @@ use lib.IntN.{ℤ}
 use Rattle.text_check.specs.Faults.{Format, bac, tra, textFault}
 use Rattle.refusal.specs.Faults.{Fault, clear, fault}
 use Rattle.text_tokens.specs.Tokens.{lex}
-use Rattle.parse_cursor.specs.Readers as readers
-use Rattle.parse_cursor.specs.Readers.{Got, got, Reader}
+use Rattle.parse_spec.specs.Readers as readers
+use Rattle.parse_spec.specs.Readers.{Got, got, Reader}
 use Rattle.refusal.specs.Outcomes.{Outcome, rejected, accepted, ruled, fitted}
 use Rattle.parse_text.specs.Texts.{shaped, checked, outcome}
 use Rattle.bac6_text.specs.Figure.{Figure}

@@ -6,8 +6,8 @@ use lib.IntN.{ℤ}
 use lib.ListN.{length}
 use Rattle.text_bytes.specs.Bytes.{bytes}
 use Rattle.text_numbers.specs.Numbers.{Form, INT, FLOAT}
-use Rattle.parse_cursor.specs.Readers.{Reader, _>>=_, pure, closed, number, numbers, optional, many, row, starts}
-use Rattle.parse_cursor.specs.Fields.{kind}
+use Rattle.parse_spec.specs.Readers.{Reader, _>>=_, pure, closed, number, numbers, optional, many, row, starts}
+use Rattle.parse_spec.specs.Fields.{kind}
 use Rattle.bac6_text.specs.Grammar as bac6
 use Rattle.bac6_text.specs.Grammar.{word, blend, material, materialKinds, flag, several, boneKinds, faceOf, faceBy, face, group, nameSection, textureSection, colourSection, materialSection, pointSection, normalSection, boneSection, uvSection, polygonSection, figure}
 use Rattle.tra4_text.specs.Grammar as tra4

@@ -6,7 +6,8 @@ use Prim.Native.Nat.{ℕ, zero, suc, _+_, _≤_}
 use native.Mathlib.Omega.{arith}
 use lib.Dec.{leb, ltb, eqb}
 use lib.ListN.{length}
-use Rattle.text_bytes.specs.Bytes.{Class, blank, opener, closer, quote, semicolon, letter, other, classOf, isLetter, isContent, inLine, inString, run}
+use Rattle.text_bytes.specs.Bytes.{Class, blank, opener, closer, quote, semicolon, letter, other, classOf, isLetter, isContent, inLine, inString}
+use Rattle.text_runs.specs.Runs.{run}
 use Rattle.text_bytes.specs.Internal.Every.{Every}
 use Rattle.text_check.specs.Faults.{Within, outside, comment, string, faultIn, Format, marked, textFault}
 use Rattle.refusal.specs.Faults.{Fault, clear, fault}

@@ -11,7 +11,7 @@ use lib.ListN.{length, length-map}
 use Rattle.text_check.specs.Faults.{Format, bac, tra}
 use Rattle.refusal.specs.Faults.{Fault}
 use Rattle.refusal.proofs.Faults.{fault-not-clear}
-use Rattle.parse_cursor.specs.Readers.{Reader}
+use Rattle.parse_spec.specs.Readers.{Reader}
 use Rattle.refusal.specs.Outcomes.{rejected, accepted, fitted}
 use Rattle.parse_text.specs.Texts.{outcome}
 use Rattle.parse_text.proofs.Outcomes.{text-clear, all-taken, fitted-room, accepted-clear, laid-rejected}

@@ -1,7 +1,8 @@
 -- Each marked case is as 01 says, by computation.
 use mathlib.Core.Path.{_≡_, refl}
 use mathlib.Core.List.{map}
-use Rattle.text_bytes.specs.Bytes.{bytes, between, isDigit, run}
+use Rattle.text_bytes.specs.Bytes.{bytes, between, isDigit}
+use Rattle.text_runs.specs.Runs.{run}
 use Rattle.text_numbers.specs.Numbers.{decimalFrom, decimal, signed, notEmpty, allDigits, intMost, intOf, millionths, floatOf, numberFrom, afterDigits, unsigned, negative, unsignedPart, numberOf, refusalOf}
 use Rattle.bac6_text.specs.Rules.{isSet, joined, thenIf, boneList, wholeList, placedFault, parentsIn, bonesFault}
 use Rattle.tra4_text.specs.Movement.{frameOf}

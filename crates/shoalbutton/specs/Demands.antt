@@ -10,7 +10,7 @@ use lib.ListN.{length, getD, drop}
 use Rattle.text_check.specs.Faults.{Format, bac, tra, textFault}
 use Rattle.refusal.specs.Faults.{Fault, clear}
 use Rattle.text_tokens.specs.Tokens.{Lexeme, lex}
-use Rattle.parse_cursor.specs.Readers.{got, Reader}
+use Rattle.parse_spec.specs.Readers.{got, Reader}
 use Rattle.refusal.specs.Outcomes.{rejected, accepted}
 use Rattle.bac6_text.specs.Figure.{Figure}
 use Rattle.bac6_text.specs.Grammar.{figure}
@@ -34,14 +34,12 @@ use Rattle.player_label.specs.Labels.{labelOf, labelIn}
 use Rattle.movement_bridge.specs.Counts.{channelOf}
 use Rattle.figure_bridge.specs.Rows.{faceOf, groupedFaceOf}
 use Rattle.pair_text.specs.Rules.{figureNames, movementNames, pairFault}
-use Rattle.pair_text.specs.Answer.{refused, loaded, pairAnswer, figureLeft, movementOf, movementLeft}
+use Rattle.pair_text.specs.Answer.{refused, loaded, pairAnswer, figureLeft, movementOf, movementLeft, tableLeft, movesLeft}
 use Rattle.pair_bridge.specs.Playing.{framesOf, sampleAsked, cornerAsked, shownAsked, labelAsked}
 use Rattle.bac6.specs.Answers as bac6
 use Rattle.tra4.specs.Answers as tra4
-use Rattle.pair_load.specs.Answers.{pairReply}
+use Rattle.pair_load.specs.Answers.{pairReply, reply}
 use Rattle.refusal_laws.specs.Numbers.{figureNumbers, movementNumbers, Refusal, numbersOf, textOf, IsTaken, IsLoaded}
-use Rattle.pair_load.specs.Answers.{reply}
-use Rattle.pair_text.specs.Answer.{tableLeft, movesLeft}
 
 -- ---- 1: "a refusal has its fixed number and place, and lent tables stay untouched": the number is one that 01 gives for the file, never 0
 

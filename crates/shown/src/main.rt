@@ -55,8 +55,8 @@ fn tell_text(text: &[u8], more: usize) {
     match pair_input::divide(text, more) {
         Division::Refused(number) => tell_refusal(number, 0, 0),
         Division::Figure(end) => tell_pair(
-            text_bytes::part(text, 9, end),
-            text_bytes::part(text, end, text.len()),
+            text_runs::part(text, 9, end),
+            text_runs::part(text, end, text.len()),
         ),
     }
 }

@@ -1,5 +1,6 @@
 -- Laws that belong to no one function.
 pub mod Casts
+pub mod Corners
 pub mod Parts
 pub mod Rows
-pub mod Corners
+pub mod SmallIndices

@@ -1,4 +1,4 @@
-// Document 01's columns ("The tables") of a material's and a face's row.
+// Document 01's columns ("The tables") of a material's, a bone's and a face's row.
 pub const MATERIAL_TEXTURE: usize = 4;
 
 pub const MATERIAL_COLOUR: usize = 5;
@@ -8,6 +8,12 @@ pub const MATERIAL_SPECULAR: usize = 6;
 pub const MATERIAL_ALPHA: usize = 7;
 
 pub const MATERIAL_SHININESS: usize = 8;
+
+pub const BONE_CHILD: usize = 9;
+
+pub const BONE_BROTHER: usize = 10;
+
+pub const BONE_PARENT: usize = 11;
 
 pub const FACE_MATERIAL: usize = 0;
 

@@ -3,6 +3,9 @@ mod columns;
 mod corner;
 mod owner;
 
+pub use columns::BONE_BROTHER;
+pub use columns::BONE_CHILD;
+pub use columns::BONE_PARENT;
 pub use columns::FACE_CORNERS;
 pub use columns::FACE_GROUP;
 pub use columns::FACE_MATERIAL;

@@ -1,5 +1,4 @@
 -- Laws that belong to no one function.
 pub mod Chains
-pub mod Numbers
 pub mod Stores
 pub mod Tables

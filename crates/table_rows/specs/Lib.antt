@@ -1,4 +1,2 @@
 pub mod Flat
-pub mod Index
-pub mod References
 pub mod Internal

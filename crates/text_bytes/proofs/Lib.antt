@@ -1,4 +1,2 @@
 -- Laws that belong to no one function.
 pub mod Every
-pub mod Parts
-pub mod Runs

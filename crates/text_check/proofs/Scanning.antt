@@ -9,10 +9,11 @@ use borrow.Author.Tests.{eqb-true, eq-eqb, ne-eqb, lt-ltb, le-ltb}
 use lib.Dec.{eqb}
 use lib.ListN.{length, take, drop, getD, drop-of-length-le}
 use lib.Seq.{drop-cons, drop-drop}
-use Rattle.text_bytes.specs.Bytes.{Class, blank, opener, closer, quote, semicolon, letter, other, classOf, isBlank, inLine, isContent, run, same}
+use Rattle.text_bytes.specs.Bytes.{Class, blank, opener, closer, quote, semicolon, letter, other, classOf, isBlank, inLine, isContent}
+use Rattle.text_runs.specs.Runs.{run, same}
 use Rattle.text_check.specs.Faults.{outside, comment, string, faultIn, begins, blankOrEnd}
 use Rattle.refusal.specs.Faults.{Fault, clear, fault}
-use Rattle.text_bytes.proofs.Runs.{run-yes}
+use Rattle.text_runs.proofs.Runs.{run-yes}
 
 -- a class whose bytes are passed over outside strings and comments
 unfoldable pub passes : Class → Bool

@@ -9,13 +9,14 @@ use borrow.Author.Tests.{ltb-true, ne-eqb}
 use lib.Dec.{leb, ltb, eqb}
 use lib.ListN.{length, drop, length-drop}
 use lib.Seq.{drop-drop}
-use Rattle.text_bytes.specs.Bytes.{Class, blank, opener, closer, quote, semicolon, letter, other, classOf, isBlank, between, isLetter, inLine, inString, isContent, run, part}
+use Rattle.text_bytes.specs.Bytes.{Class, blank, opener, closer, quote, semicolon, letter, other, classOf, isBlank, between, isLetter, inLine, inString, isContent}
+use Rattle.text_runs.specs.Runs.{run, part}
 use Rattle.text_bytes.specs.Internal.Every.{Every}
 use Rattle.text_tokens.specs.Tokens.{lexeme, tokens, lex}
 use Rattle.text_check.specs.Internal.Strings.{StringAt, Stands}
 use Rattle.text_check.specs.Faults.{outside, string, faultIn, Format, marked, textFault}
 use Rattle.refusal.specs.Faults.{clear}
-use Rattle.text_bytes.proofs.Runs.{run-yes, run-no, run-take}
+use Rattle.text_runs.proofs.Runs.{run-yes, run-no, run-take}
 use Rattle.text_numbers.proofs.Numerals.{and-true, between-true}
 use Rattle.text_check.proofs.Scanning.{comment-end}
 use Rattle.refusal.proofs.Faults.{fault-not-clear}

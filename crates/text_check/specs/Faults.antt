@@ -4,7 +4,8 @@ use mathlib.Core.Bool.{Bool, true, false}
 use Prim.Native.Nat.{ℕ, suc}
 use lib.Dec.{leb, ltb, eqb}
 use lib.ListN.{length, take, drop}
-use Rattle.text_bytes.specs.Bytes.{blank, opener, closer, quote, semicolon, letter, other, classOf, isBlank, isContent, bytes, same}
+use Rattle.text_bytes.specs.Bytes.{blank, opener, closer, quote, semicolon, letter, other, classOf, isBlank, isContent, bytes}
+use Rattle.text_runs.specs.Runs.{same}
 use Rattle.refusal.specs.Faults.{Fault, clear, fault}
 
 -- where a byte stands: outside strings and comments, in a comment, or in the string whose quote stands at an offset, after so many bytes of it

@@ -7,13 +7,13 @@ ghost use Rattle.refusal.specs.Internal.Answers.{refusal};
 ghost use Rattle.text_check.specs.Internal.Answers.{scanned, Ahead, formatNamed};
 use refusal::Checked;
 use text_bytes::Class;
-use text_bytes::Run;
 use text_bytes::class_of;
 use text_bytes::is_between;
 use text_bytes::is_blank;
-use text_bytes::part;
-use text_bytes::run_end;
-use text_bytes::same;
+use text_runs::Run;
+use text_runs::part;
+use text_runs::run_end;
+use text_runs::same;
 
 pub enum Format {
     Bac,

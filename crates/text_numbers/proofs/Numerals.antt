@@ -11,9 +11,10 @@ use lib.Dec.{leb, eqb}
 use lib.ListN.{length, take, drop, getD, length-drop, drop-of-length-le}
 use lib.Seq.{drop-cons, drop-drop, take-all}
 use lib.IntN.{ℤ}
-use Rattle.text_bytes.specs.Bytes.{between, isDigit, run, part}
-use Rattle.text_bytes.proofs.Runs.{run-yes, run-no, run-take, run-within}
-use Rattle.text_bytes.proofs.Parts.{part-none}
+use Rattle.text_bytes.specs.Bytes.{between, isDigit}
+use Rattle.text_runs.specs.Runs.{run, part}
+use Rattle.text_runs.proofs.Runs.{run-yes, run-no, run-take, run-within}
+use Rattle.text_runs.proofs.Parts.{part-none}
 use Rattle.text_numbers.specs.Numbers.{Number, value, beyond, wrong, Form, INT, FLOAT, decimalFrom, decimal, allDigits, notEmpty, signed, intMost, intOf, millionths, floatOf, numberFrom, afterDigits, unsigned, negative, unsignedPart, numberOf, inForm}
 
 pub negative-none : (word : List ℕ) → length word ≡ 0 → negative word ≡ false

@@ -5,7 +5,8 @@ use Prim.Native.Nat.{ℕ, _+_, _-_, _*_, _^_}
 use lib.Dec.{leb, eqb}
 use lib.ListN.{length, drop}
 use lib.IntN.{ℤ, pos, negsuc, negℤ}
-use Rattle.text_bytes.specs.Bytes.{isDigit, run}
+use Rattle.text_bytes.specs.Bytes.{isDigit}
+use Rattle.text_runs.specs.Runs.{run}
 
 -- what a plain word is where a number is wanted: its value, of the form but beyond its digits or range, or not of the form
 pub data Number : Type 0 where

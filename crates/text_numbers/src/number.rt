@@ -4,12 +4,12 @@ ghost use mathlib.Core.Bool.{true};
 ghost use Prim.Native.Nat.{_+_, _-_, _≤_, _<_, _^_};
 ghost use lib.IntN.{natAbs};
 ghost use lib.ListN.{length};
-ghost use Rattle.text_bytes.specs.Bytes.{part};
+ghost use Rattle.text_runs.specs.Runs.{part};
 ghost use Rattle.text_numbers.specs.Numbers.{numberOf, INT, FLOAT, floatOf, allDigits, negative, signed, intMost};
 ghost use Rattle.text_numbers.specs.Numbers.{decimal as decimalOf};
 ghost use Rattle.text_numbers.specs.Internal.Answers.{numberNamed, Leads};
-use text_bytes::Run;
-use text_bytes::run_end;
+use text_runs::Run;
+use text_runs::run_end;
 
 pub enum Parsed {
     Value(i64),

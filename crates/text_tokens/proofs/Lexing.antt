@@ -9,7 +9,8 @@ use lib.ListN.{length, drop, getD, length-drop, drop-of-length-le}
 use lib.Seq.{drop-cons, drop-drop}
 use lib.Dec.{leb}
 use borrow.Author.Tests.{leb-true, leb-false}
-use Rattle.text_bytes.specs.Bytes.{blank, opener, closer, quote, semicolon, letter, other, classOf, isLetter, inLine, inString, run}
+use Rattle.text_bytes.specs.Bytes.{blank, opener, closer, quote, semicolon, letter, other, classOf, isLetter, inLine, inString}
+use Rattle.text_runs.specs.Runs.{run}
 use Rattle.text_tokens.specs.Tokens.{Token, opening, closing, ending, quoted, plain, Lexeme, lexeme, tokens, lex, lexAt}
 
 -- bytes passed over

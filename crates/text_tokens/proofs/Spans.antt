@@ -9,13 +9,14 @@ use lib.Dec.{leb}
 use borrow.Author.Tests.{leb-true, leb-false}
 use lib.ListN.{length, drop, getD}
 use lib.Seq.{drop-cons}
-use Rattle.text_bytes.specs.Bytes.{opener, closer, quote, letter, classOf, isLetter, inString, run, part}
+use Rattle.text_bytes.specs.Bytes.{opener, closer, quote, letter, classOf, isLetter, inString}
+use Rattle.text_runs.specs.Runs.{run, part}
 use Rattle.text_tokens.specs.Tokens.{Token, opening, closing, ending, quoted, plain, Lexeme, lexeme, lexAt, first, bytesOf, widthOf}
 use Rattle.text_tokens.specs.declared.token.Kind.{Kind}
 use Rattle.text_tokens.specs.declared.token.Kind.the-variants.{Ending}
 use Rattle.text_tokens.specs.declared.token.Span.{Span}
 use Rattle.text_tokens.specs.Internal.Answers.{Next, spanOf, spanAt, kindOf, tokenOf, isEnding, heldBytes, lexemeOf, after}
-use Rattle.text_bytes.proofs.Runs.{run-take, run-within}
+use Rattle.text_runs.proofs.Runs.{run-take, run-within}
 use Rattle.text_tokens.proofs.Lexing.{lexAt-end, lexAt-opening, lexAt-closing, lexAt-quoted, lexAt-plain}
 
 -- past the text's end an offset is as good as the end

@@ -3,7 +3,8 @@ use mathlib.Core.List.{List, [], _∷_}
 use mathlib.Core.Bool.{Bool, false}
 use Prim.Native.Nat.{ℕ, zero, suc, _+_, min}
 use lib.ListN.{length, drop}
-use Rattle.text_bytes.specs.Bytes.{blank, opener, closer, quote, semicolon, letter, other, classOf, isLetter, inLine, inString, run, same}
+use Rattle.text_bytes.specs.Bytes.{blank, opener, closer, quote, semicolon, letter, other, classOf, isLetter, inLine, inString}
+use Rattle.text_runs.specs.Runs.{run, same}
 
 -- `ending` stands at the text's length, after the last token
 pub data Token : Type 0 where

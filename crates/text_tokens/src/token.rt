@@ -6,11 +6,11 @@ ghost use Rattle.text_bytes.specs.Bytes.{classOf, quote, letter};
 ghost use Rattle.text_tokens.specs.Tokens.{isKeyword};
 ghost use Rattle.text_tokens.specs.Internal.Answers.{Next, lexemeOf};
 use text_bytes::Class;
-use text_bytes::Run;
 use text_bytes::class_of;
-use text_bytes::part;
-use text_bytes::run_end;
-use text_bytes::same;
+use text_runs::Run;
+use text_runs::part;
+use text_runs::run_end;
+use text_runs::same;
 
 pub enum Kind {
     Opening,

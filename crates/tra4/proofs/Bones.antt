@@ -12,7 +12,7 @@ use lib.ListN.{length, length-append}
 use Rattle.table_rows.specs.Flat.{flat}
 use Rattle.table_rows.specs.Internal.Overlay.{overlayAt}
 use Rattle.parse_rows.specs.Internal.Folds.{fold}
-use Rattle.parse_cursor.proofs.Given.{Every}
+use Rattle.parse_spec.proofs.Given.{Every}
 use Rattle.table_rows.proofs.Tables.{overlayAt-none, overlayAt-append}
 use Rattle.tra4_text.specs.Movement.{Bone}
 use Rattle.tra4_text.specs.Rules.{allKeys, channelsOf}

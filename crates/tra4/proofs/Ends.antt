@@ -11,14 +11,14 @@ use lib.IntN.{ℤ, pos}
 use lib.ListN.{length, take}
 use Rattle.refusal.specs.Faults.{clear, fault}
 use Rattle.text_tokens.specs.Tokens.{lex}
-use Rattle.parse_cursor.specs.Internal.Places.{placeOf}
+use Rattle.parse_spec.specs.Internal.Places.{placeOf}
 use Rattle.table_rows.specs.Flat.{flat}
 use Rattle.table_rows.specs.Internal.Overlay.{overlayAt}
 use Rattle.parse_rows.specs.Internal.Folds.{fold}
 use Rattle.refusal.specs.Rules.{tooMany}
 use Rattle.refusal.specs.Outcomes.{Outcome, rejected, accepted, ruled, fitted, laid}
 use Rattle.refusal.proofs.Rules.{or-first, count-clear}
-use Rattle.parse_cursor.proofs.Given.{Every}
+use Rattle.parse_spec.proofs.Given.{Every}
 use Rattle.parse_rows.proofs.Widths.{Wide, held, part-is, room-is}
 use Rattle.tra4_text.specs.Movement.{Bone, Movement}
 use Rattle.tra4_text.specs.Rules.{allKeys, channelsOf, keyRows, countsOf, movementCounts, movementFault}

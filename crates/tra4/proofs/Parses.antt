@@ -9,16 +9,16 @@ use Rattle.refusal.specs.Outcomes.{rejected, ruled}
 use Rattle.text_numbers.specs.Numbers.{INT}
 use Rattle.text_tokens.specs.Tokens.{Lexeme, lex, lexAt}
 use Rattle.parse_cursor.specs.declared.cursor.Cursor.{Cursor}
-use Rattle.parse_cursor.specs.Readers.{Name, absent, Got, got, refused, Reader, after, _>>=_, _>>_, pure, head, opened, closed, string, number, optional, trailing, many, close-bracket, text-end}
-use Rattle.parse_cursor.specs.Internal.Places.{placeOf, optionalName}
+use Rattle.parse_spec.specs.Readers.{Name, absent, Got, got, refused, Reader, after, _>>=_, _>>_, pure, head, opened, closed, string, number, optional, trailing, many, close-bracket, text-end}
+use Rattle.parse_spec.specs.Internal.Places.{placeOf, optionalName}
 use Rattle.parse_cursor.specs.Internal.Cursors.{reads}
 use Rattle.table_rows.specs.Internal.Overlay.{overlayAt}
 use Rattle.table_rows.specs.Flat.{flat}
 use Rattle.parse_rows.specs.Internal.Folds.{fold}
 use Rattle.parse_cursor.proofs.Steps.{from-on, from-off}
-use Rattle.parse_cursor.proofs.Many.{not-got, got-value}
-use Rattle.parse_cursor.proofs.Given.{before}
-use Rattle.parse_cursor.proofs.Sequences.{into-then, into-bind}
+use Rattle.parse_spec.proofs.Many.{not-got, got-value}
+use Rattle.parse_spec.proofs.Given.{before}
+use Rattle.parse_spec.proofs.Sequences.{into-then, into-bind}
 use Rattle.parse_text.specs.Texts.{shaped}
 use Rattle.parse_text.proofs.Outcomes.{shape-rejected}
 use Rattle.tra4_text.specs.Movement.{Bone, Pattern, Movement}

@@ -3,7 +3,10 @@ ghost use mathlib.Core.Path.{_≡_};
 ghost use lib.ListN.{length};
 ghost use Rattle.tra4.specs.Answers.{refusedWith};
 ghost use Rattle.tra4.specs.Internal.Answers.{Fits, downAnswer, downTable, partsOf};
+use table_counts::KEY_WIDTH;
+use table_counts::MOVEMENT_BONE_WIDTH;
 use table_counts::MovementCounts;
+use table_counts::PATTERN_WIDTH;
 use table_counts::no_movement;
 use table_rows::put;
 use tra4_parse::Parsed;
@@ -41,9 +44,9 @@ pub(crate) fn set_down(
     ensures answer { λ r. ⌜ r ≡ downAnswer p (length (now (table .entry))) ⌝ }
     ensures content { λ r. ⌜ now (table .exit) ≡ downTable p (partsOf p (now («bone_rows» .entry)) (now («key_rows» .entry)) (now («pattern_rows» .entry))) (now (table .entry)) ⌝ }
 {
-    let b = p.bones * 22;
-    let k = p.keys * 2;
-    let g = p.patterns * 3;
+    let b = p.bones * MOVEMENT_BONE_WIDTH;
+    let k = p.keys * KEY_WIDTH;
+    let g = p.patterns * PATTERN_WIDTH;
     let total = 3 + b + k + g;
     if table.len() < total {
         return refused(17, total);

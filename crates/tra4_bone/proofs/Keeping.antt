@@ -10,14 +10,14 @@ use lib.IntN.{ℤ, pos}
 use lib.ListN.{length}
 use Rattle.text_tokens.specs.Tokens.{Lexeme, lexAt}
 use Rattle.parse_cursor.specs.declared.cursor.Cursor.{Cursor}
-use Rattle.parse_cursor.specs.Readers.{got, Reader, after, _>>=_, pure, absent, closed, string, optional}
-use Rattle.parse_cursor.specs.Internal.Places.{placeOf, optionalName}
-use Rattle.parse_cursor.specs.Fields.{fields}
+use Rattle.parse_spec.specs.Readers.{got, Reader, after, _>>=_, pure, absent, closed, string, optional}
+use Rattle.parse_spec.specs.Internal.Places.{placeOf, optionalName}
+use Rattle.parse_spec.specs.Fields.{fields}
 use Rattle.parse_cursor.specs.Internal.Cursors.{from, reads}
 use Rattle.table_rows.specs.Internal.Overlay.{overlayAt}
 use Rattle.table_rows.specs.Flat.{flat}
 use Rattle.parse_cursor.proofs.Steps.{join, from-on, from-same, passed}
-use Rattle.parse_cursor.proofs.Binds.{after-after, after-same}
+use Rattle.parse_spec.proofs.Binds.{after-after, after-same}
 use Rattle.table_rows.proofs.Tables.{overlayAt-append, overlayAt-same}
 use Rattle.tra4_text.specs.Movement.{Channel, Bone}
 use Rattle.tra4_text.specs.Grammar.{channelKinds, keysIn, bone}

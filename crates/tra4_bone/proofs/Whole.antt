@@ -10,10 +10,10 @@ use lib.ListN.{length, getD}
 use Rattle.text_tokens.specs.Tokens.{Lexeme}
 use Rattle.parse_cursor.specs.declared.cursor.Cursor.{Cursor}
 use Rattle.parse_cursor.specs.Internal.Cursors.{reads}
-use Rattle.parse_cursor.specs.Fields.{kind, isSome, complete, fields}
+use Rattle.parse_spec.specs.Fields.{kind, isSome, complete, fields}
 use Rattle.parse_cursor.proofs.Behind.{given}
-use Rattle.parse_cursor.proofs.Given.{GivesOn, AnyToken, gives-as, Every}
-use Rattle.parse_cursor.proofs.FieldFits.{AllGive, AllFit, Whole, fields-fit}
+use Rattle.parse_spec.proofs.Given.{GivesOn, AnyToken, gives-as, Every}
+use Rattle.parse_spec.proofs.FieldFits.{AllGive, AllFit, Whole, fields-fit}
 use Rattle.tra4_text.specs.Movement.{Channel}
 use Rattle.tra4_text.specs.Grammar.{channel, channelNames, channelKinds, keysIn}
 use Rattle.tra4_text.specs.Rules.{allKeys}

@@ -11,6 +11,7 @@ ghost use Rattle.tra4_channels.specs.Internal.Held.{Held, AllHeld};
 ghost use Rattle.tra4_bone.specs.Internal.Into.{kept, keptBy, boneInto};
 use crate::laying::lay_keys;
 use parse_cursor::Cursor;
+use table_counts::MOST_KEYS;
 use tra4_channels::Keyed;
 use tra4_channels::channels;
 
@@ -41,7 +42,7 @@ fn set_bone(
     if read.over {
         return over;
     }
-    if 4096 - n < count {
+    if MOST_KEYS - n < count {
         return over;
     }
     lay_keys(ranges, scratch, key_rows, count);

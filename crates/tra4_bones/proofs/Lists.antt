@@ -12,15 +12,15 @@ use Rattle.text_bytes.specs.Bytes.{bytes}
 use Rattle.text_numbers.specs.Numbers.{FLOAT}
 use Rattle.text_tokens.specs.Tokens.{Lexeme}
 use Rattle.parse_cursor.specs.declared.cursor.Cursor.{Cursor}
-use Rattle.parse_cursor.specs.Readers.{Got, got, Reader, after, _>>=_, _>>_, pure, opened, openedOf, absent}
+use Rattle.parse_spec.specs.Readers.{Got, got, Reader, after, _>>=_, _>>_, pure, opened, openedOf, absent}
 use Rattle.parse_cursor.specs.Internal.Cursors.{from, reads}
 use Rattle.parse_rows.specs.Internal.Folds.{fold, stepped}
-use Rattle.parse_cursor.specs.Fields.{kind}
+use Rattle.parse_spec.specs.Fields.{kind}
 use Rattle.parse_cursor.proofs.Steps.{join, seq, from-same}
-use Rattle.parse_cursor.proofs.Binds.{after-after, after-same}
+use Rattle.parse_spec.proofs.Binds.{after-after, after-same}
 use Rattle.table_rows.proofs.Tables.{overlayAt-same}
-use Rattle.parse_cursor.proofs.Many.{Keeps, takes-keeps, pure-keeps, bind-keeps, closed-keeps, string-takes, optional-keeps, many⁺-takes, row-of-takes}
-use Rattle.parse_cursor.proofs.FieldKeeps.{AllKeep, fields-keeps}
+use Rattle.parse_spec.proofs.Many.{Keeps, takes-keeps, pure-keeps, bind-keeps, closed-keeps, string-takes, optional-keeps, many⁺-takes, row-of-takes}
+use Rattle.parse_spec.proofs.FieldKeeps.{AllKeep, fields-keeps}
 use Rattle.tra4_text.specs.Movement.{Bone}
 use Rattle.tra4_text.specs.Grammar.{key, channel, channelNames, channelKinds, keysIn, bone, repeated, repeated⁺}
 use Rattle.tra4_text.specs.Layout.{boneRow}

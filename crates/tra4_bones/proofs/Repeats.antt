@@ -9,14 +9,15 @@ use lib.ListN.{length}
 use Rattle.text_bytes.specs.Bytes.{bytes}
 use Rattle.text_tokens.specs.Tokens.{Lexeme, lexAt}
 use Rattle.parse_cursor.specs.declared.cursor.Cursor.{Cursor}
-use Rattle.parse_cursor.specs.Readers.{Got, got, Reader, after, _>>=_, _>>_, pure, tokenOf, rest, isOpening, starts}
+use Rattle.parse_spec.specs.Readers.{Got, got, Reader, after, _>>=_, _>>_, pure, tokenOf, rest, starts}
+use Rattle.text_kinds.specs.Kinds.{isOpening}
 use Rattle.parse_cursor.specs.Internal.Cursors.{from, reads}
-use Rattle.parse_cursor.specs.Internal.Branches.{startOf}
+use Rattle.parse_spec.specs.Internal.Branches.{startOf}
 use Rattle.parse_rows.specs.Internal.Folds.{fold, stepped}
 use Rattle.parse_cursor.proofs.Steps.{from-on, reads-on, from-same, from-bind, after-reads, passed}
-use Rattle.parse_cursor.proofs.Binds.{after-after, after-same}
+use Rattle.parse_spec.proofs.Binds.{after-after, after-same}
 use Rattle.parse_cursor.proofs.Counts.{alive, short}
-use Rattle.parse_cursor.proofs.Many.{Keeps, rest-short, got-rest, pure-keeps, bind-keeps}
+use Rattle.parse_spec.proofs.Many.{Keeps, rest-short, got-rest, pure-keeps, bind-keeps}
 use Rattle.parse_cursor.proofs.Branches.{pick, chosen-yes, chosen-no}
 use Rattle.tra4_text.specs.Grammar.{repeated}
 use Rattle.tra4_text.proofs.Repeated.{repeated-end, repeated-more}

@@ -8,6 +8,7 @@ ghost use Rattle.tra4_text.specs.Grammar.{bone as boneRead};
 ghost use Rattle.tra4_bones.specs.Internal.Into.{boneStep, moreInto, bonesInto};
 ghost use Rattle.tra4_bone.specs.Internal.Into.{kept};
 use parse_cursor::Cursor;
+use table_counts::MOVEMENT_BONE_WIDTH;
 use tra4_bone::bone_tail;
 use tra4_channels::Keyed;
 
@@ -54,7 +55,7 @@ fn more_bones(text: &[u8], first: Boned, bone_rows: &mut [i64], key_rows: &mut [
     let mut count = first.count;
     let mut keys = first.keys;
     let mut over = first.over;
-    let mut i = 22;
+    let mut i = MOVEMENT_BONE_WIDTH;
     loop {
         let s = parse_names::optional(text, d, b"bone");
         let start = s.cursor;
@@ -78,7 +79,7 @@ fn more_bones(text: &[u8], first: Boned, bone_rows: &mut [i64], key_rows: &mut [
         count = b.count;
         keys = b.keys;
         over = b.over;
-        i = table_rows::advance(i, 22, bone_rows.len());
+        i = table_rows::advance(i, MOVEMENT_BONE_WIDTH, bone_rows.len());
     }
 }
 

@@ -6,11 +6,11 @@ use Prim.Native.Nat.{ℕ, zero, suc, _+_, _*_, _<_}
 use Prim.Native.String.{String}
 use native.Mathlib.Omega.{arith}
 use lib.ListN.{length, getD, set, length-append}
-use Rattle.parse_cursor.specs.Readers.{many⁺}
-use Rattle.parse_cursor.specs.Fields.{kind}
-use Rattle.parse_cursor.specs.Internal.Fields.{insideAt}
+use Rattle.parse_spec.specs.Readers.{many⁺}
+use Rattle.parse_spec.specs.Fields.{kind}
+use Rattle.parse_spec.specs.Internal.Fields.{insideAt}
 use Rattle.table_rows.specs.Flat.{flat}
-use Rattle.parse_cursor.proofs.Given.{GivesOn, AnyToken, gives-as}
+use Rattle.parse_spec.proofs.Given.{GivesOn, AnyToken, gives-as}
 use Rattle.parse_rows.proofs.Widths.{Wide, flat-length}
 use Rattle.tra4_text.specs.Movement.{Channel}
 use Rattle.tra4_text.specs.Grammar.{key, channel, channelNames, channelKinds, keysIn}

@@ -10,7 +10,7 @@ use lib.Dec.{eqb}
 use lib.IntN.{ℤ, pos}
 use lib.ListN.{length, getD, set, take, drop, length-set}
 use lib.Seq.{getD-set-same, getD-set-other}
-use Rattle.parse_cursor.specs.Fields.{isSome}
+use Rattle.parse_spec.specs.Fields.{isSome}
 use Rattle.table_rows.specs.Internal.Overlay.{overlayAt}
 use Rattle.table_rows.specs.Flat.{flat}
 use Rattle.table_rows.proofs.Tables.{overlayAt-length, overlayAt-part, overlayAt-below}

@@ -10,12 +10,12 @@ use Rattle.text_bytes.specs.Bytes.{bytes}
 use Rattle.text_numbers.specs.Numbers.{FLOAT}
 use Rattle.text_tokens.specs.Tokens.{lexAt}
 use Rattle.parse_cursor.specs.declared.cursor.Cursor.{Cursor}
-use Rattle.parse_cursor.specs.Readers.{_>>=_, many⁺}
+use Rattle.parse_spec.specs.Readers.{_>>=_, many⁺}
 use Rattle.parse_cursor.specs.Internal.Cursors.{reads, from}
 use Rattle.table_rows.specs.Internal.Overlay.{overlayAt}
-use Rattle.parse_cursor.specs.Fields.{isSome}
-use Rattle.parse_cursor.specs.Internal.Fields.{insideAt}
-use Rattle.parse_rows.specs.Internal.Into.{someInto}
+use Rattle.parse_spec.specs.Fields.{isSome}
+use Rattle.parse_spec.specs.Internal.Fields.{insideAt}
+use Rattle.parse_lists.specs.Internal.ListsInto.{someInto}
 use Rattle.table_rows.specs.Flat.{flat}
 use Rattle.parse_cursor.proofs.Steps.{from-on, from-bind}
 use Rattle.parse_cursor.proofs.Behind.{Behind, behind, given}

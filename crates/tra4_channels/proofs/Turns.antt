@@ -7,14 +7,15 @@ use Prim.Native.Nat.{ℕ, zero, suc, _-_, _≤_, _<_}
 use native.Mathlib.Omega.{arith}
 use lib.IntN.{ℤ}
 use lib.ListN.{length, getD, set, replicate}
-use Rattle.text_bytes.specs.Bytes.{bytes, same, inWord}
+use Rattle.text_bytes.specs.Bytes.{bytes, inWord}
+use Rattle.text_runs.specs.Runs.{same}
 use Rattle.text_tokens.specs.Tokens.{lexAt}
 use Rattle.parse_cursor.specs.declared.cursor.Cursor.{Cursor}
 use Rattle.parse_cursor.specs.Internal.Cursors.{reads, from}
-use Rattle.parse_cursor.specs.Fields.{kind, isSome, fieldsIn, fields, unread}
-use Rattle.parse_cursor.specs.Internal.Fields.{neededOf}
+use Rattle.parse_spec.specs.Fields.{kind, isSome, fieldsIn, fields, unread}
+use Rattle.parse_spec.specs.Internal.Fields.{neededOf}
 use Rattle.parse_cursor.proofs.Steps.{from-on}
-use Rattle.parse_cursor.proofs.FieldFlags.{flags-length}
+use Rattle.parse_spec.proofs.FieldFlags.{flags-length}
 use Rattle.parse_words.specs.Internal.Words.{words, onto, keysOf, apart, differs}
 use Rattle.parse_words.specs.Internal.Heads.{headIn, Reached}
 use Rattle.parse_words.proofs.Turns.{Listed, Midway, turn-ends, turn-holds, turn-left, turn-unread, turn-on}

@@ -4,12 +4,14 @@ ghost use mathlib.Core.List.{map};
 ghost use Prim.Native.Nat.{_<_, _≤_};
 ghost use lib.ListN.{length};
 ghost use Rattle.text_tokens.specs.Tokens.{lexAt};
-ghost use Rattle.parse_cursor.specs.Fields.{isSome, fields};
+ghost use Rattle.parse_spec.specs.Fields.{isSome, fields};
 ghost use Rattle.tra4_text.specs.Grammar.{channelKinds};
 ghost use Rattle.parse_words.specs.Internal.Heads.{Reached};
 ghost use Rattle.tra4_channels.specs.Internal.Held.{Held, KeysRead};
 use parse_cursor::Cursor;
 use parse_numbers::Form;
+use table_counts::KEY_WIDTH;
+use table_counts::MOST_KEYS;
 
 // A cursor past what was read; how many keys stand in the table, and whether there were more than fit.
 // Where the cursor has refused, the two and all tables are free; where there were too many, the table of keys and that of ranges are.
@@ -32,7 +34,7 @@ fn channel_keys(
     requires { ⌜ (k < 10) × (length (now ranges) ≡ 20) × (length (now keys) ≡ 8192) × (count ≤ 4096) ⌝ }
     ensures { λ r. ⌜ KeysRead (now (text .entry)) c k (now (ranges .entry), now (keys .entry), count, over) (r .cursor) (now (ranges .exit), now (keys .exit), r .count, r .over) ⌝ }
 {
-    let read = parse_rows::some_rows(text, c, b"kf", 1, Form::Float, 1, keys, count * 2);
+    let read = parse_lists::some_rows(text, c, b"kf", 1, Form::Float, 1, keys, count * KEY_WIDTH);
     let d = read.cursor;
     let n = read.count;
     let unset = Keyed {
@@ -46,7 +48,7 @@ fn channel_keys(
     if over {
         return unset;
     }
-    if 4096 - count < n {
+    if MOST_KEYS - count < n {
         return Keyed {
             cursor: d,
             count,

@@ -10,23 +10,23 @@ use Rattle.text_bytes.specs.Bytes.{bytes, inWord}
 use Rattle.text_numbers.specs.Numbers.{INT}
 use Rattle.text_tokens.specs.Tokens.{Lexeme}
 use Rattle.parse_cursor.specs.declared.cursor.Cursor.{Cursor}
-use Rattle.parse_cursor.specs.Readers.{Got, got, Reader, after, _>>=_, _>>_, pure, open-bracket, close-bracket, wordOf, openedOf, opened, closed, numbers, trailing, many}
+use Rattle.parse_spec.specs.Readers.{Got, got, Reader, after, _>>=_, _>>_, pure, open-bracket, close-bracket, wordOf, openedOf, opened, closed, numbers, trailing, many}
 use Rattle.parse_words.specs.Internal.Words.{words, onto, wordIn}
-use Rattle.parse_cursor.specs.Internal.Branches.{lastOf}
+use Rattle.parse_spec.specs.Internal.Branches.{lastOf}
 use Rattle.parse_cursor.specs.Internal.Cursors.{from, reads}
 use Rattle.table_rows.specs.Internal.Overlay.{overlayAt}
 use Rattle.parse_rows.specs.Internal.Into.{numbersInto}
 use Rattle.table_rows.specs.Flat.{flat}
 use Rattle.parse_rows.specs.Internal.Folds.{fold, folded, rowStep}
 use Rattle.parse_cursor.proofs.Steps.{join, seq, from-same}
-use Rattle.parse_cursor.proofs.Binds.{after-after, after-same, after-when, then-assoc}
+use Rattle.parse_spec.proofs.Binds.{after-after, after-same, after-when, then-assoc}
 use Rattle.parse_cursor.proofs.Branches.{trailing-yes, trailing-no, trailing-map}
 use Rattle.parse_words.proofs.Vocabulary.{wordList, one-word}
 use Rattle.table_rows.proofs.Tables.{overlayAt-append, overlayAt-same}
 use Rattle.parse_rows.proofs.Folds.{fold-rows}
-use Rattle.parse_cursor.proofs.Given.{Every, free, many-gives, trailing-gives}
-use Rattle.parse_cursor.proofs.Ranges.{numbers-give}
-use Rattle.parse_cursor.proofs.Many.{Keeps, Takes, takes-keeps, pure-keeps, bind-keeps, then-keeps, then-takes, word-takes, opened-takes, closed-keeps, numbers-keeps, one-of-takes}
+use Rattle.parse_spec.proofs.Given.{Every, free, many-gives, trailing-gives}
+use Rattle.parse_spec.proofs.Ranges.{numbers-give}
+use Rattle.parse_spec.proofs.Many.{Keeps, Takes, takes-keeps, pure-keeps, bind-keeps, then-keeps, then-takes, word-takes, opened-takes, closed-keeps, numbers-keeps, one-of-takes}
 use Rattle.tra4_text.specs.Movement.{Pattern}
 use Rattle.tra4_text.specs.Grammar.{word, truth, pattern}
 use Rattle.tra4_text.proofs.Whole.{pattern-wide}

@@ -5,8 +5,8 @@ ghost use Rattle.parse_rows.specs.Internal.Folds.{folded, rowStep};
 ghost use Rattle.tra4_text.specs.Grammar.{pattern as patternRead};
 ghost use Rattle.tra4_parse.specs.Internal.Patterns.{patternInto, patternsInto};
 use parse_cursor::Cursor;
+use parse_lists::Counted;
 use parse_numbers::Form;
-use parse_rows::Counted;
 
 // What stands in a pattern line after its opening bracket: frame, group and flag, to the table from index `at` on.
 fn pattern_tail(text: &[u8], c: Cursor, out: &mut [i64], at: usize) -> Cursor

@@ -13,20 +13,19 @@ use lib.IntN.{ℤ}
 use Rattle.refusal.specs.Faults.{Fault, clear, fault}
 use Rattle.parse_rows.proofs.Widths.{Wide}
 use Rattle.table_rows.specs.Flat.{flat}
-use Rattle.parse_cursor.proofs.Given.{Every}
+use Rattle.parse_spec.proofs.Given.{Every}
 use Rattle.tra4_text.specs.Movement.{Key, Channel, Bone, Movement}
 use Rattle.tra4_text.specs.Layout.{nameNumbers, keyRanges, boneRow, boneRows}
 use Rattle.refusal.specs.Rules.{tooMany}
 use Rattle.tra4_text.specs.Rules.{channelsOf, allKeys, keyRows, countsOf, movementCounts, movementFault}
-use Rattle.tra4_rules.specs.Internal.Rows.{wholeRows}
+use Rattle.tra4_keys.specs.Internal.Rows.{wholeRows}
 use Rattle.table_columns.specs.Parts.{rowsOf}
-use Rattle.tra4_rules.specs.Internal.Keys.{countOf, pairCounts, boneCounts, rowCounts, keyCounts, cut, channelsIn}
+use Rattle.tra4_keys.specs.Internal.Keys.{countOf, pairCounts, boneCounts, rowCounts, keyCounts, cut, channelsIn}
 use Rattle.tra4_rules.specs.Internal.Order.{tablesFault}
 use Rattle.table_columns.proofs.Rows.{rows-more}
 use Rattle.tra4_rules.proofs.Counts.{count-beyond}
 use Rattle.refusal.proofs.Rules.{or-fault}
 use Rattle.table_counts.specs.Counts.{movementLists, movementMosts}
-use Rattle.table_counts.specs.Counts.{movementLists}
 
 -- ---- rows of one width
 

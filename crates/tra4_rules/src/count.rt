@@ -6,24 +6,27 @@ ghost use Rattle.refusal.specs.Rules.{tooMany};
 ghost use Rattle.tra4_text.specs.Rules.{totalFault};
 ghost use Rattle.table_counts.specs.Counts.{movementMosts};
 use refusal::Checked;
+use table_counts::MOST_BONES;
+use table_counts::MOST_KEYS;
+use table_counts::MOST_PATTERNS;
 
 // The first list with more rows than it may have.
 pub(crate) fn counts_fault(bones: usize, keys: usize, patterns: usize) -> Checked
     ensures { λ r. ⌜ refusal r ≡ tooMany 0 (bones ∷ keys ∷ patterns ∷ []) movementMosts ⌝ }
 {
-    if 128 < bones {
+    if MOST_BONES < bones {
         return Checked::Refused {
             number: 8,
             place: 0,
         };
     }
-    if 4096 < keys {
+    if MOST_KEYS < keys {
         return Checked::Refused {
             number: 8,
             place: 1,
         };
     }
-    if 256 < patterns {
+    if MOST_PATTERNS < patterns {
         return Checked::Refused {
             number: 8,
             place: 2,

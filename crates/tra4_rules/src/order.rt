@@ -4,9 +4,9 @@ ghost use Rattle.refusal.specs.Internal.Answers.{refusal};
 ghost use Rattle.tra4_rules.specs.Internal.Order.{tablesFault};
 use crate::count::counts_fault;
 use crate::count::total_fault;
-use crate::frame::patterns_fault;
-use crate::key::keys_fault;
 use refusal::Checked;
+use tra4_frames::patterns_fault;
+use tra4_keys::keys_fault;
 
 // The first fault of the tables.
 pub fn first_fault(

@@ -5,13 +5,15 @@ use Prim.Native.Nat.{ℕ}
 use Prim.Native.String.{String}
 use lib.ListN.{length, replicate}
 use lib.IntN.{ℤ, pos, negsuc}
-use Rattle.text_bytes.specs.Bytes.{bytes, isBlank, between, isLetter, classOf, inLine, inString, isDigit, isContent, run, same}
+use Rattle.text_bytes.specs.Bytes.{bytes, isBlank, between, isLetter, classOf, inLine, inString, isDigit, isContent}
+use Rattle.text_runs.specs.Runs.{run, same}
 use Rattle.text_tokens.specs.Tokens.{lexeme, tokens, lex, isKeyword}
 use Rattle.text_numbers.specs.Numbers.{decimalFrom, decimal, signed, notEmpty, allDigits, intMost, intOf, millionths, floatOf, numberFrom, afterDigits, unsigned, negative, unsignedPart, numberOf, refusalOf}
 use Rattle.text_check.specs.Faults.{faultIn, markOf, blankOrEnd, begins, marked, textFault}
 use Rattle.refusal.specs.Faults.{clear, fault}
-use Rattle.parse_cursor.specs.Readers.{rowOf, cells, after, _>>=_, _>>_, pure, stop, tokenOf, rest, isOpening, isClosing, isEnd, take-if, open-bracket, close-bracket, wordOf, text-end, openedOf, opened, closed, numberIn, numberAt, number, numbers, versionAt, version, absent, nameAt, string, oneFrom, oneOf, starts, optional, trailing, manyIn, many, many⁺, headOf, head}
-use Rattle.parse_cursor.specs.Fields.{kind, isSome, unread, complete, kindFrom, fieldsIn, fields}
+use Rattle.parse_spec.specs.Readers.{rowOf, cells, after, _>>=_, _>>_, pure, stop, tokenOf, rest, take-if, open-bracket, close-bracket, wordOf, text-end, openedOf, opened, closed, numberIn, numberAt, number, numbers, versionAt, version, absent, nameAt, string, oneFrom, oneOf, starts, optional, trailing, manyIn, many, many⁺, headOf, head}
+use Rattle.text_kinds.specs.Kinds.{isOpening, isClosing, isEnd}
+use Rattle.parse_spec.specs.Fields.{kind, isSome, unread, complete, kindFrom, fieldsIn, fields}
 use Rattle.table_rows.specs.Flat.{flat}
 use Rattle.tra4_text.specs.Movement.{Movement, frameOf, groupOf}
 use Rattle.tra4_text.specs.Grammar.{repeatedIn, repeated, repeated⁺, key, channelNames, channel, channelKinds, keysIn, bone, word, truth, pattern, movement}
@@ -21,8 +23,7 @@ use Rattle.tra4_text.specs.Answer.{movementOutcome, movementAnswer, move
 use Rattle.refusal.specs.Rules.{orElse, tooMany}
 use Rattle.refusal.specs.Outcomes.{Outcome, rejected, accepted, ruled, fitted, laid}
 use Rattle.parse_text.specs.Texts.{shaped, checked, outcome}
-use Rattle.table_counts.specs.Counts.{movementMosts}
-use Rattle.table_counts.specs.Counts.{movementLists}
+use Rattle.table_counts.specs.Counts.{movementMosts, movementLists}
 
 -- ---- a text of two bones, their channels out of order, and the table that it leaves of one with a number more than it takes
 

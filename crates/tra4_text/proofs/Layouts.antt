@@ -5,7 +5,7 @@ use Prim.Native.Nat.{ℕ, _+_, _*_}
 use native.Mathlib.Omega.{arith}
 use lib.ListN.{length, length-append}
 use Rattle.table_rows.specs.Flat.{flat}
-use Rattle.parse_cursor.proofs.Given.{Every}
+use Rattle.parse_spec.proofs.Given.{Every}
 use Rattle.parse_rows.proofs.Widths.{Wide, wide-append, flat-length}
 use Rattle.tra4_text.specs.Movement.{Key, Channel, Bone, Movement}
 use Rattle.tra4_text.specs.Rules.{allKeys, channelsOf, keyRows}

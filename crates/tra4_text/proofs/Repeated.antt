@@ -8,8 +8,9 @@ use native.Mathlib.Omega.{arith}
 use lib.ListN.{length}
 use Rattle.text_bytes.specs.Bytes.{bytes}
 use Rattle.text_tokens.specs.Tokens.{Lexeme}
-use Rattle.parse_cursor.specs.Readers.{Got, got, refused, Reader, after, _>>=_, _>>_, pure, tokenOf, rest, isOpening, opened, starts}
-use Rattle.parse_cursor.proofs.Many.{Keeps, Takes, takes-keeps, pure-keeps, bind-keeps, bind-takes, then-takes, opened-takes, got-rest, rest-short}
+use Rattle.parse_spec.specs.Readers.{Got, got, refused, Reader, after, _>>=_, _>>_, pure, tokenOf, rest, opened, starts}
+use Rattle.text_kinds.specs.Kinds.{isOpening}
+use Rattle.parse_spec.proofs.Many.{Keeps, Takes, takes-keeps, pure-keeps, bind-keeps, bind-takes, then-takes, opened-takes, got-rest, rest-short}
 use Rattle.tra4_text.specs.Grammar.{repeatedIn, repeated, repeated⁺}
 
 in-end : {A : Type 0} (n : ℕ) (k : String) (r : Reader A) (ms : List Lexeme) → starts (bytes k) ms ≡ false → repeatedIn n k r ms ≡ got [] ms

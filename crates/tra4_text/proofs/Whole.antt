@@ -14,11 +14,11 @@ use Rattle.text_bytes.specs.Internal.Every.{Every}
 use Rattle.text_numbers.specs.Numbers.{INT, FLOAT}
 use Rattle.text_tokens.specs.Tokens.{Lexeme}
 use Rattle.text_bytes.proofs.Every.{every-as}
-use Rattle.parse_cursor.specs.Readers.{Name, absent, Reader, pure, starts, many⁺}
-use Rattle.parse_cursor.specs.Fields.{kind, isSome, complete, fields}
-use Rattle.parse_cursor.proofs.Given.{GivesOn, Gives, free, Naming, AnyName, any-names, pure-gives, later-gives, either-gives, bind-gives, then-gives, gives-as, leaves-on, both-give, closed-gives, close-leaves, opened-leaves, end-leaves, head-leaves, more-give, many-gives, some-give, trailing-gives, name-gives}
-use Rattle.parse_cursor.proofs.FieldFits.{AllGive, AllFit, Whole, fields-fit}
-use Rattle.parse_cursor.proofs.Ranges.{InForm, number-gives, numbers-give, row-of-gives, choice-below, some-stand}
+use Rattle.parse_spec.specs.Readers.{Name, absent, Reader, pure, starts, many⁺}
+use Rattle.parse_spec.specs.Fields.{kind, isSome, complete, fields}
+use Rattle.parse_spec.proofs.Given.{GivesOn, Gives, free, Naming, AnyName, any-names, pure-gives, later-gives, either-gives, bind-gives, then-gives, gives-as, leaves-on, both-give, closed-gives, close-leaves, opened-leaves, end-leaves, head-leaves, more-give, many-gives, some-give, trailing-gives, name-gives}
+use Rattle.parse_spec.proofs.FieldFits.{AllGive, AllFit, Whole, fields-fit}
+use Rattle.parse_spec.proofs.Ranges.{InForm, number-gives, numbers-give, row-of-gives, choice-below, some-stand}
 use Rattle.parse_rows.proofs.Widths.{Wide}
 use Rattle.tra4_text.specs.Movement.{Key, Channel, Bone, Pattern, Movement}
 use Rattle.tra4_text.specs.Grammar.{repeatedIn, repeated, repeated⁺, key, channel, channelNames, channelKinds, keysIn, bone, word, truth, pattern, movement}

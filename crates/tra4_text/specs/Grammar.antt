@@ -7,9 +7,9 @@ use Prim.Native.String.{String}
 use lib.ListN.{length}
 use Rattle.text_bytes.specs.Bytes.{bytes}
 use Rattle.text_numbers.specs.Numbers.{INT, FLOAT}
-use Rattle.parse_cursor.specs.Readers.{Reader, got, absent, _>>=_, _>>_, pure, rest, close-bracket, opened, closed, number, numbers, string, starts, optional, trailing, many, many⁺, head, text-end, rowOf}
-unfoldable pub use Rattle.parse_cursor.specs.Readers.{word, truth}
-use Rattle.parse_cursor.specs.Fields.{Kind, kind, fields}
+use Rattle.parse_spec.specs.Readers.{Reader, got, absent, _>>=_, _>>_, pure, rest, close-bracket, opened, closed, number, numbers, string, starts, optional, trailing, many, many⁺, head, text-end, rowOf}
+unfoldable pub use Rattle.parse_spec.specs.Readers.{word, truth}
+use Rattle.parse_spec.specs.Fields.{Kind, kind, fields}
 use Rattle.tra4_text.specs.Movement.{Key, Channel, Pattern, Bone, Movement}
 
 -- chunks of one keyword, as many as stand; each takes at least one token, so there are turns enough

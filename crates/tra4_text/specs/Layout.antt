@@ -3,7 +3,7 @@ use mathlib.Core.List.{List, [], _∷_, _++_}
 use Prim.Native.Nat.{ℕ, _+_}
 use lib.ListN.{length}
 use lib.IntN.{ℤ, pos}
-unfoldable pub use Rattle.parse_cursor.specs.Places.{nameNumbers}
+unfoldable pub use Rattle.parse_spec.specs.Places.{nameNumbers}
 use Rattle.table_rows.specs.Flat.{flat}
 use Rattle.tra4_text.specs.Movement.{Channel, Bone, Movement}
 use Rattle.tra4_text.specs.Rules.{allKeys, keyRows}

@@ -2,7 +2,7 @@
 use mathlib.Core.List.{List}
 use lib.IntN.{ℤ, pos}
 use lib.ListN.{getD}
-use Rattle.parse_cursor.specs.Readers.{Name}
+use Rattle.parse_spec.specs.Readers.{Name}
 
 -- a key's numbers: its absolute frame, and its value in millionths
 abbrev pub Key : Type 0

@@ -15,7 +15,7 @@ use kind::kind_of;
 use libc::STDIN_FILENO;
 use record::after;
 use record::put;
-use text_bytes::Run;
+use text_runs::Run;
 
 // Prints the answer to a question.
 fn answer(
@@ -30,12 +30,12 @@ fn answer(
     let mut out = [0u8; 4096];
     if kind < SAMPLE {
         let told = texts::ask(kind, input, from, end, k, table, moves, &mut out);
-        put(text_bytes::part(&out, 0, told));
+        put(text_runs::part(&out, 0, told));
         return;
     }
-    let args = text_bytes::part(input, from, end);
+    let args = text_runs::part(input, from, end);
     let filled = play::ask(kind, args, k, table, moves, &mut out);
-    put(text_bytes::part(&out, 0, filled));
+    put(text_runs::part(&out, 0, filled));
 }
 
 // Keeps a record, or prints the kind and the label of a question, and its answer.
@@ -57,7 +57,7 @@ fn run_record(
     if kind < BAC {
         return keep(kind, input, from, end, k, table, moves);
     }
-    put(text_bytes::part(input, word.start, label.end));
+    put(text_runs::part(input, word.start, label.end));
     put(b"\t");
     answer(kind, input, from, end, k, table, moves);
     k
@@ -67,7 +67,7 @@ fn run(input: &[u8], table: &mut [i64; 11400], moves: &mut [i64; 11779]) {
     let mut k = nothing();
     let mut at = 0;
     loop {
-        let end = text_bytes::run_end(input, at, Run::Line);
+        let end = text_runs::run_end(input, at, Run::Line);
         k = run_record(input, at, end, k, table, moves);
         if input.len() <= end {
             return;
@@ -81,5 +81,5 @@ fn main() {
     let size = io::read_full(STDIN_FILENO, &mut input);
     let mut table = [0i64; 11400];
     let mut moves = [0i64; 11779];
-    run(text_bytes::part(&input, 0, size), &mut table, &mut moves);
+    run(text_runs::part(&input, 0, size), &mut table, &mut moves);
 }

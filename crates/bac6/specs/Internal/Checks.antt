@@ -6,7 +6,7 @@ use lib.IntN.{ℤ, negsuc}
 use lib.ListN.{length, replicate}
 use Rattle.refusal.specs.Faults.{Fault}
 use Rattle.text_tokens.specs.Tokens.{Lexeme, lex}
-use Rattle.parse_cursor.specs.Readers.{got}
+use Rattle.parse_spec.specs.Readers.{got}
 use Rattle.bac6_text.specs.Figure.{Figure}
 use Rattle.bac6_text.specs.Grammar.{figure}
 use Rattle.bac6_bones.specs.Internal.Into.{faultOf}

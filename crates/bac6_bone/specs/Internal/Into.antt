@@ -7,10 +7,10 @@ use Prim.Native.Nat.{ℕ, zero, suc, _+_}
 use lib.IntN.{ℤ, pos}
 use lib.ListN.{getD, set}
 use Rattle.parse_cursor.specs.declared.cursor.Cursor.{Cursor}
-use Rattle.parse_cursor.specs.Readers.{Got, Reader, _>>=_, _>>_, pure, keyword}
+use Rattle.parse_spec.specs.Readers.{Got, Reader, _>>=_, _>>_, pure, keyword}
 use Rattle.parse_words.specs.Internal.Heads.{Reached}
 use Rattle.table_rows.specs.Internal.Overlay.{overlayAt}
-use Rattle.parse_cursor.specs.Fields.{fields}
+use Rattle.parse_spec.specs.Fields.{fields}
 use Rattle.bac6_text.specs.Figure.{Bone}
 use Rattle.bac6_text.specs.Grammar.{BoneField, nameIn, flagIn, numbersIn, boneOf, boneKinds, bone}
 use Rattle.bac6_text.specs.Layout.{nameNumbers, boneRow}

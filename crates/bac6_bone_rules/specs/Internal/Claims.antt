@@ -6,7 +6,7 @@ use lib.ListN.{length, getD, set}
 use lib.IntN.{ℤ, pos, natAbs}
 use Rattle.refusal.specs.Faults.{Fault, clear, fault}
 use Rattle.bac6_text.specs.Figure.{Bone}
-use Rattle.table_rows.specs.References.{isRow, isNone}
+use Rattle.table_references.specs.References.{isRow, isNone}
 
 -- an entry names one of the first n vertices, and that is unclaimed
 unfoldable pub isFree : ℕ → ℤ → List ℤ → Bool

@@ -4,7 +4,7 @@ use mathlib.Core.Bool.{Bool, true, false}
 use Prim.Native.Nat.{ℕ, _+_, _*_}
 use lib.IntN.{ℤ, pos}
 use lib.ListN.{length}
-use Rattle.parse_cursor.specs.Readers.{Reader, _>>=_, _>>_, pure, many⁺}
+use Rattle.parse_spec.specs.Readers.{Reader, _>>=_, _>>_, pure, many⁺}
 use Rattle.table_rows.specs.Internal.Overlay.{overlayAt}
 use Rattle.bac6_text.specs.Figure.{Bone}
 use Rattle.bac6_text.specs.Grammar.{bone}

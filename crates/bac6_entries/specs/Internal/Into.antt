@@ -4,7 +4,7 @@ use mathlib.Core.Bool.{Bool}
 use Prim.Native.Nat.{ℕ}
 use lib.IntN.{ℤ}
 use Rattle.text_numbers.specs.Numbers.{INT}
-use Rattle.parse_cursor.specs.Readers.{Reader, _>>=_, _>>_, pure, number, many}
+use Rattle.parse_spec.specs.Readers.{Reader, _>>=_, _>>_, pure, number, many}
 use Rattle.bac6_text.specs.Grammar.{bone}
 use Rattle.bac6_bone_rules.specs.Internal.Claims.{claimed}
 

@@ -3,7 +3,7 @@ use mathlib.Core.List.{List, [], _++_, map}
 use Prim.Native.Nat.{ℕ}
 use lib.ListN.{length}
 use lib.IntN.{ℤ, pos, negsuc}
-use Rattle.parse_cursor.specs.Readers.{Reader, _>>=_, _>>_, pure, keyword, opened, closed, absent, string, optional, trailing, many}
+use Rattle.parse_spec.specs.Readers.{Reader, _>>=_, _>>_, pure, keyword, opened, closed, absent, string, optional, trailing, many}
 use Rattle.table_rows.specs.Internal.Overlay.{overlayAt}
 use Rattle.table_rows.specs.Flat.{flat}
 use Rattle.parse_rows.specs.Internal.Folds.{fold, rowStep}

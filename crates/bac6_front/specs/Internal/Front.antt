@@ -2,10 +2,10 @@
 use mathlib.Core.List.{List}
 use Prim.Native.Nat.{ℕ}
 use lib.IntN.{ℤ}
-use Rattle.parse_cursor.specs.Readers.{Reader, _>>=_, pure}
-use Rattle.parse_cursor.specs.Internal.Places.{placeOf}
+use Rattle.parse_spec.specs.Readers.{Reader, _>>=_, pure}
+use Rattle.parse_spec.specs.Internal.Places.{placeOf}
 use Rattle.bac6_text.specs.Grammar.{nameSection, textureSection, colourSection, materialSection, pointSection, normalSection}
-use Rattle.bac6_front.specs.Internal.Lists.{listInto}
+use Rattle.bac6_section.specs.Internal.Lists.{listInto}
 
 -- the name's place and length, how many rows each list has, and the table with the index after them
 pub record FrontValue : Type 0 where

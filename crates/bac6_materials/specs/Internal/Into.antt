@@ -3,8 +3,8 @@ use mathlib.Core.List.{List, map}
 use Prim.Native.Nat.{ℕ}
 use lib.IntN.{ℤ}
 use lib.ListN.{length}
-use Rattle.parse_cursor.specs.Readers.{Reader, _>>=_, _>>_, pure, keyword, many⁺}
-use Rattle.parse_cursor.specs.Fields.{fields}
+use Rattle.parse_spec.specs.Readers.{Reader, _>>=_, _>>_, pure, keyword, many⁺}
+use Rattle.parse_spec.specs.Fields.{fields}
 use Rattle.table_rows.specs.Flat.{flat}
 use Rattle.table_rows.specs.Internal.Overlay.{overlayAt}
 use Rattle.bac6_text.specs.Grammar.{orZero, materialKinds, material}

@@ -5,7 +5,7 @@ use Prim.Native.Nat.{ℕ}
 use lib.ListN.{take, drop}
 use lib.IntN.{ℤ, pos}
 use Rattle.refusal.specs.FirstBad.{all}
-use Rattle.table_rows.specs.References.{isRow, isNone, sameNumber}
+use Rattle.table_references.specs.References.{isRow, isNone, sameNumber}
 use Rattle.table_columns.specs.Columns.{faceMaterial, faceSize}
 
 -- how many corners a face has: 4, or else 3

@@ -7,8 +7,8 @@ use Rattle.refusal.specs.Faults.{Fault, clear}
 use Rattle.table_counts.specs.declared.counts.FigureCounts.{FigureCounts}
 use Rattle.table_rows.specs.Flat.{flat}
 use Rattle.table_rows.specs.Internal.Overlay.{overlayAt}
-use Rattle.parse_cursor.specs.Readers.{Reader, _>>=_, pure}
-use Rattle.parse_cursor.specs.Internal.Places.{placeOf}
+use Rattle.parse_spec.specs.Readers.{Reader, _>>=_, pure}
+use Rattle.parse_spec.specs.Internal.Places.{placeOf}
 use Rattle.bac6_text.specs.Figure.{Bone, Figure}
 use Rattle.bac6_text.specs.Grammar.{figure}
 use Rattle.bac6_text.specs.Rules.{figureCounts}

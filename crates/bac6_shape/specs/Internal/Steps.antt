@@ -6,13 +6,13 @@ use lib.ListN.{length}
 use Rattle.refusal.specs.Faults.{Fault, clear}
 use Rattle.table_rows.specs.Flat.{flat}
 use Rattle.table_rows.specs.Internal.Overlay.{overlayAt}
-use Rattle.parse_cursor.specs.Readers.{Reader, _>>=_, _>>_, pure, close-bracket, text-end}
+use Rattle.parse_spec.specs.Readers.{Reader, _>>=_, _>>_, pure, close-bracket, text-end}
 use Rattle.bac6_text.specs.Figure.{Bone, Face, Group}
 use Rattle.bac6_text.specs.Grammar.{boneSection, polygonSection}
 use Rattle.bac6_text.specs.Layout.{groupNames}
 use Rattle.bac6_bone_rules.specs.Internal.Claims.{claimedBones}
 use Rattle.bac6_faces.specs.Internal.Into.{allRows}
-use Rattle.bac6_front.specs.Internal.Lists.{rowsLaid}
+use Rattle.bac6_section.specs.Internal.Lists.{rowsLaid}
 use Rattle.bac6_shape.specs.Internal.Parse.{blankBones}
 
 -- bones: how many there are, their rows laid after those before them, and their claims

@@ -1,6 +1,6 @@
 -- What holds of every name in a figure.
 use Rattle.text_bytes.specs.Internal.Every.{Every}
-use Rattle.parse_cursor.specs.Readers.{Name}
+use Rattle.parse_spec.specs.Readers.{Name}
 use Rattle.bac6_text.specs.Figure.{Figure}
 
 -- its own name, each bone's and each group's

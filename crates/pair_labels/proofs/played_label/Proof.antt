@@ -4,7 +4,7 @@ use denote.Ref.{now}
 use Rattle.bac6_text.specs.Figure.{Figure}
 use Rattle.tra4_text.specs.Movement.{Movement}
 use Rattle.pair_load.specs.declared.pair.PairAnswer.{PairAnswer}
-use Rattle.text_bytes.proofs.Parts.{part-none}
+use Rattle.text_runs.proofs.Parts.{part-none}
 use native.Mathlib.Omega.{arith}
 use Rattle.player_label.specs.Labels.{orEmpty}
 use Rattle.pair_bridge.specs.Playing.{labelAsked}

@@ -7,9 +7,10 @@ use Rattle.refusal.specs.Faults.{Fault, fault}
 use Rattle.refusal.specs.Rules.{orElse}
 use Rattle.table_counts.specs.declared.counts.FigureCounts.{FigureCounts}
 use Rattle.table_counts.specs.declared.counts.MovementCounts.{MovementCounts}
-use Rattle.table_sections.specs.Sections.{patternsBegin, holdsFigure, holdsMovement}
+use Rattle.table_movement.specs.Sections.{patternsBegin, holdsMovement}
+use Rattle.table_figure.specs.Sections.{holdsFigure}
 use Rattle.table_columns.specs.Parts.{rowsAt}
-use Rattle.player_label.specs.Names.{figureName, movementName}
+use Rattle.player_names.specs.Names.{figureName, movementName}
 use Rattle.pair_text.specs.Rules.{bonesFault, namesFault, groupsFault}
 use Rattle.pair_bridge.specs.Names.{namesFrom}
 

@@ -2,9 +2,9 @@
 use native.Mathlib.Omega.{arith}
 use denote.Ref.{now}
 use borrow.Author.Needs.{needs}
-use Rattle.text_bytes.specs.Internal.Answers.{testNamed}
-use Rattle.text_bytes.specs.declared.bytes.Run.the-variants.{Line}
-use Rattle.text_bytes.proofs.Runs.{run-within}
+use Rattle.text_runs.specs.Internal.Answers.{testNamed}
+use Rattle.text_runs.specs.declared.run.Run.the-variants.{Line}
+use Rattle.text_runs.proofs.Runs.{run-within}
 use Rattle.pair_vectors.proofs.line_end.Statement.{statement}
 use Rattle.pair_vectors.proofs.line_end.Tie as tie
 

@@ -5,7 +5,7 @@ use Prim.Native.Nat.{ℕ}
 use lib.Dec.{eqb}
 use Rattle.text_tokens.specs.Tokens.{lexAt}
 use Rattle.parse_cursor.specs.declared.cursor.Cursor.{Cursor}
-use Rattle.parse_cursor.specs.Readers.{Got, refused, Reader, pure}
+use Rattle.parse_spec.specs.Readers.{Got, refused, Reader, pure}
 
 -- what a reader gives from a cursor on: the cursor's own refusal, where it has one
 unfoldable pub from : {A : Type 0} → List ℕ → Cursor → Reader A → Got A

@@ -3,7 +3,7 @@ use mathlib.Core.List.{List, [], _∷_}
 use Prim.Native.Nat.{ℕ, _+_, _*_}
 use lib.IntN.{ℤ}
 use Rattle.table_rows.specs.Internal.Overlay.{overlayAt}
-use Rattle.parse_cursor.specs.Readers.{Reader, _>>=_, pure, many}
+use Rattle.parse_spec.specs.Readers.{Reader, _>>=_, pure, many}
 
 unfoldable pub fold : {A S : Type 0} → (S → A → S) → S → List A → S
 fold step s [] = s

@@ -7,9 +7,11 @@ use lib.Dec.{ltb}
 use lib.ListN.{length, getD}
 use Rattle.text_tokens.specs.Tokens.{Token}
 use Rattle.parse_cursor.specs.declared.cursor.Cursor.{Cursor}
-use Rattle.parse_cursor.specs.Readers.{Got, got, Reader, _>>_, stop, tokenOf, rest, isClosing, isPlain, open-bracket}
+use Rattle.parse_spec.specs.Readers.{Got, got, Reader, _>>_, stop, tokenOf, rest, open-bracket}
+use Rattle.text_kinds.specs.Kinds.{isClosing}
+use Rattle.text_kinds.specs.Internal.Kinds.{isPlain}
 use Rattle.parse_cursor.specs.Internal.Cursors.{reads}
-use Rattle.parse_cursor.specs.Internal.Fields.{coversAll}
+use Rattle.parse_spec.specs.Internal.Fields.{coversAll}
 use Rattle.parse_words.specs.Internal.Words.{indexIn}
 
 -- a plain word whose row among some words has a flag that is clear

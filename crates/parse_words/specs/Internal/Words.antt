@@ -2,12 +2,14 @@
 use mathlib.Core.List.{List, [], _∷_}
 use mathlib.Core.Bool.{Bool, true, false, not, _&&_}
 use Prim.Native.Nat.{ℕ, suc}
-use Rattle.text_bytes.specs.Bytes.{bytes, same, inWord}
+use Rattle.text_bytes.specs.Bytes.{bytes, inWord}
+use Rattle.text_runs.specs.Runs.{same}
 use Rattle.text_tokens.specs.Tokens.{Token, isKeyword}
 use lib.Dec.{ltb}
 use lib.IntN.{ℤ, pos}
-use Rattle.parse_cursor.specs.Readers.{got, Reader, stop, tokenOf, rest, isPlain}
-use Rattle.parse_cursor.specs.Fields.{Kind}
+use Rattle.parse_spec.specs.Readers.{got, Reader, stop, tokenOf, rest}
+use Rattle.text_kinds.specs.Internal.Kinds.{isPlain}
+use Rattle.parse_spec.specs.Fields.{Kind}
 
 -- a byte in front of the first word
 unfoldable pub onto : ℕ → List (List ℕ) → List (List ℕ)

@@ -6,7 +6,7 @@ use Prim.Native.Nat.{ℕ, _+_}
 use lib.Dec.{ltb}
 use lib.IntN.{ℤ, pos, natAbs}
 use lib.ListN.{getD}
-use Rattle.table_rows.specs.Index.{isIndex}
+use Rattle.table_references.specs.Index.{isIndex}
 use Rattle.table_counts.specs.declared.counts.FigureCounts.{FigureCounts}
 use Rattle.player_spec.specs.Faces.{CornerOf}
 use Rattle.player_spec.specs.Lookups.{onlyIf, allFloat, faceSound, ownerAt, pointAt, uvFine, uvIn}

@@ -1,16 +1,10 @@
--- What the enums of the code mean.
+-- What the enum of the code means.
 use mathlib.Core.List.{List}
 use mathlib.Core.Option.{Option, none, some}
 use Prim.Native.Nat.{ℕ}
-use Rattle.text_bytes.specs.Bytes.{part}
-use Rattle.player_label.specs.declared.names.Found.{Found}
-use Rattle.player_label.specs.declared.names.Found.the-variants as names
+use Rattle.text_runs.specs.Runs.{part}
 use Rattle.player_label.specs.declared.labels.Named.{Named}
 use Rattle.player_label.specs.declared.labels.Named.the-variants as labels
-
-unfoldable pub found : Found → Option (ℕ × ℕ)
-found names.Refused = none
-found (names.At start end) = some (start, end)
 
 -- the part of one of two texts
 unfoldable pub named : List ℕ → List ℕ → Named → Option (List ℕ)

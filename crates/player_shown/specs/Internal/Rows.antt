@@ -5,13 +5,13 @@ use mathlib.Core.Option.{Option, none, some}
 use Prim.Native.Nat.{ℕ}
 use lib.IntN.{ℤ, pos, natAbs}
 use lib.ListN.{getD, take, drop}
-use Rattle.table_rows.specs.References.{isNone}
+use Rattle.table_references.specs.References.{isNone}
 use Rattle.tra4_text.specs.Movement.{Pattern}
 use Rattle.tra4_text.specs.Rules.{patternsFault}
-use Rattle.table_rows.specs.Index.{isIndex}
+use Rattle.table_references.specs.Index.{isIndex}
 use Rattle.table_counts.specs.declared.counts.FigureCounts.{FigureCounts}
 use Rattle.player_spec.specs.Faces.{lastFlag}
-use Rattle.table_sections.specs.Sections.{isClear}
+use Rattle.refusal.specs.Faults.{isClear}
 use Rattle.player_spec.specs.Lookups.{onlyIf, sizeFine, cornersFine, linesFine, ownersFine, ownedCorners}
 use Rattle.table_columns.specs.Columns.{faceSize, faceVertices, faceGroup}
 

@@ -4,7 +4,8 @@ use mathlib.Core.List.{List}
 use mathlib.Core.Bool.{true}
 use Prim.Native.Nat.{ℕ, suc, _+_, _≤_}
 use lib.ListN.{length}
-use Rattle.text_bytes.specs.Bytes.{isContent, part}
+use Rattle.text_bytes.specs.Bytes.{isContent}
+use Rattle.text_runs.specs.Runs.{part}
 use Rattle.text_bytes.specs.Internal.Every.{Every}
 use Rattle.text_tokens.specs.Tokens.{Token, opening, closing, ending, quoted, plain, Lexeme}
 

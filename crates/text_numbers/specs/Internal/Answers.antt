@@ -6,7 +6,8 @@ use lib.ListN.{length, drop}
 use Rattle.text_numbers.specs.declared.number.Parsed.{Parsed}
 use Rattle.text_numbers.specs.declared.number.Parsed.the-variants.{Value, Beyond, Malformed}
 use Rattle.text_numbers.specs.declared.number.Leading.{Leading}
-use Rattle.text_bytes.specs.Bytes.{isDigit, run}
+use Rattle.text_bytes.specs.Bytes.{isDigit}
+use Rattle.text_runs.specs.Runs.{run}
 use Rattle.text_numbers.specs.Numbers.{Number, value, beyond, wrong, negative, unsignedPart}
 
 unfoldable pub numberNamed : Parsed → Number

@@ -7,7 +7,7 @@ use lib.ListN.{length}
 use Rattle.text_tokens.specs.declared.token.Kind.{Kind}
 use Rattle.text_tokens.specs.declared.token.Kind.the-variants.{Opening, Closing, Quoted, Plain, Ending}
 use Rattle.text_tokens.specs.declared.token.Span.{Span}
-use Rattle.text_bytes.specs.Bytes.{part}
+use Rattle.text_runs.specs.Runs.{part}
 use Rattle.text_tokens.specs.Tokens.{Token, opening, closing, ending, quoted, plain, Lexeme, lexeme, first, lexAt, bytesOf, widthOf}
 
 -- a token by its kind and the bytes that it holds

@@ -7,7 +7,7 @@ use lib.IntN.{ℤ}
 use lib.ListN.{length}
 use Rattle.refusal.specs.Faults.{Fault}
 use Rattle.text_tokens.specs.Tokens.{Lexeme, lex}
-use Rattle.parse_cursor.specs.Readers.{got}
+use Rattle.parse_spec.specs.Readers.{got}
 use Rattle.tra4_text.specs.Movement.{Movement}
 use Rattle.tra4_text.specs.Grammar.{movement}
 use Rattle.tra4_bone.specs.Internal.Into.{kept}

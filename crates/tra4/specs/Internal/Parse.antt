@@ -3,7 +3,7 @@ use mathlib.Core.List.{List}
 use mathlib.Core.Option.{some}
 use lib.IntN.{ℤ}
 use lib.ListN.{length}
-use Rattle.parse_cursor.specs.Internal.Places.{placeOf}
+use Rattle.parse_spec.specs.Internal.Places.{placeOf}
 use Rattle.table_rows.specs.Flat.{flat}
 use Rattle.table_rows.specs.Internal.Overlay.{overlayAt}
 use Rattle.parse_rows.specs.Internal.Folds.{fold}

@@ -6,7 +6,7 @@ use Prim.Native.Nat.{ℕ, _+_, _*_}
 use lib.Dec.{leb}
 use lib.IntN.{ℤ, pos}
 use lib.ListN.{length}
-use Rattle.parse_cursor.specs.Readers.{Reader, _>>=_, pure}
+use Rattle.parse_spec.specs.Readers.{Reader, _>>=_, pure}
 use Rattle.table_rows.specs.Internal.Overlay.{overlayAt}
 use Rattle.table_rows.specs.Flat.{flat}
 use Rattle.tra4_text.specs.Movement.{Channel, Bone}

@@ -3,7 +3,7 @@ use mathlib.Core.List.{List}
 use mathlib.Core.Option.{some}
 use Prim.Native.Nat.{ℕ, _+_, _*_}
 use lib.IntN.{ℤ}
-use Rattle.parse_cursor.specs.Readers.{Reader, _>>=_, pure}
+use Rattle.parse_spec.specs.Readers.{Reader, _>>=_, pure}
 use Rattle.parse_rows.specs.Internal.Folds.{fold}
 use Rattle.tra4_text.specs.Movement.{Bone}
 use Rattle.tra4_text.specs.Grammar.{repeated, repeated⁺, bone}

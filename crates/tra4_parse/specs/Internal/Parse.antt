@@ -3,8 +3,8 @@ use mathlib.Core.List.{List}
 use Prim.Native.Nat.{ℕ}
 use lib.IntN.{ℤ}
 use Rattle.text_numbers.specs.Numbers.{INT}
-use Rattle.parse_cursor.specs.Readers.{Reader, _>>=_, _>>_, pure, head, opened, closed, number, close-bracket, text-end}
-use Rattle.parse_cursor.specs.Internal.Places.{optionalName}
+use Rattle.parse_spec.specs.Readers.{Reader, _>>=_, _>>_, pure, head, opened, closed, number, close-bracket, text-end}
+use Rattle.parse_spec.specs.Internal.Places.{optionalName}
 use Rattle.tra4_bones.specs.Internal.Into.{bonesInto}
 use Rattle.tra4_bone.specs.Internal.Into.{Kept}
 use Rattle.tra4_parse.specs.Internal.Patterns.{patternsInto}

@@ -6,7 +6,7 @@ use Rattle.refusal.specs.Faults.{Fault}
 use Rattle.refusal.specs.Rules.{orElse, tooMany}
 use Rattle.tra4_text.specs.Rules.{totalFault, keysFault, patternsFault}
 use Rattle.table_columns.specs.Parts.{rowsOf}
-use Rattle.tra4_rules.specs.Internal.Keys.{channelsIn}
+use Rattle.tra4_keys.specs.Internal.Keys.{channelsIn}
 use Rattle.table_counts.specs.Counts.{movementMosts}
 
 -- of 8 to 16 the lowest number, with its lowest row, where there are b bones, k keys and p patterns

@@ -1,6 +1,6 @@
 -- What holds of every name in a movement.
 use Rattle.text_bytes.specs.Internal.Every.{Every}
-use Rattle.parse_cursor.specs.Readers.{Name}
+use Rattle.parse_spec.specs.Readers.{Name}
 use Rattle.tra4_text.specs.Movement.{Movement}
 
 -- its own name, and each bone's

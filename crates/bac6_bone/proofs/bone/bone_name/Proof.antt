@@ -3,7 +3,7 @@ use mathlib.Core.Path.{refl}
 use Prim.Native.Nat.{_<_, _^_}
 use native.Mathlib.Omega.{arith}
 use Rattle.text_numbers.proofs.Signed.{bits-pos}
-use Rattle.parse_cursor.proofs.Within.{name-bounds}
+use Rattle.parse_cursor.proofs.Bounds.{name-bounds}
 use Rattle.bac6_bone.proofs.Values.{name-read}
 use borrow.Author.Needs.{needs}
 use Rattle.bac6_bone.proofs.bone.bone_name.Statement.{statement}

@@ -11,7 +11,7 @@ use lib.IntN.{pos, natAbs}
 use mir.Syntax.{w64}
 use mir.Val.{toZ, ofZ}
 use mir.Facts.{toZ-ofZ, fits-natAbs}
-use Rattle.table_rows.specs.References.{isRow, isNone}
+use Rattle.table_references.specs.References.{isRow, isNone}
 use Rattle.bac6_bone_rules.specs.Internal.Claims.{isFree}
 use Rattle.text_numbers.proofs.Tests.{tested, passed, failed}
 use Rattle.bac6_bone_rules.proofs.Owners.{free-tests, claim-free, claim-taken, row-natural, row-below, row-bits}

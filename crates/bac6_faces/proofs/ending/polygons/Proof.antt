@@ -2,7 +2,8 @@
 use native.Mathlib.Omega.{arith}
 use denote.Ref.{now}
 use Rattle.text_bytes.specs.Bytes.{bytes}
-use Rattle.parse_cursor.proofs.Counts.{alive, short, lexAt-count}
+use Rattle.parse_cursor.proofs.Counts.{alive, short}
+use Rattle.parse_spec.proofs.TokenCounts.{lexAt-count}
 use Rattle.parse_cursor.proofs.Branches.{last-keeps}
 use Rattle.bac6_faces.proofs.PolygonSteps.{polygons-groups, polygons-alone}
 use borrow.Author.Needs.{needs}

@@ -5,7 +5,7 @@ use Rattle.text_bytes.specs.Bytes.{bytes}
 use Rattle.text_numbers.proofs.Signed.{bits-pos}
 use Rattle.parse_cursor.proofs.Steps.{passed}
 use Rattle.parse_cursor.proofs.Counts.{alive}
-use Rattle.parse_cursor.proofs.Within.{place-bounds}
+use Rattle.parse_cursor.proofs.Bounds.{place-bounds}
 use Rattle.bac6_faces.proofs.Groups.{named-short, name-row, group-joined}
 use borrow.Author.Needs.{needs}
 use Rattle.bac6_faces.proofs.group.group_tail.Statement.{statement}

@@ -9,7 +9,7 @@ use mir.Val.{toZ, ofZ}
 use mir.Facts.{toZ-ofZ}
 use lib.ListN.{length}
 use Rattle.text_tokens.specs.Tokens.{lexAt}
-use Rattle.parse_cursor.specs.Internal.Branches.{itemOf}
+use Rattle.parse_spec.specs.Internal.Branches.{itemOf}
 use Rattle.parse_cursor.specs.Internal.Cursors.{reads, from}
 use Rattle.parse_rows.specs.Internal.Folds.{folded, stepped}
 use Rattle.parse_cursor.proofs.Branches.{item-takes}

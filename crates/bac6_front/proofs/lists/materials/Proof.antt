@@ -1,10 +1,10 @@
 -- `materials` is the materials' section, laid over the table's last part.
 use denote.Ref.{now}
 use Rattle.text_bytes.specs.Bytes.{bytes}
-use Rattle.parse_cursor.specs.Readers.{opened}
+use Rattle.parse_spec.specs.Readers.{opened}
 use Rattle.bac6_materials.specs.Internal.Into.{materialsInto}
 use Rattle.bac6_text.specs.Grammar.{materialSection}
-use Rattle.bac6_front.proofs.Laid.{then-read, list-read, lent-read, ended}
+use Rattle.bac6_section.proofs.Laid.{then-read, list-read, lent-read, ended}
 use borrow.Author.Needs.{needs}
 use Rattle.bac6_front.proofs.lists.materials.Statement.{statement}
 use Rattle.bac6_front.proofs.lists.materials.Tie as tie

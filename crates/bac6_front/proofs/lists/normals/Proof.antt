@@ -3,12 +3,12 @@ use mathlib.Core.Path.{sym, _∙_}
 use denote.Ref.{now}
 use Rattle.text_bytes.specs.Bytes.{bytes}
 use Rattle.parse_numbers.specs.Internal.Answers.{formNamed}
-use Rattle.parse_cursor.specs.Readers.{opened, row}
-use Rattle.parse_cursor.proofs.Steps.{from-same}
-use Rattle.parse_cursor.proofs.Binds.{closed-at, closed-map}
-use Rattle.parse_rows.specs.Internal.Into.{rowsInto}
+use Rattle.parse_spec.specs.Readers.{opened, row}
+use Rattle.parse_cursor.proofs.Steps.{from-same, closed-at}
+use Rattle.parse_spec.proofs.Binds.{closed-map}
+use Rattle.parse_lists.specs.Internal.ListsInto.{rowsInto}
 use Rattle.bac6_text.specs.Grammar.{normalSection}
-use Rattle.bac6_front.proofs.Laid.{then-read, list-read, ended, ends-within}
+use Rattle.bac6_section.proofs.Laid.{then-read, list-read, ended, ends-within}
 use borrow.Author.Needs.{needs}
 use Rattle.bac6_front.proofs.lists.normals.Statement.{statement}
 use Rattle.bac6_front.proofs.lists.normals.Tie as tie

@@ -2,11 +2,11 @@
 use denote.Ref.{now}
 use Rattle.text_bytes.specs.Bytes.{bytes}
 use Rattle.parse_numbers.specs.Internal.Answers.{formNamed}
-use Rattle.parse_cursor.specs.Readers.{opened, row}
+use Rattle.parse_spec.specs.Readers.{opened, row}
 use Rattle.parse_cursor.proofs.Steps.{seq}
-use Rattle.parse_rows.specs.Internal.Into.{someInto}
+use Rattle.parse_lists.specs.Internal.ListsInto.{someInto}
 use Rattle.bac6_text.specs.Grammar.{pointSection}
-use Rattle.bac6_front.proofs.Laid.{then-read, list-read, ended}
+use Rattle.bac6_section.proofs.Laid.{then-read, list-read, ended}
 use borrow.Author.Needs.{needs}
 use Rattle.bac6_front.proofs.lists.points.Statement.{statement}
 use Rattle.bac6_front.proofs.lists.points.Tie as tie

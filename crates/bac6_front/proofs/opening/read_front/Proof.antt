@@ -4,13 +4,13 @@ use Rattle.text_bytes.specs.Bytes.{bytes}
 use Rattle.text_numbers.specs.Numbers.{INT, FLOAT}
 use Rattle.parse_numbers.specs.Internal.Answers.{formNamed}
 use Rattle.parse_cursor.specs.Internal.Cursors.{reads}
-use Rattle.parse_cursor.specs.Readers.{head, opened}
-use Rattle.parse_cursor.specs.Internal.Places.{optionalName}
+use Rattle.parse_spec.specs.Readers.{head, opened}
+use Rattle.parse_spec.specs.Internal.Places.{optionalName}
 use Rattle.parse_cursor.proofs.Steps.{join, seq}
 use Rattle.bac6_text.specs.Grammar.{nameSection, textureSection, colourSection}
 use Rattle.bac6_front.specs.Internal.Answers.{frontValue}
 use Rattle.bac6_front.specs.Internal.Front.{nameInto, frontInto}
-use Rattle.bac6_front.proofs.Laid.{then-read, section-list}
+use Rattle.bac6_section.proofs.Laid.{then-read, section-list}
 use borrow.Author.Needs.{needs}
 use Rattle.bac6_front.proofs.opening.read_front.Statement.{statement}
 use Rattle.bac6_front.proofs.opening.read_front.Tie as tie

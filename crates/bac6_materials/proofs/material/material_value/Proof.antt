@@ -3,8 +3,8 @@ use mathlib.Core.Path.{refl}
 use mathlib.Core.List.{[], _∷_}
 use Rattle.text_bytes.specs.Bytes.{bytes, inWord}
 use Rattle.parse_numbers.specs.Internal.Answers.{formNamed}
-use Rattle.parse_cursor.specs.Fields.{kind}
-use Rattle.parse_cursor.specs.Internal.Fields.{insideAt}
+use Rattle.parse_spec.specs.Fields.{kind}
+use Rattle.parse_spec.specs.Internal.Fields.{insideAt}
 use Rattle.parse_words.specs.Internal.Words.{words, onto}
 use Rattle.parse_words.proofs.Vocabulary.{wordList}
 use Rattle.bac6_text.specs.Grammar.{materialKinds, blend, truth}

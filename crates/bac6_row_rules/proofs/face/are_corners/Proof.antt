@@ -8,7 +8,7 @@ use lib.ListN.{take, drop}
 use native.Mathlib.Omega.{arith}
 use borrow.Author.Needs.{needs}
 use borrow.Author.Tests.{not-true, not-false}
-use Rattle.table_rows.specs.References.{isRow, isNone}
+use Rattle.table_references.specs.References.{isRow, isNone}
 use Rattle.table_columns.specs.Columns.{cornerAt}
 use Rattle.bac6_row_rules.specs.Internal.Rows.{cornersKnown}
 use Rattle.bac6_row_rules.proofs.Faces.{left, left-all, from, turn-broken, turn-on, turn-end}

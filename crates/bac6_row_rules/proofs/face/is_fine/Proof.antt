@@ -3,7 +3,7 @@ use mathlib.Core.Path.{_≡_, sym, _∙_}
 use mathlib.Core.Bool.{true}
 use denote.Ref.{now}
 use borrow.Author.Tests.{not-true, not-false}
-use Rattle.table_rows.specs.References.{isRow}
+use Rattle.table_references.specs.References.{isRow}
 use Rattle.table_columns.specs.Columns.{faceMaterial}
 use Rattle.text_numbers.proofs.Tests.{tested}
 use Rattle.bac6_row_rules.proofs.Faces.{no-material, with-four, with-three}

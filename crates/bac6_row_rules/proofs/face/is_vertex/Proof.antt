@@ -1,6 +1,6 @@
 -- `is_vertex` is the test of the number that it holds.
 use borrow.Author.Needs.{needs}
-use Rattle.table_rows.specs.References.{isRow}
+use Rattle.table_references.specs.References.{isRow}
 use Rattle.text_numbers.proofs.Tests.{tested}
 use Rattle.bac6_row_rules.proofs.face.is_vertex.Statement.{statement}
 use Rattle.bac6_row_rules.proofs.face.is_vertex.Tie as tie

@@ -1,7 +1,7 @@
 -- `still_none` is both tests.
 use mathlib.Core.Path.{refl}
 use borrow.Author.Tests.{not-true, not-false}
-use Rattle.table_rows.specs.References.{isNone}
+use Rattle.table_references.specs.References.{isNone}
 use Rattle.text_numbers.proofs.Tests.{tested}
 use borrow.Author.Needs.{needs}
 use Rattle.bac6_row_rules.proofs.face.still_none.Statement.{statement}

@@ -1,7 +1,7 @@
 -- `still_uvs` is both tests.
 use mathlib.Core.Path.{refl}
 use borrow.Author.Tests.{not-true, not-false}
-use Rattle.table_rows.specs.References.{isRow}
+use Rattle.table_references.specs.References.{isRow}
 use Rattle.text_numbers.proofs.Tests.{tested}
 use borrow.Author.Needs.{needs}
 use Rattle.bac6_row_rules.proofs.face.still_uvs.Statement.{statement}

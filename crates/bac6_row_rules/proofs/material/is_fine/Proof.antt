@@ -5,7 +5,7 @@ use denote.Ref.{now}
 use lib.ListN.{getD}
 use lib.IntN.{pos}
 use Rattle.bac6_text.specs.Rules.{isLevel}
-use Rattle.table_rows.specs.Index.{isIndex}
+use Rattle.table_references.specs.Index.{isIndex}
 use Rattle.text_numbers.proofs.Tests.{tested, passed, failed}
 use Rattle.bac6_row_rules.proofs.Materials.{tests}
 use Rattle.bac6_row_rules.proofs.material.is_fine.Statement.{statement}

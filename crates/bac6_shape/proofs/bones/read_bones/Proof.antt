@@ -1,7 +1,7 @@
 -- `read_bones` is the bones' section over the table's last part, with the index after it.
 use denote.Ref.{now}
 use Rattle.text_bytes.specs.Bytes.{bytes}
-use Rattle.parse_cursor.specs.Readers.{opened}
+use Rattle.parse_spec.specs.Readers.{opened}
 use Rattle.bac6_shape.proofs.Steps.{bones-read}
 use borrow.Author.Needs.{needs}
 use Rattle.bac6_shape.proofs.bones.read_bones.Statement.{statement}

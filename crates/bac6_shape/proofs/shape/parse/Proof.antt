@@ -9,7 +9,7 @@ use Rattle.parse_cursor.proofs.Counts.{whole-text}
 use Rattle.parse_cursor.proofs.Steps.{join}
 use Rattle.bac6_text.specs.Grammar.{uvSection}
 use Rattle.bac6_front.specs.Internal.Answers.{frontValue}
-use Rattle.bac6_front.proofs.Laid.{section-list}
+use Rattle.bac6_section.proofs.Laid.{section-list}
 use Rattle.bac6_shape.specs.Internal.Answers.{keptBy}
 use Rattle.bac6_shape.proofs.Figures.{kept, backSteps, figure-steps}
 use borrow.Author.Needs.{needs}

@@ -8,13 +8,13 @@ use borrow.Author.Tests.{not-true, not-false}
 use denote.Ref.{now}
 use lib.IntN.{ℤ, pos}
 use lib.ListN.{length, drop, replicate, length-replicate, length-append, length-take}
-use Rattle.parse_cursor.specs.Fields.{isSome}
+use Rattle.parse_spec.specs.Fields.{isSome}
 use Rattle.refusal.specs.Outcomes.{accepted, fitted, laid}
 use Rattle.refusal.proofs.Rules.{refused-by, clear-by}
 use Rattle.tra4_text.specs.Layout.{layoutOf}
 use Rattle.tra4_text.specs.Answer.{movementOutcome, movementAnswer, movementTable}
 use Rattle.tra4.specs.Answers.{answerOf}
-use Rattle.table_sections.specs.Sections.{holdsMovement}
+use Rattle.table_movement.specs.Sections.{holdsMovement}
 use Rattle.tra4.specs.declared.setting.MovementAnswer.{MovementAnswer}
 use Rattle.movement_bridge.proofs.Tables.{countsRead, table-read, movement-holds}
 use Rattle.pair_text.specs.Rules.{pairFault}

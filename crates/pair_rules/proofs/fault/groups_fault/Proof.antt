@@ -7,7 +7,7 @@ use borrow.Author.Tests.{not-true, not-false}
 use mir.Syntax.{w64}
 use mir.Facts.{toZ-ofZ}
 use Rattle.refusal.specs.Internal.Answers.{refusal}
-use Rattle.table_rows.specs.References.{isRow}
+use Rattle.table_references.specs.References.{isRow}
 use Rattle.table_columns.specs.Parts.{rowsAt}
 use Rattle.pair_text.specs.Rules.{groupsFault}
 use Rattle.pair_rules.proofs.Turns.{linesLeft, lines-all, lines-more, lines-bad, lines-end}

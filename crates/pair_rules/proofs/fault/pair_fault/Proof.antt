@@ -4,7 +4,8 @@ use mathlib.Core.Bool.{true}
 use borrow.Author.Tests.{not-true, not-false}
 use denote.Ref.{now}
 use Rattle.refusal.specs.Internal.Answers.{refusal}
-use Rattle.table_sections.specs.Sections.{holdsFigure, holdsMovement}
+use Rattle.table_figure.specs.Sections.{holdsFigure}
+use Rattle.table_movement.specs.Sections.{holdsMovement}
 use Rattle.pair_rules.proofs.Faults.{unheld-figure, unheld-movement, held-tables}
 use borrow.Author.Needs.{needs}
 use Rattle.pair_rules.proofs.fault.pair_fault.Statement.{statement}

@@ -6,7 +6,7 @@ use denote.Ref.{now}
 use lib.ListN.{length}
 use Rattle.refusal.specs.Internal.Answers.{refusal}
 use Rattle.refusal.proofs.Rules.{refused-by, clear-by}
-use Rattle.table_sections.proofs.Mosts.{movement-room}
+use Rattle.table_movement.proofs.Mosts.{movement-room}
 use Rattle.table_columns.proofs.Parts.{part-length}
 use Rattle.pair_rules.proofs.Faults.{bones-differ, names-found, groups-found}
 use borrow.Author.Needs.{needs}

@@ -1,6 +1,6 @@
 -- `has_name` is whether the span is found.
-use Rattle.parse_cursor.specs.Fields.{isSome}
-use Rattle.player_label.specs.Internal.Answers.{found}
+use Rattle.parse_spec.specs.Fields.{isSome}
+use Rattle.player_names.specs.Internal.Answers.{found}
 use borrow.Author.Needs.{needs}
 use Rattle.pair_rules.proofs.names.has_name.Statement.{statement}
 use Rattle.pair_rules.proofs.names.has_name.Tie as tie

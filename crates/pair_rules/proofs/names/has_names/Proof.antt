@@ -6,9 +6,9 @@ use native.Mathlib.Omega.{arith}
 use borrow.Author.Needs.{needs}
 use borrow.Author.Tests.{not-true, not-false}
 use denote.Ref.{now}
-use Rattle.parse_cursor.specs.Fields.{isSome}
-use Rattle.table_sections.specs.Sections.{holdsFigure}
-use Rattle.player_label.specs.Names.{figureName}
+use Rattle.parse_spec.specs.Fields.{isSome}
+use Rattle.table_figure.specs.Sections.{holdsFigure}
+use Rattle.player_names.specs.Names.{figureName}
 use Rattle.pair_bridge.specs.Names.{namesIn}
 use Rattle.pair_rules.proofs.Turns.{namedLeft, named-all, named-more, named-none, named-end}
 use Rattle.pair_rules.proofs.BoneNames.{unheld-names, held-names, figure-some}

@@ -1,9 +1,9 @@
 -- `name_of` is the part that was found, by the enum's cases.
 use mathlib.Core.Path.{_∙_}
 use native.Mathlib.Omega.{arith}
-use Rattle.text_bytes.proofs.Parts.{part-none}
-use Rattle.player_label.specs.Internal.Answers.{found}
-use Rattle.player_label.specs.Names.{partAt}
+use Rattle.text_runs.proofs.Parts.{part-none}
+use Rattle.player_names.specs.Internal.Answers.{found}
+use Rattle.player_names.specs.Names.{partAt}
 use Rattle.player_label.specs.Labels.{orEmpty}
 use borrow.Author.Needs.{needs}
 use Rattle.pair_rules.proofs.names.name_of.Statement.{statement}

@@ -5,7 +5,7 @@ use native.Mathlib.Omega.{arith}
 use borrow.Author.Needs.{needs}
 use borrow.Author.Tests.{not-true, not-false}
 use Rattle.refusal.specs.Internal.Answers.{refusal}
-use Rattle.player_label.specs.Names.{figureName, movementName}
+use Rattle.player_names.specs.Names.{figureName, movementName}
 use Rattle.pair_text.specs.Rules.{namesFault}
 use Rattle.pair_bridge.specs.Names.{namesFrom}
 use Rattle.pair_rules.proofs.Turns.{faultLeft, names-all, names-more, names-differ, names-end}

@@ -1,7 +1,7 @@
 -- `keyword` takes a plain word of its bytes, and refuses any other token.
 use mathlib.Core.Path.{refl, sym, _∙_}
 use Rattle.text_tokens.specs.Tokens.{isKeyword}
-use Rattle.parse_cursor.specs.Readers.{wordOf}
+use Rattle.parse_spec.specs.Readers.{wordOf}
 use Rattle.parse_cursor.proofs.Steps.{passed, took, balked}
 use borrow.Author.Needs.{needs}
 use Rattle.parse_cursor.proofs.cursor.keyword.Statement.{statement}

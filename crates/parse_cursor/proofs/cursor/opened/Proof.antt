@@ -1,5 +1,5 @@
 -- `opened` is a bracket and then a keyword.
-use Rattle.parse_cursor.specs.Readers.{openedOf}
+use Rattle.parse_spec.specs.Readers.{openedOf}
 use Rattle.parse_cursor.proofs.Steps.{seq}
 use borrow.Author.Needs.{needs}
 use Rattle.parse_cursor.proofs.cursor.opened.Statement.{statement}

@@ -1,7 +1,6 @@
 -- `name` is a string and the closing bracket.
 use mathlib.Core.Path.{sym, _∙_}
-use Rattle.parse_cursor.proofs.Steps.{from-same}
-use Rattle.parse_cursor.proofs.Binds.{closed-at}
+use Rattle.parse_cursor.proofs.Steps.{from-same, closed-at}
 use Rattle.parse_names.proofs.NameSteps.{name-parts}
 use borrow.Author.Needs.{needs}
 use Rattle.parse_names.proofs.naming.name.Statement.{statement}

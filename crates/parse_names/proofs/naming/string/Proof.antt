@@ -3,7 +3,7 @@ use mathlib.Core.Path.{sym, _∙_}
 use native.Mathlib.Omega.{arith}
 use Rattle.text_tokens.specs.Tokens.{lexeme}
 use Rattle.text_tokens.specs.Internal.Answers.{lexemeOf}
-use Rattle.parse_cursor.specs.Internal.Places.{stringOf}
+use Rattle.parse_spec.specs.Internal.Places.{stringOf}
 use Rattle.parse_cursor.proofs.Steps.{passed}
 use Rattle.parse_names.proofs.NameSteps.{string-inside, string-quoted, string-other}
 use borrow.Author.Needs.{needs}

@@ -3,7 +3,7 @@ use mathlib.Core.Path.{sym, _∙_}
 use borrow.Author.Tests.{not-true, not-false}
 use Rattle.text_tokens.specs.Tokens.{lexeme}
 use Rattle.text_tokens.specs.Internal.Answers.{lexemeOf}
-use Rattle.parse_cursor.specs.Internal.Branches.{startOf}
+use Rattle.parse_spec.specs.Internal.Branches.{startOf}
 use Rattle.parse_cursor.proofs.Steps.{passed}
 use Rattle.parse_cursor.proofs.Branches.{start-no-bracket, start-no-word, start-word}
 use borrow.Author.Needs.{needs}

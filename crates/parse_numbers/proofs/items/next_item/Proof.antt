@@ -2,7 +2,7 @@
 use mathlib.Core.Path.{sym, _∙_}
 use Rattle.text_tokens.specs.Tokens.{lexeme}
 use Rattle.text_tokens.specs.Internal.Answers.{lexemeOf}
-use Rattle.parse_cursor.specs.Internal.Branches.{itemOf}
+use Rattle.parse_spec.specs.Internal.Branches.{itemOf}
 use Rattle.parse_cursor.proofs.Steps.{passed}
 use Rattle.parse_cursor.proofs.Branches.{item-ends, item-opens, item-stops}
 use borrow.Author.Needs.{needs}

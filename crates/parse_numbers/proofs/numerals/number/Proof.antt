@@ -1,6 +1,6 @@
 -- `number` goes by what the next token is as a number.
 use Rattle.text_numbers.specs.Internal.Answers.{numberNamed}
-use Rattle.parse_cursor.specs.Readers.{number}
+use Rattle.parse_spec.specs.Readers.{number}
 use Rattle.parse_cursor.proofs.Steps.{passed}
 use Rattle.parse_cursor.proofs.NumberSteps.{number-value, number-beyond, number-wrong}
 use mathlib.Core.Path.{ap, sym, _∙_}

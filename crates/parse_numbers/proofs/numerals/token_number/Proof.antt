@@ -4,7 +4,7 @@ use Rattle.text_tokens.specs.Tokens.{lexeme}
 use Rattle.text_numbers.specs.Numbers.{numberOf}
 use Rattle.text_tokens.specs.Internal.Answers.{lexemeOf, tokenOf, heldBytes}
 use Rattle.text_numbers.specs.Internal.Answers.{numberNamed}
-use Rattle.parse_cursor.specs.Internal.Tokens.{tokenNumber}
+use Rattle.parse_spec.specs.Internal.Tokens.{tokenNumber}
 use borrow.Author.Needs.{needs}
 use Rattle.parse_numbers.proofs.numerals.token_number.Statement.{statement}
 use Rattle.parse_numbers.proofs.numerals.token_number.Tie as tie

@@ -1,8 +1,7 @@
 -- `head` is two openings, the version and two closing brackets.
 use Rattle.text_bytes.specs.Bytes.{bytes}
-use Rattle.parse_cursor.specs.Readers.{opened, headOf}
-use Rattle.parse_cursor.proofs.Steps.{seq}
-use Rattle.parse_cursor.proofs.Binds.{closed-at}
+use Rattle.parse_spec.specs.Readers.{opened, headOf}
+use Rattle.parse_cursor.proofs.Steps.{seq, closed-at}
 use borrow.Author.Needs.{needs}
 use Rattle.parse_text.proofs.heading.head.Statement.{statement}
 use Rattle.parse_text.proofs.heading.head.Tie as tie

@@ -6,7 +6,7 @@ use native.Mathlib.Numerals.{add-one}
 use borrow.Author.Needs.{needs}
 use borrow.Author.Tests.{not-true, not-false}
 use lib.ListN.{length, drop}
-use Rattle.parse_cursor.specs.Internal.Fields.{coversAll}
+use Rattle.parse_spec.specs.Internal.Fields.{coversAll}
 use Rattle.parse_words.proofs.Stored.{covers-end, covers-past, covers-missing, covers-set, covers-free}
 use Rattle.parse_words.proofs.chunk.covers.Statement.{statement}
 use Rattle.parse_words.proofs.chunk.covers.Tie as tie

@@ -7,11 +7,12 @@ use native.Mathlib.Numerals.{add-one}
 use borrow.Author.Needs.{needs}
 use denote.Ref.{now}
 use lib.ListN.{length, drop}
-use Rattle.text_bytes.specs.Bytes.{part, run, inWord}
+use Rattle.text_runs.specs.Runs.{part, run}
+use Rattle.text_bytes.specs.Bytes.{inWord}
 use Rattle.text_tokens.specs.Tokens.{isKeyword}
 use Rattle.text_tokens.specs.Internal.Answers.{lexemeOf}
-use Rattle.text_bytes.specs.Internal.Answers.{testNamed}
-use Rattle.text_bytes.proofs.Runs.{run-within}
+use Rattle.text_runs.specs.Internal.Answers.{testNamed}
+use Rattle.text_runs.proofs.Runs.{run-within}
 use Rattle.parse_words.specs.Internal.Words.{words, indexIn}
 use Rattle.parse_words.proofs.Vocabulary.{first-yes, last-no, more-no}
 use Rattle.parse_words.proofs.words.word_index.Statement.{statement}

@@ -7,15 +7,16 @@ use lib.IntN.{ℤ}
 use lib.ListN.{length, take, drop}
 use native.Mathlib.Omega.{arith}
 use Rattle.table_columns.proofs.Parts.{part-length, part-numbers}
-use Rattle.table_sections.specs.Sections.{facesBegin}
-use Rattle.table_sections.proofs.Mosts.{figure-none}
-use Rattle.table_sections.proofs.Indices.{small-fits, byte-fits, face-place}
+use Rattle.table_figure.specs.Sections.{facesBegin}
+use Rattle.table_figure.proofs.Mosts.{figure-none}
+use Rattle.table_columns.proofs.SmallIndices.{small-fits, byte-fits}
+use Rattle.table_figure.proofs.Indices.{face-place}
 use Rattle.player_spec.specs.Lookups.{faceAt}
 use Rattle.player_spec.specs.Answers.{numbered}
 use Rattle.player_corners.specs.Answers.{cornered}
 use Rattle.player_corners.specs.Internal.CornerRow.{rowCorner}
-use Rattle.table_sections.specs.Internal.Found.{Found}
-use Rattle.table_sections.proofs.Founds.{found, faces-are}
+use Rattle.table_figure.specs.Internal.Found.{Found}
+use Rattle.table_figure.proofs.Founds.{found, faces-are}
 use Rattle.player_corners.proofs.CornerTests.{not-held, no-face, by-row}
 use borrow.Author.Needs.{needs}
 use Rattle.player_corners.proofs.corners.corner.Statement.{statement}

@@ -11,8 +11,8 @@ use mir.Val.{SFits}
 use mir.Facts.{toZ-ofZ}
 use native.Mathlib.Omega.{arith}
 use borrow.Author.Tests.{not-true, not-false}
-use Rattle.table_rows.specs.References.{isRow, isNone}
-use Rattle.table_rows.specs.Index.{isIndex}
+use Rattle.table_references.specs.References.{isRow, isNone}
+use Rattle.table_references.specs.Index.{isIndex}
 use Rattle.table_columns.specs.Columns.{faceMaterial, faceSize, faceVertex, faceUv}
 use Rattle.table_columns.proofs.Casts.{natural-cast}
 use Rattle.table_columns.proofs.Corners.{corner-is}

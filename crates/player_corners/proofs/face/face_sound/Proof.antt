@@ -8,13 +8,13 @@ use mir.Syntax.{w64}
 use mir.Val.{SFits}
 use mir.Facts.{toZ-ofZ}
 use borrow.Author.Tests.{not-true, not-false}
-use Rattle.table_rows.specs.References.{isRow}
-use Rattle.table_rows.specs.Index.{isIndex}
+use Rattle.table_references.specs.References.{isRow}
+use Rattle.table_references.specs.Index.{isIndex}
 use Rattle.player_spec.specs.Lookups.{sizeFine, cornersFine, allNone}
 use Rattle.text_numbers.proofs.Tests.{tested}
 use Rattle.table_columns.proofs.Casts.{natural-cast}
 use Rattle.player_corners.proofs.FaceRows.{no-material, no-size, no-vertices, no-uvs, by-group}
-use Rattle.player_tests.proofs.Corners.{size-is}
+use Rattle.player_face_tests.proofs.Corners.{size-is}
 use borrow.Author.Needs.{needs}
 use Rattle.player_corners.proofs.face.face_sound.Statement.{statement}
 use Rattle.player_corners.proofs.face.face_sound.Tie as tie

@@ -11,13 +11,13 @@ use mir.Facts.{toZ-ofZ}
 use native.Mathlib.Omega.{arith}
 use Rattle.table_columns.specs.Parts.{numbersAt}
 use Rattle.table_columns.proofs.Casts.{natural-cast}
-use Rattle.table_sections.proofs.Indices.{small-fits, byte-fits, index-below}
-use Rattle.player_tests.proofs.Corners.{row-is}
+use Rattle.table_columns.proofs.SmallIndices.{small-fits, byte-fits, index-below}
+use Rattle.player_face_tests.proofs.Corners.{row-is}
 use Rattle.table_columns.proofs.Parts.{three-same, three-at}
 use Rattle.player_spec.specs.Lookups.{pointAt}
 use Rattle.player_corners.proofs.Places.{point-index, point-room}
-use Rattle.player_tests.proofs.Owners.{owner-part}
-use Rattle.table_sections.proofs.Founds.{owners-room}
+use Rattle.player_face_tests.proofs.Owners.{owner-part}
+use Rattle.table_figure.proofs.Founds.{owners-room}
 use borrow.Author.Needs.{needs}
 use Rattle.player_corners.proofs.point.point_at.Statement.{statement}
 use Rattle.player_corners.proofs.point.point_at.Tie as tie

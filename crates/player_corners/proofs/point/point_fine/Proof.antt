@@ -1,6 +1,6 @@
 -- `point_fine` is the test of each number in turn.
 use mathlib.Core.Path.{sym, _∙_}
-use Rattle.table_rows.specs.Index.{isIndex}
+use Rattle.table_references.specs.Index.{isIndex}
 use Rattle.player_spec.specs.Lookups.{isFloat}
 use Rattle.text_numbers.proofs.Tests.{tested, failed, passed}
 use Rattle.player_corners.proofs.FaceRows.{point-tests}

@@ -11,8 +11,8 @@ use mir.Facts.{toZ-ofZ}
 use native.Mathlib.Omega.{arith}
 use Rattle.table_columns.specs.Parts.{numbersAt}
 use Rattle.table_columns.proofs.Casts.{natural-cast}
-use Rattle.table_sections.proofs.Indices.{small-fits, byte-fits, index-below}
-use Rattle.player_tests.proofs.Corners.{row-is}
+use Rattle.table_columns.proofs.SmallIndices.{small-fits, byte-fits, index-below}
+use Rattle.player_face_tests.proofs.Corners.{row-is}
 use Rattle.table_columns.proofs.Parts.{two-same, two-at}
 use Rattle.player_spec.specs.Lookups.{uvRow}
 use Rattle.player_corners.proofs.Places.{uv-index, uv-room}

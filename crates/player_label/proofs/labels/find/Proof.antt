@@ -1,7 +1,8 @@
 -- `find` is the label: each name's span, and the movement's where it is not empty.
 use mathlib.Core.Path.{ap, sym, _∙_}
 use borrow.Author.Needs.{needs}
-use Rattle.player_label.specs.Internal.Answers.{found, named}
+use Rattle.player_names.specs.Internal.Answers.{found}
+use Rattle.player_label.specs.Internal.Answers.{named}
 use Rattle.player_label.proofs.Chosen.{no-figure-name, no-movement-name, by-figure, by-movement}
 use Rattle.player_label.proofs.labels.find.Statement.{statement}
 use Rattle.player_label.proofs.labels.find.Tie as tie

@@ -2,7 +2,7 @@
 use mathlib.Core.Path.{_∙_}
 use native.Mathlib.Omega.{arith}
 use borrow.Author.Needs.{needs}
-use Rattle.text_bytes.proofs.Parts.{part-none}
+use Rattle.text_runs.proofs.Parts.{part-none}
 use Rattle.player_label.specs.Labels.{orEmpty}
 use Rattle.player_label.specs.Internal.Answers.{named}
 use Rattle.player_label.proofs.labels.label.Statement.{statement}

@@ -13,10 +13,10 @@ use borrow.Author.Tests.{not-true, not-false}
 use Rattle.text_numbers.proofs.Tests.{tested}
 use Rattle.table_columns.specs.Parts.{numberAt, rowsAt}
 use Rattle.table_columns.proofs.Casts.{natural-cast}
-use Rattle.table_sections.specs.declared.sections.MovementSections.{MovementSections}
-use Rattle.table_sections.specs.Sections.{keysBegin, movementSections, holdsMovement}
-use Rattle.table_sections.proofs.Mosts.{movement-room, movement-none, movement-held, movement-found}
-use Rattle.table_sections.proofs.Indices.{small-fits, byte-fits, index-below}
+use Rattle.table_movement.specs.declared.sections.MovementSections.{MovementSections}
+use Rattle.table_movement.specs.Sections.{keysBegin, movementSections, holdsMovement}
+use Rattle.table_movement.proofs.Mosts.{movement-room, movement-none, movement-held, movement-found}
+use Rattle.table_columns.proofs.SmallIndices.{small-fits, byte-fits, index-below}
 use Rattle.player_spec.specs.Lookups.{isAsked, isRange, pairAt, channelKeys, sampleIn}
 use Rattle.player_spec.specs.Answers.{numbered}
 use Rattle.player_samples.specs.Internal.Pass.{passOver}

@@ -15,7 +15,7 @@ use Rattle.player_shown.specs.Answers.{visible}
 use Rattle.table_columns.specs.Parts.{rowsAt}
 use Rattle.player_spec.specs.Internal.Flags.{lineFine, nextFlag, flagFrom, flagOver}
 use Rattle.player_tests.proofs.Numbers.{zero-no, zero-yes}
-use Rattle.player_tests.proofs.PatternLines.{line-naturals}
+use Rattle.player_face_tests.proofs.PatternLines.{line-naturals}
 use Rattle.player_shown.proofs.FlagRows.{lineAt, no-line, first-late, first-on, turn-fault, turn-on, ended}
 use Rattle.player_shown.proofs.flags.group_flag.Statement.{statement}
 use Rattle.player_shown.proofs.flags.group_flag.Tie as tie

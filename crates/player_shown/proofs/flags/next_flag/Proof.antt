@@ -1,7 +1,7 @@
 -- `next_flag` is the definition, by its tests one after the other.
 use mir.Facts.{toZ-ofZ}
 use Rattle.table_columns.proofs.Casts.{natural-cast}
-use Rattle.player_tests.proofs.PatternLines.{next-other, next-later, next-own}
+use Rattle.player_face_tests.proofs.PatternLines.{next-other, next-later, next-own}
 use Rattle.player_shown.proofs.flags.next_flag.Statement.{statement}
 use Rattle.player_shown.proofs.flags.next_flag.Tie as tie
 

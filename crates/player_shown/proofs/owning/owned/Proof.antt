@@ -9,15 +9,15 @@ use lib.ListN.{length, getD, drop, length-take, length-drop}
 use native.Mathlib.Omega.{arith}
 use borrow.Author.Needs.{needs}
 use borrow.Author.Tests.{not-true, not-false}
-use Rattle.table_rows.specs.References.{isNone}
-use Rattle.table_rows.specs.Index.{isIndex}
+use Rattle.table_references.specs.References.{isNone}
+use Rattle.table_references.specs.Index.{isIndex}
 use Rattle.text_numbers.proofs.Tests.{tested}
 use Rattle.table_columns.specs.Columns.{faceVertices}
 use Rattle.table_columns.proofs.Corners.{corner-part}
-use Rattle.table_sections.proofs.Founds.{owners-room}
-use Rattle.table_sections.proofs.Indices.{byte-fits}
+use Rattle.table_figure.proofs.Founds.{owners-room}
+use Rattle.table_columns.proofs.SmallIndices.{byte-fits}
 use Rattle.player_spec.specs.Lookups.{ownerAt}
-use Rattle.player_tests.proofs.Owners.{owner-part}
+use Rattle.player_face_tests.proofs.Owners.{owner-part}
 use Rattle.player_shown.specs.Internal.Rows.{ownedIn}
 use Rattle.player_shown.specs.Answers.{visible}
 use Rattle.player_shown.proofs.OwnedCorners.{left, left-all, left-end, turn-broken, turn-none, turn-owned}

@@ -15,7 +15,7 @@ use Rattle.player_spec.specs.Lookups.{sizeFine, cornersFine}
 use Rattle.player_shown.specs.Internal.Rows.{ownedIn}
 use Rattle.player_shown.specs.Answers.{visible}
 use Rattle.table_columns.proofs.Casts.{natural-cast}
-use Rattle.player_tests.proofs.Corners.{size-is}
+use Rattle.player_face_tests.proofs.Corners.{size-is}
 use Rattle.player_shown.proofs.OwnedCorners.{no-size, no-vertices, by-owners}
 use borrow.Author.Needs.{needs}
 use Rattle.player_shown.proofs.owning.row_owned.Statement.{statement}

@@ -9,14 +9,14 @@ use mir.Syntax.{w64}
 use mir.Val.{SFits}
 use mir.Facts.{toZ-ofZ}
 use borrow.Author.Tests.{not-true, not-false}
-use Rattle.table_rows.specs.References.{isNone}
-use Rattle.table_rows.specs.Index.{isIndex}
+use Rattle.table_references.specs.References.{isNone}
+use Rattle.table_references.specs.Index.{isIndex}
 use Rattle.text_numbers.proofs.Tests.{tested}
-use Rattle.table_rows.proofs.Numbers.{index-row}
+use Rattle.table_references.proofs.Numbers.{index-row}
 use Rattle.player_shown.specs.Internal.Rows.{bothShown}
 use Rattle.player_shown.specs.Answers.{visible}
 use Rattle.table_columns.proofs.Casts.{natural-cast}
-use Rattle.player_tests.proofs.Corners.{row-is}
+use Rattle.player_face_tests.proofs.Corners.{row-is}
 use Rattle.player_shown.proofs.Flagged.{flag-is}
 use Rattle.player_shown.proofs.ShownTests.{no-group, of-polygons, in-group}
 use borrow.Author.Needs.{needs}

@@ -15,12 +15,15 @@ use Rattle.tra4_text.specs.Movement.{Pattern}
 use Rattle.text_numbers.proofs.Tests.{tested}
 use Rattle.table_columns.specs.Parts.{numberAt, rowsAt}
 use Rattle.table_columns.proofs.Parts.{part-length, part-numbers}
-use Rattle.table_sections.specs.declared.sections.MovementSections.{MovementSections}
-use Rattle.table_sections.specs.Sections.{keysBegin, patternsBegin, movementSections, holdsMovement, facesBegin}
-use Rattle.table_sections.specs.Internal.Found.{Found}
-use Rattle.table_sections.proofs.Founds.{found, faces-are}
-use Rattle.table_sections.proofs.Mosts.{movement-room, movement-none, movement-held, movement-found, figure-none}
-use Rattle.table_sections.proofs.Indices.{small-fits, byte-fits, index-within, face-place}
+use Rattle.table_movement.specs.declared.sections.MovementSections.{MovementSections}
+use Rattle.table_movement.specs.Sections.{keysBegin, patternsBegin, movementSections, holdsMovement}
+use Rattle.table_figure.specs.Sections.{facesBegin}
+use Rattle.table_figure.specs.Internal.Found.{Found}
+use Rattle.table_figure.proofs.Founds.{found, faces-are}
+use Rattle.table_movement.proofs.Mosts.{movement-room, movement-none, movement-held, movement-found}
+use Rattle.table_figure.proofs.Mosts.{figure-none}
+use Rattle.table_columns.proofs.SmallIndices.{small-fits, byte-fits, index-within}
+use Rattle.table_figure.proofs.Indices.{face-place}
 use Rattle.player_spec.specs.Lookups.{isAsked, faceAt, patternRows}
 use Rattle.player_spec.specs.Answers.{numbered}
 use Rattle.player_shown.specs.Internal.Rows.{rowShown}

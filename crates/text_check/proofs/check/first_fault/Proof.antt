@@ -15,11 +15,13 @@ use Rattle.text_bytes.proofs.bytes.Class.{the-type}
 use Rattle.text_bytes.specs.declared.bytes.Class.{Class}
 use Rattle.text_bytes.specs.declared.bytes.Class.the-variants.{Blank, Opener, Closer, Quote, Semicolon, Letter, Other}
 use Rattle.text_check.specs.declared.check.Scan.{Scan}
-use Rattle.text_bytes.specs.Bytes.{classOf, inLine, run}
+use Rattle.text_bytes.specs.Bytes.{classOf, inLine}
+use Rattle.text_runs.specs.Runs.{run}
 use Rattle.text_check.specs.Faults.{faultIn, outside}
 use Rattle.refusal.specs.Internal.Answers.{refusal}
 use Rattle.text_check.specs.Internal.Answers.{scanned, Ahead}
-use Rattle.text_bytes.specs.Internal.Answers.{classNamed, testNamed}
+use Rattle.text_bytes.specs.Internal.Answers.{classNamed}
+use Rattle.text_runs.specs.Internal.Answers.{testNamed}
 use Rattle.text_check.proofs.Scanning.{passes, fault-pass, fault-other, fault-quote, fault-comment, fault-end}
 use Rattle.text_check.proofs.check.first_fault.Statement.{statement}
 use Rattle.text_check.proofs.check.first_fault.Tie as tie

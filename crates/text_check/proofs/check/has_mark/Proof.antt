@@ -5,7 +5,7 @@ use Prim.Native.Nat.{ℕ}
 use borrow.Author.Tests.{not-true, not-false}
 use denote.Ref.{now}
 use lib.ListN.{take}
-use Rattle.text_bytes.specs.Bytes.{part, same}
+use Rattle.text_runs.specs.Runs.{part, same}
 use Rattle.text_check.proofs.Scanning.{mark-no, mark-end, mark-byte}
 use borrow.Author.Needs.{needs}
 use Rattle.text_check.proofs.check.has_mark.Statement.{statement}

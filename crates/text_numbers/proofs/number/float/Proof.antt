@@ -5,12 +5,13 @@ use native.Mathlib.Omega.{arith}
 use native.Mathlib.Numerals.{add-one}
 use denote.Ref.{now}
 use lib.ListN.{length, drop}
-use Rattle.text_bytes.specs.Bytes.{isDigit, run}
+use Rattle.text_bytes.specs.Bytes.{isDigit}
+use Rattle.text_runs.specs.Runs.{run}
 use Rattle.text_numbers.specs.Numbers.{FLOAT, allDigits}
 use Rattle.text_numbers.specs.Internal.Answers.{numberNamed}
-use Rattle.text_bytes.specs.Internal.Answers.{testNamed}
-use Rattle.text_bytes.proofs.Parts.{part-none}
-use Rattle.text_bytes.proofs.Runs.{run-within}
+use Rattle.text_runs.specs.Internal.Answers.{testNamed}
+use Rattle.text_runs.proofs.Parts.{part-none}
+use Rattle.text_runs.proofs.Runs.{run-within}
 use Rattle.text_numbers.proofs.Numerals.{lead-none, lead-order, lead-within, lead-all, lead-float, lead-pointless, lead-rest, lead-bare, lead-parts, lead-more-all}
 use borrow.Author.Needs.{needs}
 use Rattle.text_numbers.proofs.number.float.Statement.{statement}

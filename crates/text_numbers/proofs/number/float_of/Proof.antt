@@ -4,10 +4,10 @@ use Prim.Native.Nat.{_+_, _-_, _*_, _^_, _<_}
 use native.Mathlib.Omega.{arith}
 use denote.Ref.{now}
 use lib.ListN.{length}
-use Rattle.text_bytes.specs.Bytes.{part}
+use Rattle.text_runs.specs.Runs.{part}
 use Rattle.text_numbers.specs.Numbers.{millionths, decimal}
 use Rattle.text_numbers.specs.Internal.Answers.{numberNamed}
-use Rattle.text_bytes.proofs.Parts.{part-whole}
+use Rattle.text_runs.proofs.Parts.{part-whole}
 use Rattle.text_numbers.proofs.Numerals.{float-whole-long, float-fraction-long, float-value, decimal-below, millionths-below}
 use Rattle.text_numbers.proofs.Signed.{signed-back}
 use borrow.Author.Needs.{needs}

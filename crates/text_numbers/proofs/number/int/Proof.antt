@@ -5,10 +5,10 @@ use native.Mathlib.Omega.{arith}
 use native.Mathlib.Nat.{lt-of-le-of-lt}
 use denote.Ref.{now}
 use lib.ListN.{length}
-use Rattle.text_bytes.specs.Bytes.{part}
+use Rattle.text_runs.specs.Runs.{part}
 use Rattle.text_numbers.specs.Numbers.{INT, numberOf, intOf}
 use Rattle.text_numbers.specs.Internal.Answers.{numberNamed}
-use Rattle.text_bytes.proofs.Parts.{part-whole}
+use Rattle.text_runs.proofs.Parts.{part-whole}
 use Rattle.text_numbers.proofs.Numerals.{lead-none, lead-order, lead-within, lead-all, lead-int-more, lead-int, int-long, int-large, int-value, intMost-below}
 use Rattle.text_numbers.proofs.Signed.{signed-back}
 use borrow.Author.Needs.{needs}

@@ -1,7 +1,7 @@
 -- `lead` finds a word's sign and its digits, by whether there is a minus sign.
 use mathlib.Core.Path.{sym, _∙_}
 use native.Mathlib.Omega.{arith}
-use Rattle.text_bytes.specs.Internal.Answers.{testNamed}
+use Rattle.text_runs.specs.Internal.Answers.{testNamed}
 use Rattle.text_numbers.proofs.Numerals.{unsigned-yes, unsigned-no, negative-some}
 use borrow.Author.Needs.{needs}
 use Rattle.text_numbers.proofs.number.lead.Statement.{statement}

@@ -3,7 +3,7 @@ use mathlib.Core.Path.{ap, _∙_}
 use mathlib.Core.List.{List}
 use Prim.Native.Nat.{ℕ}
 use denote.Ref.{now}
-use Rattle.text_bytes.specs.Bytes.{same}
+use Rattle.text_runs.specs.Runs.{same}
 use Rattle.text_tokens.specs.Tokens.{isKeyword, lexeme}
 use Rattle.text_tokens.specs.Internal.Answers.{lexemeOf, tokenOf, heldBytes}
 use borrow.Author.Needs.{needs}

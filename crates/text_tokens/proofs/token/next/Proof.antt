@@ -7,10 +7,12 @@ use denote.Ref.{now}
 use lib.ListN.{length, drop, getD}
 use native.Mathlib.Numerals.{add-one}
 use Rattle.text_bytes.specs.declared.bytes.Class.{Class}
-use Rattle.text_bytes.specs.Bytes.{classOf, inLine, run}
+use Rattle.text_bytes.specs.Bytes.{classOf, inLine}
+use Rattle.text_runs.specs.Runs.{run}
 use Rattle.text_tokens.specs.Tokens.{lexAt, opening, closing, widthOf, bytesOf}
 use Rattle.text_tokens.specs.Internal.Answers.{kindOf}
-use Rattle.text_bytes.specs.Internal.Answers.{classNamed, testNamed}
+use Rattle.text_bytes.specs.Internal.Answers.{classNamed}
+use Rattle.text_runs.specs.Internal.Answers.{testNamed}
 use Rattle.text_tokens.proofs.Lexing.{lexAt-blank, lexAt-other, lexAt-comment}
 use Rattle.text_tokens.proofs.Spans.{spanned, next-opening, next-closing, next-ending, next-earlier}
 use Rattle.text_tokens.proofs.token.next.Statement.{statement}

@@ -1,7 +1,7 @@
 -- `bone_tail` reads a name and channels, and sets the bone down where all is well.
 use mathlib.Core.Path.{sym}
 use native.Mathlib.Omega.{arith}
-use Rattle.parse_cursor.proofs.Within.{place-bounds}
+use Rattle.parse_cursor.proofs.Bounds.{place-bounds}
 use Rattle.tra4_bone.proofs.Keeping.{name-refused, channels-refused, bone-read, over-kept, all-some, all-ten, all-held}
 use borrow.Author.Needs.{needs}
 use Rattle.tra4_bone.proofs.bone.bone_tail.Statement.{statement}

@@ -10,7 +10,7 @@ use Rattle.text_bytes.specs.Bytes.{bytes}
 use Rattle.text_tokens.specs.Tokens.{lexAt}
 use Rattle.parse_cursor.specs.Internal.Cursors.{from}
 use Rattle.parse_cursor.proofs.Steps.{passed}
-use Rattle.parse_cursor.proofs.Counts.{lexAt-count, lexAt-some}
+use Rattle.parse_spec.proofs.TokenCounts.{lexAt-count, lexAt-some}
 use Rattle.tra4_text.specs.Grammar.{bone}
 use Rattle.tra4_bones.specs.Internal.Into.{boneStep, moreInto}
 use Rattle.tra4_bone.specs.Internal.Into.{kept}

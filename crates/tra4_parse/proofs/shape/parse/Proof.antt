@@ -3,12 +3,11 @@ use mathlib.Core.Path.{refl, _∙_}
 use mir.Syntax.{w64}
 use mir.Facts.{toZ-ofZ}
 use Rattle.text_bytes.specs.Bytes.{bytes}
-use Rattle.parse_cursor.specs.Readers.{head, opened}
+use Rattle.parse_spec.specs.Readers.{head, opened}
 use Rattle.parse_cursor.specs.Internal.Cursors.{reads}
 use Rattle.parse_numbers.specs.Internal.Answers.{formNamed}
 use Rattle.parse_cursor.proofs.Counts.{whole-text}
-use Rattle.parse_cursor.proofs.Steps.{seq, join}
-use Rattle.parse_cursor.proofs.Binds.{closed-at}
+use Rattle.parse_cursor.proofs.Steps.{seq, join, closed-at}
 use Rattle.tra4_parse.specs.Internal.Parse.{movementValue, movementInto}
 use borrow.Author.Needs.{needs}
 use Rattle.tra4_parse.proofs.shape.parse.Statement.{statement}

@@ -8,7 +8,7 @@ use Rattle.refusal.specs.Faults.{clear}
 use Rattle.refusal.specs.Internal.Answers.{refusal}
 use Rattle.refusal.specs.Rules.{tooMany}
 use Rattle.tra4_text.specs.Rules.{totalFault, keysFault}
-use Rattle.tra4_rules.specs.Internal.Keys.{channelsIn}
+use Rattle.tra4_keys.specs.Internal.Keys.{channelsIn}
 use Rattle.tra4_rules.specs.Internal.Order.{tablesFault}
 use Rattle.refusal.proofs.Rules.{refused-by, clear-by, or-clear, or-fault}
 use Rattle.tra4_rules.proofs.order.first_fault.Statement.{statement}

@@ -1,0 +1,6 @@
+-- States of loops and scaffolding: what the proofs of this crate use and no promise of the page cites.
+pub mod Branches
+pub mod Fields
+pub mod Names
+pub mod Places
+pub mod Tokens

@@ -1,0 +1,1 @@
+// Readers of tokens: definitions and no code.

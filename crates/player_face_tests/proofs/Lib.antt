@@ -1,0 +1,4 @@
+-- Laws that belong to no one function.
+pub mod Corners
+pub mod Owners
+pub mod PatternLines

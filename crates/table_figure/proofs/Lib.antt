@@ -1,0 +1,4 @@
+-- Laws that belong to no one function.
+pub mod Founds
+pub mod Indices
+pub mod Mosts

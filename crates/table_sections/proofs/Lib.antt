@@ -1,5 +1,0 @@
--- Laws that belong to no one function.
-pub mod BoneRows
-pub mod Indices
-pub mod Mosts
-pub mod Founds
