@@ -127,12 +127,12 @@ pub fn label_number(
 
 // ---- loading a pair and then playing it: the answers speak of the two texts alone. Each contract stands beside its call.
 
-pub use pair_faces::PlayedCorner;
-pub use pair_faces::PlayedShown;
-pub use pair_faces::played_corner;
-pub use pair_faces::played_shown;
+pub use pair_corners::PlayedCorner;
+pub use pair_corners::played_corner;
 pub use pair_labels::Refusal;
 pub use pair_labels::played_label;
 pub use pair_labels::played_label_number;
 pub use pair_samples::PlayedSample;
 pub use pair_samples::played_sample;
+pub use pair_shown::PlayedShown;
+pub use pair_shown::played_shown;

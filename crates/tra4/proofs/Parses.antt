@@ -27,7 +27,7 @@ use Rattle.tra4_text.specs.Rules.{movementFault}
 use Rattle.tra4_bones.specs.Internal.Into.{boneStep, bonesInto}
 use Rattle.tra4_bone.specs.Internal.Into.{Kept}
 use Rattle.tra4_parse.specs.declared.shape.Parsed.{Parsed}
-use Rattle.tra4_parse.specs.Internal.Patterns.{patternsInto}
+use Rattle.tra4_patterns.specs.Internal.Patterns.{patternsInto}
 use Rattle.tra4_parse.specs.Internal.Parse.{MovementValue, movementValue, movementInto}
 use Rattle.tra4.specs.Internal.Parse.{valueOf}
 use Rattle.tra4.specs.Internal.Checks.{parsedAs, Held}

@@ -1,5 +1,4 @@
 // Reads the shape of a movement's text into tables.
-mod pattern;
 mod shape;
 
 pub use shape::Parsed;

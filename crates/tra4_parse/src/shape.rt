@@ -4,10 +4,10 @@ ghost use Rattle.text_tokens.specs.Tokens.{lex};
 ghost use Rattle.parse_cursor.specs.Internal.Cursors.{reads};
 ghost use Rattle.tra4_bone.specs.Internal.Into.{kept};
 ghost use Rattle.tra4_parse.specs.Internal.Parse.{movementValue, movementInto};
-use crate::pattern::patterns;
 use parse_cursor::Cursor;
 use parse_cursor::opened;
 use parse_numbers::Form;
+use tra4_patterns::patterns;
 
 // A cursor past the text, the total of frames, the name's place and length, how many rows each list has, and whether there are more
 // keys than 4,096 (then `keys` is free); where the cursor has refused, all else is free.

@@ -7,7 +7,7 @@ use Rattle.parse_spec.specs.Readers.{Reader, _>>=_, _>>_, pure, head, opened, c
 use Rattle.parse_spec.specs.Internal.Places.{optionalName}
 use Rattle.tra4_bones.specs.Internal.Into.{bonesInto}
 use Rattle.tra4_bone.specs.Internal.Into.{Kept}
-use Rattle.tra4_parse.specs.Internal.Patterns.{patternsInto}
+use Rattle.tra4_patterns.specs.Internal.Patterns.{patternsInto}
 
 -- the total of frames; the name's place and length; how many bones there are and what is kept of them; how many pattern lines, and their table
 pub record MovementValue : Type 0 where

@@ -1,0 +1,4 @@
+// The pattern lines of a movement.
+mod pattern;
+
+pub use pattern::patterns;
