@@ -27,9 +27,9 @@ use Rattle.bac6_text.proofs.Rows.{flags-count}
 use Rattle.bac6_text.proofs.Whole.{WholeFigure, figure-whole, faces-whole}
 use Rattle.bac6_bones.specs.Internal.Into.{faultOf}
 use Rattle.bac6_bone_rules.specs.Internal.Bones.{flagsIn, Settled}
-use Rattle.bac6_bone_rules.specs.Internal.Claims.{claimedBones}
+use Rattle.bac6_owners.specs.Internal.Claims.{claimedBones}
 use Rattle.bac6_rules.specs.Internal.Order.{countsFault, tablesFault}
-use Rattle.bac6_bone_rules.proofs.Claims.{unclaimed, claims-fault, claims-owners, owners-length}
+use Rattle.bac6_owners.proofs.Claims.{unclaimed, claims-fault, claims-owners, owners-length}
 use Rattle.bac6_rules.proofs.Orders.{tables-within, tables-laid, bones-left}
 use Rattle.bac6_shape.specs.declared.shape.Parsed.{Parsed}
 use Rattle.bac6_shape.specs.Internal.Parse.{Kept, keptOf, rowNumbers}

@@ -14,7 +14,7 @@ use Rattle.bac6_text.specs.Rules.{facesOf, figureCounts, flagsOf, wholeList, pa
 use Rattle.bac6_text.specs.Layout.{layoutOf, nameNumbers, boneRows, ownersFrom, faceRows, groupNames}
 use Rattle.bac6_text.proofs.Rows.{face-rows-wide, face-rows-length, bones-wide, bones-count}
 use Rattle.bac6_text.proofs.Whole.{WholeFigure}
-use Rattle.bac6_bone_rules.proofs.Claims.{owners-length}
+use Rattle.bac6_owners.proofs.Claims.{owners-length}
 use Rattle.bac6_shape.specs.Internal.Parse.{rowNumbers}
 use Rattle.bac6_shape.proofs.Rows.{blank-rows}
 use Rattle.bac6_layout.specs.Internal.Places.{materialsFrom, bonesFrom, uvsFrom, facesFrom, rowsEnd}

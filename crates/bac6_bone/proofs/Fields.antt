@@ -14,10 +14,10 @@ use Rattle.parse_spec.specs.Readers.{absent}
 use Rattle.parse_spec.specs.Fields.{kind, unread}
 use Rattle.parse_spec.specs.Internal.Fields.{neededOf}
 use Rattle.parse_words.specs.Internal.Words.{words, onto, keysOf, apart, differs}
-use Rattle.parse_words.proofs.Turns.{Listed}
+use Rattle.parse_chunks.proofs.Turns.{Listed}
 use Rattle.bac6_text.specs.Grammar.{BoneField, nameIn, flagIn, numbersIn, boneKinds}
 use Rattle.bac6_text.specs.Layout.{nameNumbers}
-use Rattle.bac6_bone_rules.specs.Internal.Claims.{claimed}
+use Rattle.bac6_owners.specs.Internal.Claims.{claimed}
 use Rattle.bac6_bone.specs.Internal.Into.{three, boneNumbers, boneState, putRow, putClaims, putField}
 
 -- the keywords as one text, no two of them the same, and which chunks must stand

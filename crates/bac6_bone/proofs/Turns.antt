@@ -22,12 +22,12 @@ use Rattle.parse_cursor.proofs.Behind.{given}
 use Rattle.parse_cursor.proofs.Counts.{alive}
 use Rattle.parse_spec.proofs.FieldFlags.{flags-length}
 use Rattle.parse_words.specs.Internal.Words.{words}
-use Rattle.parse_words.specs.Internal.Heads.{headIn}
-use Rattle.parse_words.proofs.Turns.{Midway, turn-ends, turn-live, turn-holds, turn-left, turn-unread, turn-on}
+use Rattle.parse_chunks.specs.Internal.Heads.{headIn}
+use Rattle.parse_chunks.proofs.Turns.{Midway, turn-ends, turn-live, turn-holds, turn-left, turn-unread, turn-on}
 use Rattle.bac6_text.specs.Figure.{Bone}
 use Rattle.bac6_text.specs.Grammar.{BoneField, numbersIn, boneOf, boneKinds}
 use Rattle.bac6_text.specs.Layout.{nameNumbers, boneRow}
-use Rattle.bac6_bone_rules.specs.Internal.Claims.{claimed}
+use Rattle.bac6_owners.specs.Internal.Claims.{claimed}
 use Rattle.bac6_bone.specs.Internal.Into.{Yields, three, boneNumbers, boneState, putField, boneTail, boneInto}
 use Rattle.bac6_text.proofs.Whole.{WholeBone, fields-whole}
 use Rattle.bac6_bone.proofs.Values.{three-all}

@@ -27,7 +27,7 @@ use Rattle.table_rows.proofs.Tables.{overlayAt-cons, overlayAt-none}
 use Rattle.parse_spec.proofs.Ranges.{numbers-give}
 use Rattle.bac6_text.specs.Grammar.{BoneField, named, flag, several, nameIn, flagIn, numbersIn, boneKinds, truth, word}
 use Rattle.bac6_text.specs.Layout.{nameNumbers}
-use Rattle.bac6_bone_rules.specs.Internal.Claims.{claimed}
+use Rattle.bac6_owners.specs.Internal.Claims.{claimed}
 use Rattle.bac6_bone.specs.Internal.Into.{Yields, three, putRow, putClaims, putField}
 use Rattle.bac6_entries.specs.Internal.Into.{entriesInto}
 use Rattle.bac6_entries.proofs.EntrySteps.{entries-bits}

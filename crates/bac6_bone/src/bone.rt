@@ -108,7 +108,7 @@ fn bone_fields(
     let mut left: usize = 7;
     let mut free = fine;
     loop {
-        let h = parse_words::next_chunk(
+        let h = parse_chunks::next_chunk(
             text,
             d,
             b"name hasChild hasBrother translate rotate handle vertexIndices",

@@ -1,6 +1,4 @@
 -- Laws that belong to no one function.
-pub mod Claims
-pub mod Owners
 pub mod Placing
 pub mod Walks
 pub mod Whole

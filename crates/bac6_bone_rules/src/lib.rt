@@ -1,6 +1,4 @@
-// Rules 10 and 11 of a figure, over tables of rows (document 01, "Refusal numbers").
+// Rule 10: the bones of a figure as a tree, each with its parent.
 mod bone;
-mod owner;
 
 pub use bone::place_bones;
-pub use owner::claim;

@@ -38,7 +38,7 @@ use Rattle.table_rows.proofs.Tables.{overlayAt-none, overlayAt-append, overlayA
 use Rattle.bac6_text.specs.Figure.{Bone}
 use Rattle.bac6_text.specs.Grammar.{BoneField, named, flag, several, boneOf, boneKinds, bone, word, truth}
 use Rattle.bac6_text.specs.Layout.{boneRow}
-use Rattle.bac6_bone_rules.specs.Internal.Claims.{claimedOne, claimed, faultAt, afterBone, claimedBone, claimedBones}
+use Rattle.bac6_owners.specs.Internal.Claims.{claimedOne, claimed, faultAt, afterBone, claimedBone, claimedBones}
 use Rattle.bac6_bones.specs.Internal.Into.{faultOf, boneStep, bonesInto}
 use Rattle.bac6_bone.specs.Internal.Into.{boneTail, boneInto}
 use Rattle.bac6_text.proofs.Whole.{WholeBones, bone-whole}

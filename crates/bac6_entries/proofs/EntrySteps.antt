@@ -20,7 +20,7 @@ use Rattle.parse_cursor.proofs.Counts.{falls}
 use mir.Syntax.{w64}
 use mir.Val.{SFits, toZ, ofZ}
 use mir.Facts.{toZ-ofZ}
-use Rattle.bac6_bone_rules.specs.Internal.Claims.{isFree, afterClaim, claimedOne, claimed}
+use Rattle.bac6_owners.specs.Internal.Claims.{isFree, afterClaim, claimedOne, claimed}
 use Rattle.bac6_entries.specs.Internal.Into.{entriesInto}
 
 -- an entry, by whether every entry before it was free

@@ -2,7 +2,7 @@
 ghost use mathlib.Core.Path.{_≡_};
 ghost use Rattle.text_tokens.specs.Tokens.{lexAt};
 ghost use Rattle.parse_cursor.specs.Internal.Cursors.{reads};
-ghost use Rattle.bac6_bone_rules.specs.Internal.Claims.{claimedOne};
+ghost use Rattle.bac6_owners.specs.Internal.Claims.{claimedOne};
 ghost use Rattle.bac6_entries.specs.Internal.Into.{entriesInto};
 use parse_cursor::Cursor;
 use parse_numbers::Form;
@@ -19,7 +19,7 @@ fn tried(owners: &mut [i64], points: usize, z: i64, bone: i64, fine: bool) -> bo
     ensures { λ r. ⌜ (r, now (owners .exit)) ≡ claimedOne points bone (fine, now (owners .entry)) z ⌝ }
 {
     if fine {
-        return bac6_bone_rules::claim(owners, points, VertexRow(z), bone);
+        return bac6_owners::claim(owners, points, VertexRow(z), bone);
     }
     false
 }

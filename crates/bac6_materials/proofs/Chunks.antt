@@ -24,8 +24,8 @@ use Rattle.parse_cursor.proofs.Steps.{join, seq, reads-same}
 use Rattle.parse_spec.specs.Fields.{kind, isSome, unread, fields}
 use Rattle.parse_spec.specs.Internal.Fields.{insideAt, neededOf}
 use Rattle.parse_words.specs.Internal.Words.{words, onto, keysOf, apart, differs}
-use Rattle.parse_words.specs.Internal.Heads.{headIn, Reached}
-use Rattle.parse_words.proofs.Turns.{Listed, Midway, turn-ends, turn-holds, turn-left, turn-on}
+use Rattle.parse_chunks.specs.Internal.Heads.{headIn, Reached}
+use Rattle.parse_chunks.proofs.Turns.{Listed, Midway, turn-ends, turn-holds, turn-left, turn-on}
 use Rattle.bac6_text.specs.Grammar.{materialKinds, truth, blend, orZero, material, word}
 use Rattle.bac6_materials.specs.Internal.Into.{materialTail, materialInto}
 

@@ -7,7 +7,7 @@ ghost use lib.ListN.{replicate};
 ghost use Rattle.parse_spec.specs.Fields.{fields};
 ghost use Rattle.parse_spec.specs.Internal.Fields.{insideAt};
 ghost use Rattle.parse_cursor.specs.Internal.Cursors.{reads, from};
-ghost use Rattle.parse_words.specs.Internal.Heads.{Reached};
+ghost use Rattle.parse_chunks.specs.Internal.Heads.{Reached};
 ghost use Rattle.bac6_text.specs.Grammar.{materialKinds, material, orZero};
 ghost use Rattle.bac6_materials.specs.Internal.Closing.{closeWith};
 ghost use Rattle.bac6_materials.specs.Internal.Into.{materialInto, materialsInto};
@@ -58,7 +58,7 @@ fn material_fields(text: &[u8], c: Cursor, row: &mut [i64]) -> Cursor
     let mut d = c;
     let mut left: usize = 9;
     loop {
-        let h = parse_words::next_chunk(
+        let h = parse_chunks::next_chunk(
             text,
             d,
             b"blendMode doubleFace transparent lighting textureIndex colorIndex specular alpha shininess",

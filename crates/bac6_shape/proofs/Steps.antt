@@ -20,7 +20,7 @@ use Rattle.bac6_text.specs.Figure.{Bone, Face, Group}
 use Rattle.bac6_text.specs.Grammar.{bone, boneSection, polygonSection}
 use Rattle.bac6_text.specs.Layout.{groupNames}
 use Rattle.bac6_bones.specs.Internal.Into.{bonesInto}
-use Rattle.bac6_bone_rules.specs.Internal.Claims.{claimedBones}
+use Rattle.bac6_owners.specs.Internal.Claims.{claimedBones}
 use Rattle.bac6_faces.specs.Internal.Into.{allRows, tablesOf, polygonsInto}
 use Rattle.bac6_section.specs.Internal.Lists.{rowsLaid}
 use Rattle.bac6_section.proofs.Laid.{map-read, then-read}

@@ -1,8 +1,5 @@
-// Keywords of a list, and chunks in a free order.
-mod chunk;
+// Which of some keywords a token is.
 mod words;
 
-pub use chunk::Chunk;
-pub use chunk::next_chunk;
 pub use words::one_of;
 pub use words::word_index;

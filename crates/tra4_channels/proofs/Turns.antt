@@ -17,8 +17,8 @@ use Rattle.parse_spec.specs.Internal.Fields.{neededOf}
 use Rattle.parse_cursor.proofs.Steps.{from-on}
 use Rattle.parse_spec.proofs.FieldFlags.{flags-length}
 use Rattle.parse_words.specs.Internal.Words.{words, onto, keysOf, apart, differs}
-use Rattle.parse_words.specs.Internal.Heads.{headIn, Reached}
-use Rattle.parse_words.proofs.Turns.{Listed, Midway, turn-ends, turn-holds, turn-left, turn-unread, turn-on}
+use Rattle.parse_chunks.specs.Internal.Heads.{headIn, Reached}
+use Rattle.parse_chunks.proofs.Turns.{Listed, Midway, turn-ends, turn-holds, turn-left, turn-unread, turn-on}
 use Rattle.tra4_text.specs.Movement.{Channel}
 use Rattle.tra4_text.specs.Grammar.{channel, channelNames, channelKinds, keysIn}
 use Rattle.tra4_text.specs.Rules.{allKeys}

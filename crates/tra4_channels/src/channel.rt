@@ -6,7 +6,7 @@ ghost use lib.ListN.{length};
 ghost use Rattle.text_tokens.specs.Tokens.{lexAt};
 ghost use Rattle.parse_spec.specs.Fields.{isSome, fields};
 ghost use Rattle.tra4_text.specs.Grammar.{channelKinds};
-ghost use Rattle.parse_words.specs.Internal.Heads.{Reached};
+ghost use Rattle.parse_chunks.specs.Internal.Heads.{Reached};
 ghost use Rattle.tra4_channels.specs.Internal.Held.{Held, KeysRead};
 use parse_cursor::Cursor;
 use parse_numbers::Form;
@@ -74,7 +74,7 @@ fn channel_chunks(text: &[u8], at: usize, ranges: &mut [i64], keys: &mut [i64]) 
     let mut count: usize = 0;
     let mut over = false;
     loop {
-        let h = parse_words::next_chunk(
+        let h = parse_chunks::next_chunk(
             text,
             d,
             b"translate.x translate.y translate.z scale.x scale.y scale.z rotate.x rotate.y rotate.z roll",

@@ -8,13 +8,13 @@ use lib.IntN.{ℤ, pos}
 use lib.ListN.{getD, set}
 use Rattle.parse_cursor.specs.declared.cursor.Cursor.{Cursor}
 use Rattle.parse_spec.specs.Readers.{Got, Reader, _>>=_, _>>_, pure, keyword}
-use Rattle.parse_words.specs.Internal.Heads.{Reached}
+use Rattle.parse_chunks.specs.Internal.Heads.{Reached}
 use Rattle.table_rows.specs.Internal.Overlay.{overlayAt}
 use Rattle.parse_spec.specs.Fields.{fields}
 use Rattle.bac6_text.specs.Figure.{Bone}
 use Rattle.bac6_text.specs.Grammar.{BoneField, nameIn, flagIn, numbersIn, boneOf, boneKinds, bone}
 use Rattle.bac6_text.specs.Layout.{nameNumbers, boneRow}
-use Rattle.bac6_bone_rules.specs.Internal.Claims.{claimed}
+use Rattle.bac6_owners.specs.Internal.Claims.{claimed}
 
 -- where a reader leaves a cursor: the value that it read, and what the code keeps of that where the cursor has not refused
 abbrev pub Yields : {A S : Type 0} → List ℕ → Cursor → Got A → (A → S) → S → Type 0

@@ -11,7 +11,7 @@ use Rattle.bac6_text.specs.Grammar.{bone}
 use Rattle.bac6_text.specs.Layout.{boneRow}
 use Rattle.table_rows.specs.Flat.{flat}
 use Rattle.refusal.specs.Faults.{Fault, clear, fault}
-use Rattle.bac6_bone_rules.specs.Internal.Claims.{claimedBone, claimedBones}
+use Rattle.bac6_owners.specs.Internal.Claims.{claimedBone, claimedBones}
 
 -- the first fault of rule 11, as the code holds it
 unfoldable pub faultOf : Bool → ℕ → Fault

@@ -6,7 +6,7 @@ use lib.IntN.{ℤ}
 use Rattle.text_numbers.specs.Numbers.{INT}
 use Rattle.parse_spec.specs.Readers.{Reader, _>>=_, _>>_, pure, number, many}
 use Rattle.bac6_text.specs.Grammar.{bone}
-use Rattle.bac6_bone_rules.specs.Internal.Claims.{claimed}
+use Rattle.bac6_owners.specs.Internal.Claims.{claimed}
 
 -- the entries of a bone up to ): each claims its vertex
 unfoldable pub entriesInto : ℕ → ℤ → Bool × List ℤ → Reader (Bool × List ℤ)

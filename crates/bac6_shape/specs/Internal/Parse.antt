@@ -13,7 +13,7 @@ use Rattle.bac6_text.specs.Figure.{Bone, Figure}
 use Rattle.bac6_text.specs.Grammar.{figure}
 use Rattle.bac6_text.specs.Rules.{figureCounts}
 use Rattle.bac6_text.specs.Layout.{boneRow, faceRows, groupNames}
-use Rattle.bac6_bone_rules.specs.Internal.Claims.{claimedBones}
+use Rattle.bac6_owners.specs.Internal.Claims.{claimedBones}
 
 -- the name's place and length, how many rows each list has, the first fault of the claims and the vertices' owners, the rows, and the groups' names
 pub record Kept : Type 0 where

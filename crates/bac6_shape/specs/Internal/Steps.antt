@@ -10,7 +10,7 @@ use Rattle.parse_spec.specs.Readers.{Reader, _>>=_, _>>_, pure, close-bracket, 
 use Rattle.bac6_text.specs.Figure.{Bone, Face, Group}
 use Rattle.bac6_text.specs.Grammar.{boneSection, polygonSection}
 use Rattle.bac6_text.specs.Layout.{groupNames}
-use Rattle.bac6_bone_rules.specs.Internal.Claims.{claimedBones}
+use Rattle.bac6_owners.specs.Internal.Claims.{claimedBones}
 use Rattle.bac6_faces.specs.Internal.Into.{allRows}
 use Rattle.bac6_section.specs.Internal.Lists.{rowsLaid}
 use Rattle.bac6_shape.specs.Internal.Parse.{blankBones}

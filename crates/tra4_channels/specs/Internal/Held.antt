@@ -10,7 +10,7 @@ use Rattle.parse_cursor.specs.declared.cursor.Cursor.{Cursor}
 use Rattle.parse_cursor.specs.Internal.Cursors.{from}
 use Rattle.parse_spec.specs.Fields.{isSome}
 use Rattle.parse_spec.specs.Internal.Fields.{insideAt}
-use Rattle.parse_words.specs.Internal.Heads.{Reached}
+use Rattle.parse_chunks.specs.Internal.Heads.{Reached}
 use Rattle.table_rows.specs.Flat.{flat}
 use Rattle.tra4_text.specs.Movement.{Channel}
 use Rattle.tra4_text.specs.Grammar.{channelKinds, keysIn}

@@ -8,7 +8,7 @@ use denote.Ref.{now}
 use Rattle.parse_numbers.specs.Internal.Answers.{formNamed}
 use Rattle.parse_cursor.specs.Internal.Cursors.{from}
 use Rattle.parse_cursor.proofs.Steps.{passed, from-on}
-use Rattle.bac6_bone_rules.specs.Internal.Claims.{claimedOne}
+use Rattle.bac6_owners.specs.Internal.Claims.{claimedOne}
 use Rattle.text_tokens.specs.Tokens.{lexAt, lexeme}
 use Rattle.text_tokens.specs.Internal.Answers.{lexemeOf}
 use Rattle.bac6_entries.specs.Internal.Into.{entriesInto}

@@ -7,9 +7,9 @@ use lib.Seq.{set-out}
 use Rattle.text_tokens.specs.Tokens.{lexeme}
 use Rattle.text_tokens.specs.Internal.Answers.{lexemeOf}
 use Rattle.parse_cursor.proofs.Steps.{passed}
-use Rattle.parse_words.proofs.Heads.{next-close, next-early, next-full, next-other, next-open}
-use Rattle.parse_words.proofs.chunk.next_chunk.Statement.{statement}
-use Rattle.parse_words.proofs.chunk.next_chunk.Tie as tie
+use Rattle.parse_chunks.proofs.Heads.{next-close, next-early, next-full, next-other, next-open}
+use Rattle.parse_chunks.proofs.chunk.next_chunk.Statement.{statement}
+use Rattle.parse_chunks.proofs.chunk.next_chunk.Tie as tie
 
 returns : tie.Need-returns
 returns c = (passed _ _ _ _ (c .if1 .taken), (sym (set-out _ _ _ (omega arith)), λ _. refl))

@@ -18,9 +18,9 @@ use Rattle.bac6_text.specs.Figure.{Bone}
 use Rattle.bac6_text.specs.Rules.{entriesFine, verticesFault, ownerFrom, ownerOf}
 use Rattle.table_references.specs.References.{isRow, isNone, sameNumber, member}
 use Rattle.bac6_text.specs.Layout.{ownersFrom}
-use Rattle.bac6_bone_rules.specs.Internal.Claims.{isFree, afterClaim, claimedOne, claimed, faultAt, afterBone, claimedBone, claimedBones}
+use Rattle.bac6_owners.specs.Internal.Claims.{isFree, afterClaim, claimedOne, claimed, faultAt, afterBone, claimedBone, claimedBones}
 use Rattle.bac6_text.proofs.Parents.{fault-not-clear}
-use Rattle.bac6_bone_rules.proofs.Owners.{row-below, claim-free, claim-taken}
+use Rattle.bac6_owners.proofs.Owners.{row-below, claim-free, claim-taken}
 
 -- ---- entry by entry
 

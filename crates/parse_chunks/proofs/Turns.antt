@@ -20,10 +20,10 @@ use Rattle.parse_spec.proofs.Binds.{after-after}
 use Rattle.parse_cursor.proofs.Counts.{alive}
 use Rattle.parse_spec.proofs.FieldFlags.{flags-length, flag-unread, flag-read, flags-set, complete-seen}
 use Rattle.parse_cursor.proofs.Steps.{from-on, from-same, from-bind, reads-on, after-reads}
 use Rattle.parse_words.specs.Internal.Words.{words, indexIn, keysOf, apart}
-use Rattle.parse_words.specs.Internal.Heads.{keyIn, headIn, Reached}
+use Rattle.parse_chunks.specs.Internal.Heads.{keyIn, headIn, Reached}
 use Rattle.parse_words.proofs.Vocabulary.{hits-index, index-plain, keysOf-length}
-use Rattle.parse_words.proofs.Heads.{unmet-past, unmet-set, unmet-yes, key-yes, key-no, head-close, head-early, head-full, head-other, head-open, head-left, head-clear}
+use Rattle.parse_chunks.proofs.Heads.{unmet-past, unmet-set, unmet-yes, key-yes, key-no, head-close, head-early, head-full, head-other, head-open, head-left, head-clear}
 
 -- the keywords of some kinds as one text, no two of them the same, and which kinds must stand
 pub record Listed {A : Type 0} (ks : List (Kind A)) (list : List ℕ) (needed : List Bool) : Type 0 where

@@ -20,8 +20,8 @@ use Rattle.parse_spec.specs.Internal.Fields.{coversAll}
 use Rattle.parse_spec.proofs.Choices.{after-stop}
 use Rattle.parse_cursor.proofs.Steps.{from-on, from-off, reads-on, next-token, next-stop, next-rest, live}
 use Rattle.parse_spec.proofs.Many.{got-value, stop-not}
 use Rattle.parse_words.specs.Internal.Words.{indexIn}
-use Rattle.parse_words.specs.Internal.Heads.{unmet, keyIn, openIn, headIn}
+use Rattle.parse_chunks.specs.Internal.Heads.{unmet, keyIn, openIn, headIn}
 
 -- ---- a keyword whose flag is clear
 

@@ -12,11 +12,11 @@ use mir.Syntax.{w64}
 use mir.Val.{toZ, ofZ}
 use mir.Facts.{toZ-ofZ, fits-natAbs}
 use Rattle.table_references.specs.References.{isRow, isNone}
-use Rattle.bac6_bone_rules.specs.Internal.Claims.{isFree}
+use Rattle.bac6_owners.specs.Internal.Claims.{isFree}
 use Rattle.text_numbers.proofs.Tests.{tested, passed, failed}
-use Rattle.bac6_bone_rules.proofs.Owners.{free-tests, claim-free, claim-taken, row-natural, row-below, row-bits}
-use Rattle.bac6_bone_rules.proofs.owner.claim_row.Statement.{statement}
-use Rattle.bac6_bone_rules.proofs.owner.claim_row.Tie as tie
+use Rattle.bac6_owners.proofs.Owners.{free-tests, claim-free, claim-taken, row-natural, row-below, row-bits}
+use Rattle.bac6_owners.proofs.owner.claim_row.Statement.{statement}
+use Rattle.bac6_owners.proofs.owner.claim_row.Tie as tie
 
 -- what each call says
 in-points : (c : tie.After-is-row) → c .is-row .result ≡ isRow (c .before .args .points) (c .before .args .z)

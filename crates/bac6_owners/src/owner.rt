@@ -1,6 +1,6 @@
 // Rule 11: an entry names a vertex that no earlier entry has named.
 ghost use mathlib.Core.Path.{_≡_};
-ghost use Rattle.bac6_bone_rules.specs.Internal.Claims.{isFree, afterClaim};
+ghost use Rattle.bac6_owners.specs.Internal.Claims.{isFree, afterClaim};
 use table_columns::VertexRow;
 use table_references::is_none;
 use table_references::is_row;

@@ -5,9 +5,9 @@ use mir.Facts.{toZ-ofZ}
 use mir.Syntax.{w64}
 use denote.Ref.{now}
 use lib.IntN.{ℤ}
-use Rattle.bac6_bone_rules.specs.Internal.Claims.{isFree, afterClaim}
-use Rattle.bac6_bone_rules.proofs.owner.claim.Statement.{statement}
-use Rattle.bac6_bone_rules.proofs.owner.claim.Tie as tie
+use Rattle.bac6_owners.specs.Internal.Claims.{isFree, afterClaim}
+use Rattle.bac6_owners.proofs.owner.claim.Statement.{statement}
+use Rattle.bac6_owners.proofs.owner.claim.Tie as tie
 
 claim-row-requires : tie.Need-claim-row-requires
 claim-row-requires c κs = search needs

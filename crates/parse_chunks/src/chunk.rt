@@ -5,10 +5,10 @@ ghost use lib.ListN.{length, set};
 ghost use Rattle.text_tokens.specs.Tokens.{lexAt};
 ghost use Rattle.parse_cursor.specs.Internal.Cursors.{reads, from};
 ghost use Rattle.parse_spec.specs.Internal.Fields.{coversAll};
-ghost use Rattle.parse_words.specs.Internal.Heads.{keyIn, headIn};
+ghost use Rattle.parse_chunks.specs.Internal.Heads.{keyIn, headIn};
 ghost use Rattle.parse_words.specs.Internal.Words.{words};
-use crate::words::word_index;
 use parse_cursor::Cursor;
+use parse_words::word_index;
 
 // A cursor past a chunk's keyword, and the keyword's row; or past the closing bracket or refused, and the number of flags.
 pub struct Chunk {

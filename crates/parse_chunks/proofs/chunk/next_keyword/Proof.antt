@@ -6,9 +6,9 @@ use borrow.Author.Tests.{not-true, not-false}
 use lib.Seq.{set-out}
 use Rattle.text_tokens.specs.Tokens.{lexeme}
 use Rattle.text_tokens.specs.Internal.Answers.{lexemeOf}
-use Rattle.parse_words.proofs.Heads.{unmet-other, unmet-past, unmet-set, unmet-yes, word-no, word-yes}
-use Rattle.parse_words.proofs.chunk.next_keyword.Statement.{statement}
-use Rattle.parse_words.proofs.chunk.next_keyword.Tie as tie
+use Rattle.parse_chunks.proofs.Heads.{unmet-other, unmet-past, unmet-set, unmet-yes, word-no, word-yes}
+use Rattle.parse_chunks.proofs.chunk.next_keyword.Statement.{statement}
+use Rattle.parse_chunks.proofs.chunk.next_keyword.Tie as tie
 
 next-requires : tie.Need-next-requires
 next-requires c κs = search needs

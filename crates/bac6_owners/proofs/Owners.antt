@@ -12,7 +12,7 @@ use mir.Syntax.{w64}
 use mir.Val.{SFits, toZ, ofZ}
 use mir.Facts.{toZ-ofZ}
 use Rattle.table_references.specs.References.{isRow, isNone}
-use Rattle.bac6_bone_rules.specs.Internal.Claims.{isFree, afterClaim}
+use Rattle.bac6_owners.specs.Internal.Claims.{isFree, afterClaim}
 use Rattle.text_numbers.proofs.Tests.{and3}
 
 -- a row is a natural number below the count

@@ -7,9 +7,9 @@ use borrow.Author.Needs.{needs}
 use borrow.Author.Tests.{not-true, not-false}
 use lib.ListN.{length, drop}
 use Rattle.parse_spec.specs.Internal.Fields.{coversAll}
-use Rattle.parse_words.proofs.Stored.{covers-end, covers-past, covers-missing, covers-set, covers-free}
-use Rattle.parse_words.proofs.chunk.covers.Statement.{statement}
-use Rattle.parse_words.proofs.chunk.covers.Tie as tie
+use Rattle.parse_chunks.proofs.Stored.{covers-end, covers-past, covers-missing, covers-set, covers-free}
+use Rattle.parse_chunks.proofs.chunk.covers.Statement.{statement}
+use Rattle.parse_chunks.proofs.chunk.covers.Tie as tie
 
 abbrev Inv-loop : tie.InvT-loop
 Inv-loop needed seen i₀ i = coversAll needed seen ≡ coversAll (drop i needed) (drop i seen)
