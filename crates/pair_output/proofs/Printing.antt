@@ -32,7 +32,8 @@ use Rattle.pair_input.specs.declared.division.Division.{Division}
 use Rattle.pair_input.specs.declared.division.Division.the-variants as division
 use Rattle.pair_listing.specs.Lines.{replyLine, labelParts}
 use Rattle.pair_listing.proofs.Replies.{reply-most}
-use Rattle.pair_output.specs.Printing.{pairLines, labelsIn, textsLines, dividedLines, inputLines, inputText}
+use Rattle.label_listing.specs.Lines.{labelsIn}
+use Rattle.pair_output.specs.Printing.{pairLines, textsLines, dividedLines, inputLines, inputText}
 use Rattle.bac6_text.specs.Rules.{figureCounts}
 
 lines-same : (f g : ℕ → List (List ℕ)) → ((i : ℕ) → f i ≡ g i) → (at k : ℕ) → linesFrom f at k ≡ linesFrom g at k

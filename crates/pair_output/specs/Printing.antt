@@ -1,7 +1,6 @@
 -- What the program `pair` prints of an input, from the two texts alone.
 use mathlib.Core.List.{List, [], _∷_}
 use Prim.Native.Nat.{ℕ}
-use lib.IntN.{ℤ}
 use lib.ListN.{length}
 use Rattle.text_runs.specs.Runs.{part}
 use Rattle.report_lists.specs.Lists.{textOf}
@@ -9,9 +8,7 @@ use Rattle.bac6_text.specs.Figure.{Figure}
 use Rattle.bac6_text.specs.Layout as figures
 use Rattle.tra4_text.specs.Movement.{Movement}
 use Rattle.tra4_text.specs.Layout as movements
-use Rattle.table_counts.specs.declared.counts.FigureCounts.{FigureCounts}
-use Rattle.table_counts.specs.declared.counts.MovementCounts.{MovementCounts}
-use Rattle.player_label.specs.Labels.{orEmpty, labelIn}
+use Rattle.player_label.specs.Labels.{orEmpty}
 use Rattle.report_lists.specs.Parts.{linesFrom}
 use Rattle.pair_text.specs.Answer.{Loaded, refused, loaded, pairAnswer}
 use Rattle.pair_bridge.specs.Playing.{labelAsked}
@@ -39,9 +36,3 @@ inputLines text more = dividedLines text (input.divided text more)
 
 unfoldable pub inputText : List ℕ → ℕ → List ℕ
 inputText text more = textOf (inputLines text more)
-
--- ---- on tables
-
--- each bone's label by any tables and counts
-unfoldable pub labelsIn : List ℕ → FigureCounts → List ℤ → List ℕ → MovementCounts → List ℤ → List (List ℕ)
-labelsIn figure n table movement m moves = linesFrom (λ bone. labelParts bone (orEmpty (labelIn figure n table movement m moves bone))) 0 (n .bones)

@@ -1,43 +1,15 @@
 // What is printed of an input that is to be a pair, as text into a lent buffer.
 ghost use mathlib.Core.Path.{_≡_};
-ghost use Prim.Native.Nat.{_*_, _≤_};
+ghost use Prim.Native.Nat.{_≤_};
 ghost use lib.ListN.{length, take};
 ghost use Rattle.io.specs.Counts.{Counts};
 ghost use Rattle.report_text.specs.Output.{output};
 ghost use Rattle.report_lists.specs.Lists.{appendedEach, textOf};
-ghost use Rattle.pair_output.specs.Printing.{labelsIn, textsLines, inputLines, inputText};
+ghost use Rattle.pair_output.specs.Printing.{textsLines, inputLines, inputText};
+use label_listing::append_labels;
 use pair_input::Division;
 use pair_input::divide;
-use pair_listing::append_label;
 use pair_listing::list_reply;
-use player_label::label;
-use table_counts::FigureCounts;
-use table_counts::MovementCounts;
-
-// Puts each bone's label after the first filled bytes of buf.
-fn append_labels<'a>(
-    buf: &mut [u8],
-    filled: usize,
-    figure: &'a [u8],
-    table: &[i64],
-    n: FigureCounts,
-    movement: &'a [u8],
-    moves: &[i64],
-    m: MovementCounts,
-) -> usize
-    ensures lines { λ r. ⌜ output r (now (buf .exit)) ≡ appendedEach (output filled (now (buf .entry))) (labelsIn (now (figure .entry)) n (now (table .entry)) (now (movement .entry)) m (now (moves .entry))) ⌝ }
-    ensures most { λ r. ⌜ length (textOf (labelsIn (now (figure .entry)) n (now (table .entry)) (now (movement .entry)) m (now (moves .entry)))) ≤ n .bones * 283 ⌝ }
-{
-    let mut at = filled;
-    let mut bone = 0;
-    let bones = n.bones;
-    while bone < bones {
-        let name = label(figure, table, n, movement, moves, m, bone);
-        at = append_label(buf, at, bone, name);
-        bone += 1;
-    }
-    at
-}
 
 // Loads two texts as a pair, and puts the reply and each bone's label at the start of buf.
 fn list_texts<'a>(buf: &mut [u8], figure: &'a [u8], movement: &'a [u8]) -> usize

@@ -16,10 +16,10 @@ use Rattle.player_label.specs.Labels.{labelIn, orEmpty}
 use Rattle.report_lists.specs.Parts.{linesFrom}
 use Rattle.report_lists.proofs.Turns.{turn-put, turn-short, Short, all-lines, all-short}
 use Rattle.pair_listing.specs.Lines.{labelParts}
-use Rattle.pair_output.specs.Printing.{labelsIn}
-use Rattle.pair_output.proofs.Labels.{label-most, label-put}
-use Rattle.pair_output.proofs.append_labels.Statement.{statement}
-use Rattle.pair_output.proofs.append_labels.Tie as tie
+use Rattle.label_listing.specs.Lines.{labelsIn}
+use Rattle.label_listing.proofs.Labels.{label-most, label-put}
+use Rattle.label_listing.proofs.append_labels.Statement.{statement}
+use Rattle.label_listing.proofs.append_labels.Tie as tie
 
 -- a bone's label
 abbrev Label : List ℕ → FigureCounts → List ℤ → List ℕ → MovementCounts → List ℤ → ℕ → List (List ℕ)
