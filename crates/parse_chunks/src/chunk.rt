@@ -72,7 +72,8 @@ fn next_keyword(text: &[u8], at: usize, list: &[u8], seen: &mut [bool]) -> Chunk
 }
 
 // The head of the next chunk, of which `left` may still open: its bracket and its keyword, whose flag is set. Or the closing bracket
-// after the last chunk, where every flag that is needed is set. There is a flag for each word of the list.
+// after the last chunk, where every flag that is needed is set. Callers have a flag for each word of the list: with fewer, the words past
+// them are refused; with more, another word has the row after the last.
 pub fn next_chunk(
     text: &[u8],
     c: Cursor,

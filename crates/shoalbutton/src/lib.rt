@@ -1,5 +1,6 @@
-// Every call of the reader and player, with all that is promised of it. Demands 2 and 3 are stated in specs/Demands.antt, the cases that
-// document 01 marks in specs/Marked.antt.
+// The calls of the reader and player that document 01 names, with all that is promised of each; at the end those that load a pair and then
+// play it, whose contracts stand in their crates. Demands 2 and 3 are stated in specs/Demands.antt, the cases that document 01 marks in
+// specs/Marked.antt.
 ghost use mathlib.Core.Path.{_≡_};
 ghost use lib.ListN.{length};
 ghost use Rattle.bac6_text.specs.Answer.{figureAnswer, tableAfter};
