@@ -94,7 +94,7 @@ fn more_bones(
         count = b.count;
         faulty = b.faulty;
         fault = b.fault;
-        i = table_rows::advance(i, BONE_WIDTH, table.len());
+        i = table_index::advance(i, BONE_WIDTH, table.len());
     }
 }
 

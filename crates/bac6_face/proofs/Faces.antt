@@ -6,7 +6,7 @@ use native.Mathlib.Omega.{arith}
 use mir.Syntax.{w64}
 use mir.Val.{SFits, toZ, ofZ}
 use mir.Facts.{toZ-ofZ}
-use Rattle.text_numbers.proofs.Signed.{bits-pos}
+use Rattle.signed.proofs.Signed.{bits-pos}
 use lib.IntN.{ℤ, pos, negsuc}
 use lib.ListN.{length}
 use Rattle.text_numbers.specs.Numbers.{INT}

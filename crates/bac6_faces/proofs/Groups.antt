@@ -14,7 +14,7 @@ use Rattle.parse_cursor.specs.Internal.Cursors.{reads, from}
 use Rattle.table_rows.specs.Internal.Overlay.{overlayAt}
 use Rattle.parse_spec.specs.Internal.Places.{placeOf, optionalName}
 use Rattle.parse_rows.specs.Internal.Folds.{folded, stepped, rowStep}
-use Rattle.text_numbers.proofs.Signed.{bits-pos}
+use Rattle.signed.proofs.Signed.{bits-pos}
 use Rattle.table_rows.proofs.Tables.{overlayAt-same}
 use Rattle.parse_cursor.proofs.Steps.{join, seq, reads-same, from-same}
 use Rattle.parse_spec.proofs.Binds.{after-after, after-same, then-assoc, then-bind}

@@ -21,7 +21,7 @@ pub fn polygons(text: &[u8], c: Cursor, faces: &mut [i64], names: &mut [i64]) ->
     );
     let d = f.cursor;
     let count = f.count;
-    let start = parse_names::trailing(text, d, b"DynamicPolygons");
+    let start = parse_optional::trailing(text, d, b"DynamicPolygons");
     let e = start.cursor;
     if start.present {
         return group_list(text, e, faces, count, names);

@@ -10,7 +10,7 @@ use table_counts::NORMAL_WIDTH;
 use table_counts::POINT_WIDTH;
 use table_counts::TEXTURE_WIDTH;
 use table_counts::UV_WIDTH;
-use table_rows::rows_end;
+use table_index::rows_end;
 
 // The index after each list's rows, or the table's end.
 pub struct Ends {

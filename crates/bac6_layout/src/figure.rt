@@ -8,8 +8,8 @@ ghost use Rattle.bac6_layout.specs.Internal.Numbers.{sumOf, numbersOf};
 use crate::ends::Ends;
 use crate::ends::row_ends;
 use table_counts::FigureCounts;
+use table_index::rows_end;
 use table_rows::put;
-use table_rows::rows_end;
 
 // Lists of so many numbers that stand one after the other in `rows` from an index on, laid one by one; gives the index after them.
 fn put_lists(table: &mut [i64], at: usize, rows: &[i64], begin: usize, sizes: &[usize]) -> usize

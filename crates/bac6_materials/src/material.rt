@@ -120,6 +120,6 @@ fn more_materials(text: &[u8], c: Cursor, out: &mut [i64]) -> Counted
             return Counted { cursor: d, count };
         }
         count += 1;
-        i = table_rows::advance(i, MATERIAL_WIDTH, out.len());
+        i = table_index::advance(i, MATERIAL_WIDTH, out.len());
     }
 }

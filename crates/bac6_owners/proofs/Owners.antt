@@ -13,7 +13,7 @@ use mir.Val.{SFits, toZ, ofZ}
 use mir.Facts.{toZ-ofZ}
 use Rattle.table_references.specs.References.{isRow, isNone}
 use Rattle.bac6_owners.specs.Internal.Claims.{isFree, afterClaim}
-use Rattle.text_numbers.proofs.Tests.{and3}
+use Rattle.signed.proofs.Tests.{and3}
 
 -- a row is a natural number below the count
 pub row-natural : (n : ℕ) (z : ℤ) → isRow n z ≡ true → z ≡ pos (natAbs z)

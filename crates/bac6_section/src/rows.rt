@@ -26,7 +26,7 @@ pub fn with_end(k: Counted, at: usize, width: usize, n: usize) -> Listed
     Listed {
         cursor,
         count,
-        end: table_rows::rows_end(at, count, width, n),
+        end: table_index::rows_end(at, count, width, n),
     }
 }
 
@@ -45,7 +45,7 @@ pub fn section(
     ensures content { λ r. ⌜ reads (now (text .entry)) (r .cursor) (r .count, (r .end, now (out .exit))) ≡ from (now (text .entry)) c (listInto width (sectionOf (now (name .entry)) (now (word .entry)) (formNamed form) width) (at, now (out .entry))) ⌝ }
     ensures within { λ r. ⌜ r .end ≤ length (now (out .exit)) ⌝ }
 {
-    let s = parse_names::optional(text, c, name);
+    let s = parse_optional::optional(text, c, name);
     let d = s.cursor;
     if s.present {
         let k = parse_lists::rows(text, d, word, 0, form, width, out, at);

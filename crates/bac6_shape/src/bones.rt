@@ -38,6 +38,6 @@ pub(crate) fn read_bones(
         count,
         faulty: b.faulty,
         fault: b.fault,
-        end: table_rows::rows_end(at, count, BONE_WIDTH, rows.len()),
+        end: table_index::rows_end(at, count, BONE_WIDTH, rows.len()),
     }
 }

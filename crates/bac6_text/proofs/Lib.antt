@@ -1,6 +1,7 @@
 -- Laws that belong to no one function.
 pub mod Examples
-pub mod Whole
+pub mod FirstBad
 pub mod Names
-pub mod Rows
 pub mod Parents
+pub mod Rows
+pub mod Whole

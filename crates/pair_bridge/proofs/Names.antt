@@ -29,7 +29,7 @@ use Rattle.movement_bridge.proofs.Names as movement
 use Rattle.figure_bridge.proofs.Parts.{counts}
 use Rattle.figure_bridge.proofs.Corners.{figure-holds}
 use Rattle.figure_bridge.proofs.Names as figure
-use Rattle.pair_bridge.specs.Names.{namesFrom, allNamed, namesIn}
+use Rattle.player_label.specs.BoneNames.{namesFrom, allNamed, namesIn}
 
 -- a pair that says where a name stands is that name
 pub name-read : (text : List ℕ) (p l : ℤ) (n : Name) → StringAt text (n .at) (n .bytes) → p ≡ pos (n .at) → l ≡ pos (length (n .bytes)) → partAt text (nameSpan (length text) p l) ≡ some (n .bytes)

@@ -8,6 +8,7 @@ ghost use Rattle.pair_corners.specs.Answers.{cornerTold};
 use pair_load::load;
 use player_corners::Cornered;
 
+// A refusal's number, place and file, and a refused value; or zeros and the value.
 pub struct PlayedCorner {
     pub refusal: usize,
     pub place: usize,
@@ -39,6 +40,7 @@ fn corner_number(value: Cornered) -> usize
     }
 }
 
+// A corner of a face, of the pair that two texts are.
 pub fn played_corner(
     figure: &[u8],
     movement: &[u8],

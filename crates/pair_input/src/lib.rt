@@ -1,10 +1,5 @@
-// A pair on standard input: eight digits giving the figure's length, a line feed, the figure, and then the movement.
-mod division;
+// An input that may be longer than the buffer lent for it.
 mod reading;
 
-pub use division::Division;
-pub use division::Head;
-pub use division::divide;
-pub use division::parse_head;
 pub use reading::Input;
 pub use reading::read_input;

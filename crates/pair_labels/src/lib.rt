@@ -5,8 +5,9 @@ ghost use Rattle.pair_bridge.specs.Playing.{labelAsked};
 ghost use Rattle.pair_laws.specs.Playing.{played};
 ghost use Rattle.pair_labels.specs.Answers.{refusalOf, bytesOf};
 use pair_load::load;
-use text_runs::part;
+use text_parts::part;
 
+// A refusal's number, place and file; zeros for none.
 pub struct Refusal {
     pub number: usize,
     pub place: usize,
@@ -34,7 +35,7 @@ pub fn played_label<'a>(
     player_label::label(figure, table, n, movement, moves, m, bone)
 }
 
-// Its number, place and file.
+// The number, place and file of that.
 pub fn played_label_number(
     figure: &[u8],
     movement: &[u8],

@@ -25,7 +25,7 @@ use Rattle.table_counts.specs.declared.counts.FigureCounts.{FigureCounts}
 use Rattle.movement_bridge.specs.Counts as moving
 use Rattle.pair_text.specs.Answer.{Loaded, refused, loaded, withMovement, withFigure, paired, pairAnswer, movementOf, figureLeft, movementLeft}
 use Rattle.pair_load.specs.declared.pair.PairAnswer.{PairAnswer}
-use Rattle.pair_bridge.specs.Names.{namesIn}
+use Rattle.player_label.specs.BoneNames.{namesIn}
 use Rattle.pair_bridge.proofs.Names.{figure-names-in}
 use Rattle.pair_load.specs.Answers.{pairReply}
 use Rattle.pair_movement.specs.Moved.{withNames, movedAnswer, movedReply}

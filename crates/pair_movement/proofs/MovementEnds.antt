@@ -22,7 +22,7 @@ use Rattle.movement_bridge.proofs.Tables.{countsRead, whole-read, table-read, p
 use Rattle.movement_bridge.proofs.Names.{boneName}
 use Rattle.pair_text.specs.Rules.{pairFault}
 use Rattle.pair_text.specs.Answer.{Loaded, refused, loaded, ifPaired, withMovement, movementLeft}
-use Rattle.pair_bridge.specs.Names.{namesFrom, allNamed, namesIn}
+use Rattle.player_label.specs.BoneNames.{namesFrom, allNamed, namesIn}
 use Rattle.pair_bridge.proofs.Names.{names-length, movement-names-in}
 use Rattle.pair_movement.specs.Moved.{withNames, movedAnswer, movedReply}
 use Rattle.pair_rules.specs.Internal.Tables.{rowsFault}

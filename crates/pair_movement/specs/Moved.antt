@@ -11,7 +11,7 @@ use Rattle.tra4.specs.Answers as tra4
 use Rattle.tra4.specs.declared.setting.MovementAnswer.{MovementAnswer}
 use Rattle.table_counts.specs.declared.counts.FigureCounts.{FigureCounts}
 use Rattle.pair_text.specs.Answer.{Loaded, refused, loaded, withMovement}
-use Rattle.pair_bridge.specs.Names.{namesIn}
+use Rattle.player_label.specs.BoneNames.{namesIn}
 use Rattle.table_counts.specs.Counts.{noMovement}
 
 -- 21 where the figure's counts, table or bone names break a rule

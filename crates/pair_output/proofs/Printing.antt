@@ -26,10 +26,10 @@ use Rattle.table_counts.specs.Counts.{noFigure}
 use Rattle.pair_load.specs.declared.pair.PairAnswer.{PairAnswer}
 use Rattle.pair_laws.proofs.Parts.{parts-taken}
 use Rattle.pair_laws.proofs.Loaded.{every-label}
-use Rattle.pair_input.specs.Division.{divided}
-use Rattle.pair_input.specs.Answers.{divisionNamed}
-use Rattle.pair_input.specs.declared.division.Division.{Division}
-use Rattle.pair_input.specs.declared.division.Division.the-variants as division
+use Rattle.pair_head.specs.Division.{divided}
+use Rattle.pair_head.specs.Answers.{divisionNamed}
+use Rattle.pair_head.specs.declared.division.Division.{Division}
+use Rattle.pair_head.specs.declared.division.Division.the-variants as division
 use Rattle.pair_listing.specs.Lines.{replyLine, labelParts}
 use Rattle.pair_listing.proofs.Replies.{reply-most}
 use Rattle.label_listing.specs.Lines.{labelsIn}

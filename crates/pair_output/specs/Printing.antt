@@ -12,7 +12,7 @@ use Rattle.player_label.specs.Labels.{orEmpty}
 use Rattle.report_lists.specs.Parts.{linesFrom}
 use Rattle.pair_text.specs.Answer.{Loaded, refused, loaded, pairAnswer}
 use Rattle.pair_bridge.specs.Playing.{labelAsked}
-use Rattle.pair_input.specs.Division as input
+use Rattle.pair_head.specs.Division as input
 use Rattle.pair_listing.specs.Lines.{replyLine, labelParts}
 
 -- a refusal; or the totals, and each bone's label

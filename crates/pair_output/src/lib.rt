@@ -7,8 +7,8 @@ ghost use Rattle.report_text.specs.Output.{output};
 ghost use Rattle.report_lists.specs.Lists.{appendedEach, textOf};
 ghost use Rattle.pair_output.specs.Printing.{textsLines, inputLines, inputText};
 use label_listing::append_labels;
-use pair_input::Division;
-use pair_input::divide;
+use pair_head::Division;
+use pair_head::divide;
 use pair_listing::list_reply;
 
 // Loads two texts as a pair, and puts the reply and each bone's label at the start of buf.
@@ -42,8 +42,8 @@ pub fn list_input(buf: &mut [u8], text: &[u8], more: usize) -> usize
         Division::Refused(number) => list_reply(buf, number, 0, 0, 0, 0),
         Division::Figure(end) => list_texts(
             buf,
-            text_runs::part(text, 9, end),
-            text_runs::part(text, end, text.len()),
+            text_parts::part(text, 9, end),
+            text_parts::part(text, end, text.len()),
         ),
     }
 }

@@ -17,7 +17,7 @@ use Rattle.table_movement.specs.Sections.{holdsMovement}
 use Rattle.player_spec.specs.Lookups.{onlyIf}
 use Rattle.player_names.specs.Names.{partAt, figureSpan, figureName, movementName, ifTrue, figureNamed, movementNamed}
 use Rattle.pair_text.specs.Rules.{namesAgree}
-use Rattle.pair_bridge.specs.Names.{allNamed, namesIn}
+use Rattle.player_label.specs.BoneNames.{allNamed, namesIn}
 
 part-some : (text : List ℕ) (s : Option (ℕ × ℕ)) → isSome s ≡ isSome (partAt text s)
 unfolding isSome partAt

@@ -17,7 +17,7 @@ use Rattle.table_columns.specs.Parts.{rowsAt}
 use Rattle.table_columns.proofs.Parts.{part-rows}
 use Rattle.player_names.specs.Names.{figureName, movementName}
 use Rattle.pair_text.specs.Rules.{bonesFault, namesFault, groupsFault}
-use Rattle.pair_bridge.specs.Names.{namesFrom}
+use Rattle.player_label.specs.BoneNames.{namesFrom}
 use Rattle.pair_rules.specs.Internal.Tables.{rowsFault, tablesFault}
 
 module _ (figure : List ℕ) (n : FigureCounts) (table : List ℤ) (movement : List ℕ) (m : MovementCounts) (moves : List ℤ) where

@@ -18,7 +18,7 @@ use Rattle.tra4_text.specs.Movement.{Pattern, groupOf}
 use Rattle.table_columns.specs.Parts.{numbersAt, rowsAt}
 use Rattle.player_label.specs.Labels.{orEmpty}
 use Rattle.pair_text.specs.Rules.{namesAgree, namesFault, groupsFault}
-use Rattle.pair_bridge.specs.Names.{namesFrom, allNamed}
+use Rattle.player_label.specs.BoneNames.{namesFrom, allNamed}
 
 -- a row is left
 next-left : (n row : ℕ) → row < n → n - row ≡ suc (n - suc row)

@@ -11,15 +11,15 @@ ghost use Rattle.player_names.specs.Internal.Answers.{found};
 ghost use Rattle.player_names.specs.Names.{partAt, figureNamed, figureName, movementName};
 ghost use Rattle.player_label.specs.Labels.{orEmpty};
 ghost use Rattle.pair_text.specs.Rules.{namesAgree, namesFault};
-ghost use Rattle.pair_bridge.specs.Names.{namesFrom, namesIn};
+ghost use Rattle.player_label.specs.BoneNames.{namesFrom, namesIn};
 use player_names::Found;
 use player_names::figure_name;
 use player_names::movement_name;
 use refusal::Checked;
 use table_counts::FigureCounts;
 use table_counts::MovementCounts;
-use text_runs::part;
-use text_runs::same;
+use text_parts::part;
+use text_parts::same;
 
 fn has_name(figure: &[u8], table: &[i64], n: FigureCounts, row: usize) -> bool
     ensures { λ r. ⌜ r ≡ isSome (figureNamed (length (now (figure .entry))) n (now (table .entry)) row) ⌝ }

@@ -28,6 +28,7 @@ fn sample_number(value: Sampled) -> usize
     }
 }
 
+// A channel of a bone at a frame, of the pair that two texts are.
 pub fn played_sample(
     figure: &[u8],
     movement: &[u8],

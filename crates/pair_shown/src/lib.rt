@@ -8,6 +8,7 @@ ghost use Rattle.pair_shown.specs.Answers.{shownTold};
 use pair_load::load;
 use player_shown::Visibility;
 
+// A refusal's number, place and file, and a refused value; or zeros and the value.
 pub struct PlayedShown {
     pub refusal: usize,
     pub place: usize,
@@ -25,6 +26,7 @@ fn shown_number(value: Visibility) -> usize
     }
 }
 
+// Whether a face is shown at a frame, of the pair that two texts are.
 pub fn played_shown(
     figure: &[u8],
     movement: &[u8],

@@ -5,9 +5,9 @@ ghost use Prim.Native.Nat.{_<_, _≤_};
 ghost use lib.ListN.{length};
 use libc::STDIN_FILENO;
 use libc::STDOUT_FILENO;
-use pair_input::Head;
+use pair_head::Head;
+use text_parts::part;
 use text_runs::Run;
-use text_runs::part;
 
 fn tell(label: &[u8], input: &[u8], more: usize) {
     let mut out = [0u8; 36295];
@@ -21,7 +21,7 @@ fn tell(label: &[u8], input: &[u8], more: usize) {
 fn number(bytes: &[u8]) -> usize
     ensures { λ r. ⌜ r < 100000000 ⌝ }
 {
-    match pair_input::parse_head(bytes) {
+    match pair_head::parse_head(bytes) {
         Head::Length(n) => n,
         Head::Wrong => 0,
     }

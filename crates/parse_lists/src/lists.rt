@@ -9,7 +9,7 @@ use parse_numbers::Form;
 use parse_numbers::next_item;
 use parse_rows::row;
 use parse_rows::row_tail;
-use table_rows::advance;
+use table_index::advance;
 
 // How many rows were read, and a cursor past the list; where the cursor has refused, the count is free.
 pub struct Counted {

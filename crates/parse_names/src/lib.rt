@@ -1,10 +1,6 @@
-// Names, and chunks that may be left out.
+// Names, and chunks of a name that may be left out.
 mod naming;
-mod optionals;
 
 pub use naming::Named;
 pub use naming::name;
 pub use naming::optional_name;
-pub use optionals::Start;
-pub use optionals::optional;
-pub use optionals::trailing;

@@ -2,9 +2,9 @@
 ghost use mathlib.Core.Path.{_≡_};
 ghost use Rattle.parse_cursor.specs.Internal.Cursors.{reads, from};
 ghost use Rattle.parse_spec.specs.Internal.Places.{stringOf, nameOf, optionalName};
-use crate::optionals::optional;
 use parse_cursor::Cursor;
 use parse_cursor::closing;
+use parse_optional::optional;
 use text_kinds::is_quoted;
 
 // A cursor past a name, the offset of its first byte and its length; where the cursor has refused, both are free.

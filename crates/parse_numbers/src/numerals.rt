@@ -39,7 +39,7 @@ fn token_number(text: &[u8], t: Span, form: Form) -> Parsed
 {
     let kind = t.kind;
     match kind {
-        Kind::Plain => parsed(text_runs::part(text, t.start, t.end), form),
+        Kind::Plain => parsed(text_parts::part(text, t.start, t.end), form),
         Kind::Opening => Parsed::Malformed,
         Kind::Closing => Parsed::Malformed,
         Kind::Quoted => Parsed::Malformed,

@@ -10,7 +10,7 @@ use parse_cursor::keyword;
 use parse_cursor::opening;
 use parse_numbers::Form;
 use parse_numbers::number;
-use table_rows::advance;
+use table_index::advance;
 
 // `width` numbers, to the table from index `at` on; those past its end are dropped.
 // Where the cursor has refused, the table's numbers from that index on are free; those before it always stay.

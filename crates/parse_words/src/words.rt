@@ -17,7 +17,7 @@ pub fn word_index(text: &[u8], t: Span, list: &[u8]) -> usize
     let mut start = 0;
     loop {
         let end = text_runs::run_end(list, start, Run::Word);
-        if text_tokens::is_keyword(text, t, text_runs::part(list, start, end)) {
+        if text_tokens::is_keyword(text, t, text_parts::part(list, start, end)) {
             return row;
         }
         row += 1;

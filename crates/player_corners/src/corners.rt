@@ -87,6 +87,7 @@ fn row_corner(table: &[i64], n: FigureCounts, s: FigureSections, row: &[i64], k:
     }
 }
 
+// A corner of a face, in any table with any counts.
 pub fn corner(table: &[i64], n: FigureCounts, face: usize, k: usize) -> Cornered
     ensures { λ r. ⌜ cornered r ≡ numbered (cornerIn n (now (table .entry)) face k) ⌝ }
 {

@@ -13,8 +13,8 @@ use mir.Syntax.{w64}
 use mir.Val.{SFits, ofZ}
 use Rattle.table_references.specs.References.{isRow}
 use Rattle.text_numbers.proofs.Numerals.{and-true}
-use Rattle.text_numbers.proofs.Signed.{from-zero}
-use Rattle.text_numbers.proofs.Tests.{most-above}
+use Rattle.signed.proofs.Signed.{from-zero}
+use Rattle.signed.proofs.Tests.{most-above}
 use Rattle.tra4_text.specs.Movement.{frameOf, groupOf}
 use Rattle.tra4_text.specs.Rules.{isFrame, neverFalls, patternFine}
 use Rattle.player_spec.specs.Faces.{applies, flagOf}

@@ -1,2 +1,3 @@
+pub mod BoneNames
 pub mod Labels
 pub mod Internal

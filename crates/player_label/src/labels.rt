@@ -8,7 +8,7 @@ use player_names::figure_name;
 use player_names::movement_name;
 use table_counts::FigureCounts;
 use table_counts::MovementCounts;
-use text_runs::part;
+use text_parts::part;
 
 // Which text holds the name, and from where to where; or refusal 21.
 pub(crate) enum Named {
@@ -47,6 +47,7 @@ fn find(
     Named::Figure { start, end }
 }
 
+// A bone's name: a part of one of the two lent texts, and an empty one at 21.
 pub fn label<'a>(
     figure: &'a [u8],
     table: &[i64],

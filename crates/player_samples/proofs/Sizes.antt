@@ -10,7 +10,7 @@ use lib.IntN.{ℤ, pos, negsuc, natAbs, subℕ, _+ℤ_, _*ℤ_}
 use mir.Syntax.{w64}
 use mir.Val.{SFits, toZ, ofZ}
 use mir.Facts.{toZ-ofZ}
-use Rattle.text_numbers.proofs.Signed.{pos-fits, neg-fits}
+use Rattle.signed.proofs.Signed.{pos-fits, neg-fits}
 use Rattle.player_samples.proofs.Factors.{natAbs-multiple}
 
 pub size-fits : (z : ℤ) → natAbs z < 2 ^ 63 → SFits w64 z

@@ -9,7 +9,7 @@ use lib.Signed.{mag, ltZ}
 use mir.Syntax.{w64}
 use mir.Val.{SFits, toZ, ofZ}
 use mir.Facts.{toZ-ofZ}
-use Rattle.text_numbers.proofs.Signed.{pos-fits, neg-fits, zero-minus, bits-pos, bits-neg, below-zero, from-zero}
+use Rattle.signed.proofs.Signed.{pos-fits, neg-fits, zero-minus, bits-pos, bits-neg, below-zero, from-zero}
 use Rattle.player_spec.specs.Fractions.{Fraction, factor, signedAs, lowest}
 use Rattle.player_samples.proofs.Factors.{factor-some}
 

@@ -26,7 +26,7 @@ pub(crate) fn lowest(z: i64, d: u64) -> Ratio
     requires { ⌜ (natAbs z < 2 ^ 63) × (0 < d) ⌝ }
     ensures { λ r. ⌜ ratio r ≡ lowestOf z d ⌝ }
 {
-    let size = text_numbers::magnitude(z);
+    let size = signed::magnitude(z);
     let common = factor(size, d);
     let n = size / common;
     if z < 0 {

@@ -26,6 +26,7 @@ const CHANNEL_WIDTH: usize = 2;
 
 const CHANNELS: usize = 10;
 
+// A channel of a bone at a frame, in any table with any counts.
 pub fn sample(table: &[i64], n: MovementCounts, bone: usize, channel: usize, at: usize) -> Sampled
     ensures { λ r. ⌜ sampled r ≡ numbered (sampleIn n (now (table .entry)) bone channel at) ⌝ }
 {

@@ -63,6 +63,7 @@ fn row_shown(
     both(corners, flag)
 }
 
+// Whether a face is shown at a frame, in any tables with any counts.
 pub fn shown(
     table: &[i64],
     n: FigureCounts,

@@ -6,7 +6,7 @@ ghost use Rattle.player_spec.specs.Lookups.{isFloat, isAsked};
 pub fn is_float(z: i64) -> bool
     ensures { λ r. ⌜ r ≡ isFloat z ⌝ }
 {
-    text_numbers::magnitude(z) <= 9999999999999
+    signed::magnitude(z) <= 9999999999999
 }
 
 // Whether the total of frames is sound and the frame lies below it.

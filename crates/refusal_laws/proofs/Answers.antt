@@ -13,7 +13,7 @@ use Rattle.pair_text.specs.Answer.{Loaded, refused, loaded, pairAnswer}
 use Rattle.bac6.specs.Answers as bac6
 use Rattle.tra4.specs.Answers as tra4
 use Rattle.table_counts.specs.declared.counts.FigureCounts.{FigureCounts}
-use Rattle.pair_bridge.specs.Names.{namesIn}
+use Rattle.player_label.specs.BoneNames.{namesIn}
 use Rattle.pair_load.specs.Answers.{pairReply}
 use Rattle.pair_movement.specs.Moved.{withNames, movedAnswer, movedReply}
 use Rattle.refusal_laws.specs.Numbers.{isAmong, Refusal, numbersOf, movedNumbersOf, IsTaken, IsLoaded}

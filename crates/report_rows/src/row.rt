@@ -15,7 +15,7 @@ fn width(z: i64) -> usize
     ensures { λ r. ⌜ r ≡ length (numeral z) ⌝ }
 {
     let mut k = if z < 0 { 2 } else { 1 };
-    let mut rest = text_numbers::magnitude(z);
+    let mut rest = signed::magnitude(z);
     while 10 <= rest {
         rest /= 10;
         k += 1;

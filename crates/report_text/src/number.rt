@@ -10,7 +10,7 @@ pub fn append_number(buf: &mut [u8], n: usize, z: i64) -> usize
     ensures { λ r. ⌜ output r (now (buf .exit)) ≡ appended (output n (now (buf .entry))) (numeral z) ⌝ }
 {
     let mut digits = [0u8; 20];
-    let k = io::decimal(text_numbers::magnitude(z), &mut digits);
+    let k = io::decimal(signed::magnitude(z), &mut digits);
     if z < 0 {
         if !has_room(buf.len(), n, k + 1) {
             return n;

@@ -45,6 +45,6 @@ fn main() {
         return;
     }
     let n = answer.counts;
-    let total = text_numbers::magnitude(table[0]) as usize;
+    let total = signed::magnitude(table[0]) as usize;
     tell_bones(&table, n, total);
 }

@@ -2,7 +2,7 @@
 // is eight decimal digits giving the figure's length, a line feed, the figure, and then the movement.
 use libc::STDIN_FILENO;
 use libc::STDOUT_FILENO;
-use pair_input::Division;
+use pair_head::Division;
 use table_counts::FigureCounts;
 use table_counts::MovementCounts;
 
@@ -45,18 +45,18 @@ fn tell_pair(figure: &[u8], movement: &[u8]) {
         tell_refusal(answer.refusal, answer.place, answer.file);
         return;
     }
-    let total = text_numbers::magnitude(moves[0]) as usize;
+    let total = signed::magnitude(moves[0]) as usize;
     let n = answer.figure;
     let m = answer.movement;
     tell_faces(&table, n, &moves, m, total);
 }
 
 fn tell_text(text: &[u8], more: usize) {
-    match pair_input::divide(text, more) {
+    match pair_head::divide(text, more) {
         Division::Refused(number) => tell_refusal(number, 0, 0),
         Division::Figure(end) => tell_pair(
-            text_runs::part(text, 9, end),
-            text_runs::part(text, end, text.len()),
+            text_parts::part(text, 9, end),
+            text_parts::part(text, end, text.len()),
         ),
     }
 }

@@ -8,7 +8,7 @@ use crate::corner::VertexRow;
 pub fn owner_at(owners: &[i64], v: VertexRow) -> i64
     ensures { λ r. ⌜ r ≡ numberAt (now (owners .entry)) (natAbs (v .0)) ⌝ }
 {
-    let i = text_numbers::magnitude(v.0) as usize;
+    let i = signed::magnitude(v.0) as usize;
     if owners.len() <= i {
         return 0;
     }

@@ -2,13 +2,14 @@
 ghost use mathlib.Core.Path.{_≡_};
 ghost use Rattle.table_counts.specs.Counts.{noFigure, noMovement};
 
+// How many rows each list of a movement has.
 pub struct MovementCounts {
     pub bones: usize,
     pub keys: usize,
     pub patterns: usize,
 }
 
-// Owners are as many as points.
+// How many rows each list of a figure has; owners are as many as points.
 pub struct FigureCounts {
     pub textures: usize,
     pub colours: usize,

@@ -1,8 +1,5 @@
-// Rows of a table: set down, and counted by index.
-mod index;
+// Rows of a table: set down from an index on.
 mod rows;
 
-pub use index::advance;
-pub use index::rows_end;
 pub use rows::put;
 pub use rows::store;

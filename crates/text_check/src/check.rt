@@ -10,10 +10,10 @@ use text_bytes::Class;
 use text_bytes::class_of;
 use text_bytes::is_between;
 use text_bytes::is_blank;
+use text_parts::part;
+use text_parts::same;
 use text_runs::Run;
-use text_runs::part;
 use text_runs::run_end;
-use text_runs::same;
 
 pub enum Format {
     Bac,

@@ -1,4 +1,3 @@
 -- Laws that belong to no one function.
 pub mod Numerals
 pub mod Signed
-pub mod Tests

@@ -4,4 +4,3 @@ mod number;
 pub use number::Parsed;
 pub use number::float;
 pub use number::int;
-pub use number::magnitude;

@@ -2,7 +2,6 @@
 ghost use mathlib.Core.Path.{_≡_};
 ghost use mathlib.Core.Bool.{true};
 ghost use Prim.Native.Nat.{_+_, _-_, _≤_, _<_, _^_};
-ghost use lib.IntN.{natAbs};
 ghost use lib.ListN.{length};
 ghost use Rattle.text_runs.specs.Runs.{part};
 ghost use Rattle.text_numbers.specs.Numbers.{numberOf, INT, FLOAT, floatOf, allDigits, negative, signed, intMost};
@@ -165,16 +164,4 @@ fn with_sign(negative: bool, n: u64) -> i64
 {
     let value = n as i64;
     if negative { 0 - value } else { value }
-}
-
-// How far a number is from zero.
-pub fn magnitude(z: i64) -> u64
-    ensures { λ r. ⌜ r ≡ natAbs z ⌝ }
-{
-    if z < 0 {
-        let below = 0 - (z + 1);
-        below as u64 + 1
-    } else {
-        z as u64
-    }
 }

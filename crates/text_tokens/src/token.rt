@@ -7,10 +7,10 @@ ghost use Rattle.text_tokens.specs.Tokens.{isKeyword};
 ghost use Rattle.text_tokens.specs.Internal.Answers.{Next, lexemeOf};
 use text_bytes::Class;
 use text_bytes::class_of;
+use text_parts::part;
+use text_parts::same;
 use text_runs::Run;
-use text_runs::part;
 use text_runs::run_end;
-use text_runs::same;
 
 pub enum Kind {
     Opening,

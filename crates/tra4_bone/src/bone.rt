@@ -49,7 +49,7 @@ fn set_bone(
     table_rows::store(bone_rows, to, &[place as i64, size as i64]);
     table_rows::store(
         bone_rows,
-        table_rows::advance(to, 2, bone_rows.len()),
+        table_index::advance(to, 2, bone_rows.len()),
         ranges,
     );
     Keyed {

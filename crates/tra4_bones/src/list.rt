@@ -57,7 +57,7 @@ fn more_bones(text: &[u8], first: Boned, bone_rows: &mut [i64], key_rows: &mut [
     let mut over = first.over;
     let mut i = MOVEMENT_BONE_WIDTH;
     loop {
-        let s = parse_names::optional(text, d, b"bone");
+        let s = parse_optional::optional(text, d, b"bone");
         let start = s.cursor;
         let so_far = Boned {
             cursor: start,
@@ -79,7 +79,7 @@ fn more_bones(text: &[u8], first: Boned, bone_rows: &mut [i64], key_rows: &mut [
         count = b.count;
         keys = b.keys;
         over = b.over;
-        i = table_rows::advance(i, MOVEMENT_BONE_WIDTH, bone_rows.len());
+        i = table_index::advance(i, MOVEMENT_BONE_WIDTH, bone_rows.len());
     }
 }
 

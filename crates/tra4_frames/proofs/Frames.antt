@@ -23,7 +23,7 @@ use Rattle.tra4_frames.specs.declared.frame.Timed.the-variants.{Key, Pat
 use Rattle.table_columns.specs.Parts.{rowsOf}
 use Rattle.tra4_frames.specs.Internal.Frames.{widthOf, numberOf, rowFine, beforeOf, follows, frameFits}
 use Rattle.table_columns.proofs.Rows.{rows-more, rows-short, row-part, part-rest}
-use Rattle.text_numbers.proofs.Tests.{most-above}
+use Rattle.signed.proofs.Tests.{most-above}
 
 -- ---- one frame
 

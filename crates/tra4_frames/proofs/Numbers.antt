@@ -6,7 +6,7 @@ use lib.IntN.{ℤ, pos}
 use lib.Signed.{ltZ}
 use mir.Syntax.{w64}
 use mir.Val.{SFits, toZ, ofZ}
-use Rattle.text_numbers.proofs.Tests.{natural}
+use Rattle.signed.proofs.Tests.{natural}
 use Rattle.tra4_text.specs.Rules.{isZero}
 
 -- 0 by its bits

@@ -23,7 +23,7 @@ fn pattern_tail(text: &[u8], c: Cursor, out: &mut [i64], at: usize) -> Cursor
     let n = parse_words::one_of(text, d, b"false true", 2);
     let e = n.cursor;
     let flag = n.value;
-    table_rows::store(out, table_rows::advance(at, 2, out.len()), &[flag]);
+    table_rows::store(out, table_index::advance(at, 2, out.len()), &[flag]);
     parse_cursor::closing(text, e)
 }
 
@@ -48,7 +48,7 @@ fn pattern_list(text: &[u8], c: Cursor, out: &mut [i64]) -> Counted
             return Counted { cursor: d, count };
         }
         count += 1;
-        i = table_rows::advance(i, 3, out.len());
+        i = table_index::advance(i, 3, out.len());
     }
 }
 
@@ -57,7 +57,7 @@ fn pattern_list(text: &[u8], c: Cursor, out: &mut [i64]) -> Counted
 pub fn patterns(text: &[u8], c: Cursor, out: &mut [i64]) -> Counted
     ensures { λ r. ⌜ reads (now (text .entry)) (r .cursor) (r .count, now (out .exit)) ≡ from (now (text .entry)) c (patternsInto (now (out .entry))) ⌝ }
 {
-    let start = parse_names::trailing(text, c, b"DynamicPolygons");
+    let start = parse_optional::trailing(text, c, b"DynamicPolygons");
     let d = start.cursor;
     if start.present {
         return pattern_list(text, d, out);

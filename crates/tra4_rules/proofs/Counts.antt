@@ -9,7 +9,7 @@ use lib.Signed.{ltZ}
 use Rattle.refusal.specs.Faults.{clear, fault}
 use Rattle.refusal.specs.Rules.{tooMany}
 use Rattle.tra4_text.specs.Rules.{totalFault}
-use Rattle.text_numbers.proofs.Tests.{most-above}
+use Rattle.signed.proofs.Tests.{most-above}
 
 module _ (i n m : ℕ) (ns ms : List ℕ) where
   pub count-within : n ≤ m → tooMany i (n ∷ ns) (m ∷ ms) ≡ tooMany (suc i) ns ms

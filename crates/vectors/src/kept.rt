@@ -93,7 +93,7 @@ pub(crate) fn keep(
     table: &mut [i64; 11400],
     moves: &mut [i64; 11779],
 ) -> Kept {
-    let args = text_runs::part(input, from, end);
+    let args = text_parts::part(input, from, end);
     let first = next_number(args, 0);
     let mut k = before;
     match kind {

@@ -30,12 +30,12 @@ fn answer(
     let mut out = [0u8; 4096];
     if kind < SAMPLE {
         let told = texts::ask(kind, input, from, end, k, table, moves, &mut out);
-        put(text_runs::part(&out, 0, told));
+        put(text_parts::part(&out, 0, told));
         return;
     }
-    let args = text_runs::part(input, from, end);
+    let args = text_parts::part(input, from, end);
     let filled = play::ask(kind, args, k, table, moves, &mut out);
-    put(text_runs::part(&out, 0, filled));
+    put(text_parts::part(&out, 0, filled));
 }
 
 // Keeps a record, or prints the kind and the label of a question, and its answer.
@@ -57,7 +57,7 @@ fn run_record(
     if kind < BAC {
         return keep(kind, input, from, end, k, table, moves);
     }
-    put(text_runs::part(input, word.start, label.end));
+    put(text_parts::part(input, word.start, label.end));
     put(b"\t");
     answer(kind, input, from, end, k, table, moves);
     k
@@ -81,5 +81,5 @@ fn main() {
     let size = io::read_full(STDIN_FILENO, &mut input);
     let mut table = [0i64; 11400];
     let mut moves = [0i64; 11779];
-    run(text_runs::part(&input, 0, size), &mut table, &mut moves);
+    run(text_parts::part(&input, 0, size), &mut table, &mut moves);
 }

@@ -84,11 +84,11 @@ fn append_copies(buf: &mut [u8], n: usize, bytes: &[u8], times: usize) -> usize 
 // to `end`, and the back.
 // The answer is how long it is, padded to its least length.
 pub(crate) fn put_text(buf: &mut [u8], input: &[u8], from: usize, end: usize, k: Kept) -> usize {
-    let fronts = append_text(buf, 0, text_runs::part(input, k.front, k.front_end));
-    let copied = text_runs::part(input, k.copy, k.copy_end);
+    let fronts = append_text(buf, 0, text_parts::part(input, k.front, k.front_end));
+    let copied = text_parts::part(input, k.copy, k.copy_end);
     let copies = append_copies(buf, fronts, copied, k.copies);
-    let parts = append_text(buf, copies, text_runs::part(input, from, end));
-    let backs = append_text(buf, parts, text_runs::part(input, k.back, k.back_end));
+    let parts = append_text(buf, copies, text_parts::part(input, from, end));
+    let backs = append_text(buf, parts, text_parts::part(input, k.back, k.back_end));
     let least = k.least;
     if backs < least { least } else { backs }
 }
@@ -119,7 +119,7 @@ pub(crate) struct Number {
 // The number that stands next.
 pub(crate) fn next_number(args: &[u8], at: usize) -> Number {
     let t = text_tokens::next(args, at);
-    let word = text_runs::part(args, t.start, t.end);
+    let word = text_parts::part(args, t.start, t.end);
     if word.len() == 0 {
         return Number {
             value: 0,

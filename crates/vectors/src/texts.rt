@@ -36,11 +36,11 @@ fn tell_number(answer: Parsed, out: &mut [u8]) -> usize {
 // A kind's word, of all of them.
 fn word_of(words: &[u8], kind: Kind) -> &[u8] {
     match kind {
-        Kind::Opening => text_runs::part(words, 0, 7),
-        Kind::Closing => text_runs::part(words, 7, 14),
-        Kind::Quoted => text_runs::part(words, 14, 20),
-        Kind::Plain => text_runs::part(words, 20, 25),
-        Kind::Ending => text_runs::part(words, 25, 31),
+        Kind::Opening => text_parts::part(words, 0, 7),
+        Kind::Closing => text_parts::part(words, 7, 14),
+        Kind::Quoted => text_parts::part(words, 14, 20),
+        Kind::Plain => text_parts::part(words, 20, 25),
+        Kind::Ending => text_parts::part(words, 25, 31),
     }
 }
 
@@ -66,7 +66,7 @@ fn tell_tokens(text: &[u8], out: &mut [u8]) -> usize {
 
 // The listing of a figure, read into the first numbers of a table of zeros.
 fn tell_figure(text: &[u8], table: &mut [i64], size: usize, out: &mut [u8]) -> usize {
-    numbers(text_runs::part(text, 0, 0), table);
+    numbers(text_parts::part(text, 0, 0), table);
     if table.len() < size {
         return 0;
     }
@@ -76,7 +76,7 @@ fn tell_figure(text: &[u8], table: &mut [i64], size: usize, out: &mut [u8]) -> u
 
 // Likewise of a movement.
 fn tell_movement(text: &[u8], moves: &mut [i64], size: usize, out: &mut [u8]) -> usize {
-    numbers(text_runs::part(text, 0, 0), moves);
+    numbers(text_parts::part(text, 0, 0), moves);
     if moves.len() < size {
         return 0;
     }
@@ -116,5 +116,5 @@ pub(crate) fn ask(
 ) -> usize {
     let mut buf = [32u8; 65600];
     let size = put_text(&mut buf, input, from, end, k);
-    tell(kind, text_runs::part(&buf, 0, size), k, table, moves, out)
+    tell(kind, text_parts::part(&buf, 0, size), k, table, moves, out)
 }

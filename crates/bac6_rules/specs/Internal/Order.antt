@@ -6,11 +6,10 @@ use Rattle.refusal.specs.Rules.{orElse, tooMany}
 use Rattle.bac6_text.specs.Rules.{normalsFault, bonesFault, materialFine}
 use Rattle.refusal.specs.FirstBad.{firstBad}
 use Rattle.table_counts.specs.declared.counts.FigureCounts.{FigureCounts}
-use Rattle.bac6_row_rules.specs.Internal.Rows.{faceRowFine}
+use Rattle.bac6_face_rules.specs.Internal.Rows.{faceRowFine}
 use Rattle.table_columns.specs.Parts.{rowsOf}
 use Rattle.bac6_bone_rules.specs.Internal.Bones.{flagsIn}
-use Rattle.table_counts.specs.Counts.{figureMosts}
-use Rattle.table_counts.specs.Counts.{figureLists}
+use Rattle.table_counts.specs.Counts.{figureMosts, figureLists}
 
 -- rules 8 and 9
 unfoldable pub countsFault : FigureCounts → Fault

@@ -12,7 +12,7 @@ use Rattle.table_figure.specs.Sections.{holdsFigure}
 use Rattle.table_columns.specs.Parts.{rowsAt}
 use Rattle.player_names.specs.Names.{figureName, movementName}
 use Rattle.pair_text.specs.Rules.{bonesFault, namesFault, groupsFault}
-use Rattle.pair_bridge.specs.Names.{namesFrom}
+use Rattle.player_label.specs.BoneNames.{namesFrom}
 
 -- in tables that hold what their counts say
 unfoldable pub rowsFault : List ℕ → FigureCounts → List ℤ → List ℕ → MovementCounts → List ℤ → Fault

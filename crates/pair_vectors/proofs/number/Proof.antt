@@ -1,6 +1,6 @@
 -- `number` is below a hundred million, as what eight digits say is.
 use borrow.Author.Needs.{needs}
-use Rattle.pair_input.proofs.Heads.{head-below}
+use Rattle.pair_head.proofs.Heads.{head-below}
 use Rattle.pair_vectors.proofs.number.Statement.{statement}
 use Rattle.pair_vectors.proofs.number.Tie as tie
 

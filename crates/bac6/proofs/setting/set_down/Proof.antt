@@ -3,7 +3,7 @@ use mathlib.Core.Path.{_∙_}
 use native.Mathlib.Omega.{arith}
 use denote.Ref.{now}
 use lib.ListN.{length}
-use Rattle.text_numbers.proofs.Signed.{bits-pos}
+use Rattle.signed.proofs.Signed.{bits-pos}
 use Rattle.bac6.proofs.Settings.{short-answer, short-table, long-answer, long-table, named-by}
 use borrow.Author.Needs.{needs}
 use Rattle.bac6.proofs.setting.set_down.Statement.{statement}

@@ -2,7 +2,7 @@
 use mathlib.Core.Path.{refl}
 use Prim.Native.Nat.{_<_, _^_}
 use native.Mathlib.Omega.{arith}
-use Rattle.text_numbers.proofs.Signed.{bits-pos}
+use Rattle.signed.proofs.Signed.{bits-pos}
 use Rattle.parse_cursor.proofs.Bounds.{name-bounds}
 use Rattle.bac6_bone.proofs.Values.{name-read}
 use borrow.Author.Needs.{needs}

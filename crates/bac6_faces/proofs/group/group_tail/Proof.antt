@@ -2,7 +2,7 @@
 use Prim.Native.Nat.{_^_, _<_}
 use native.Mathlib.Omega.{arith}
 use Rattle.text_bytes.specs.Bytes.{bytes}
-use Rattle.text_numbers.proofs.Signed.{bits-pos}
+use Rattle.signed.proofs.Signed.{bits-pos}
 use Rattle.parse_cursor.proofs.Steps.{passed}
 use Rattle.parse_cursor.proofs.Counts.{alive}
 use Rattle.parse_cursor.proofs.Bounds.{place-bounds}

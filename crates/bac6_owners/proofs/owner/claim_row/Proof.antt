@@ -13,7 +13,7 @@ use mir.Val.{toZ, ofZ}
 use mir.Facts.{toZ-ofZ, fits-natAbs}
 use Rattle.table_references.specs.References.{isRow, isNone}
 use Rattle.bac6_owners.specs.Internal.Claims.{isFree}
-use Rattle.text_numbers.proofs.Tests.{tested, passed, failed}
+use Rattle.signed.proofs.Tests.{tested, passed, failed}
 use Rattle.bac6_owners.proofs.Owners.{free-tests, claim-free, claim-taken, row-natural, row-below, row-bits}
 use Rattle.bac6_owners.proofs.owner.claim_row.Statement.{statement}
 use Rattle.bac6_owners.proofs.owner.claim_row.Tie as tie

@@ -19,7 +19,7 @@ use Rattle.tra4.specs.declared.setting.MovementAnswer.{MovementAnswer}
 use Rattle.movement_bridge.proofs.Tables.{countsRead, table-read, movement-holds}
 use Rattle.pair_text.specs.Rules.{pairFault}
 use Rattle.pair_text.specs.Answer.{movementLeft}
-use Rattle.pair_bridge.specs.Names.{namesIn}
+use Rattle.player_label.specs.BoneNames.{namesIn}
 use Rattle.pair_movement.specs.Moved.{movedReply}
 use Rattle.pair_rules.specs.Internal.Tables.{rowsFault, tablesFault}
 use Rattle.pair_rules.proofs.Faults.{held-tables}

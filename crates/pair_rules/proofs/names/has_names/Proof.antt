@@ -9,7 +9,7 @@ use denote.Ref.{now}
 use Rattle.parse_spec.specs.Fields.{isSome}
 use Rattle.table_figure.specs.Sections.{holdsFigure}
 use Rattle.player_names.specs.Names.{figureName}
-use Rattle.pair_bridge.specs.Names.{namesIn}
+use Rattle.player_label.specs.BoneNames.{namesIn}
 use Rattle.pair_rules.proofs.Turns.{namedLeft, named-all, named-more, named-none, named-end}
 use Rattle.pair_rules.proofs.BoneNames.{unheld-names, held-names, figure-some}
 use Rattle.pair_rules.proofs.names.has_names.Statement.{statement}

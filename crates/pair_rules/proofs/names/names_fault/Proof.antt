@@ -7,7 +7,7 @@ use borrow.Author.Tests.{not-true, not-false}
 use Rattle.refusal.specs.Internal.Answers.{refusal}
 use Rattle.player_names.specs.Names.{figureName, movementName}
 use Rattle.pair_text.specs.Rules.{namesFault}
-use Rattle.pair_bridge.specs.Names.{namesFrom}
+use Rattle.player_label.specs.BoneNames.{namesFrom}
 use Rattle.pair_rules.proofs.Turns.{faultLeft, names-all, names-more, names-differ, names-end}
 use Rattle.pair_rules.proofs.names.names_fault.Statement.{statement}
 use Rattle.pair_rules.proofs.names.names_fault.Tie as tie

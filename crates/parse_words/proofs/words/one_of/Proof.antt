@@ -5,7 +5,7 @@ use native.Mathlib.Omega.{arith}
 use borrow.Author.Tests.{not-true, not-false}
 use Rattle.text_tokens.specs.Tokens.{lexeme}
 use Rattle.text_tokens.specs.Internal.Answers.{lexemeOf}
-use Rattle.text_numbers.proofs.Signed.{bits-pos}
+use Rattle.signed.proofs.Signed.{bits-pos}
 use Rattle.parse_words.specs.Internal.Words.{wordIn}
 use Rattle.parse_cursor.proofs.Steps.{passed}
 use Rattle.parse_words.proofs.Vocabulary.{among-other, among-past, among-yes, word-took, word-balked}

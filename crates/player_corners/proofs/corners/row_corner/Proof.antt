@@ -17,7 +17,7 @@ use Rattle.table_columns.specs.Columns.{faceMaterial, faceSize, faceVertex, fac
 use Rattle.table_columns.proofs.Casts.{natural-cast}
 use Rattle.table_columns.proofs.Corners.{corner-is}
 use Rattle.table_columns.proofs.Parts.{three-same, two-same}
-use Rattle.text_numbers.proofs.Tests.{tested}
+use Rattle.signed.proofs.Tests.{tested}
 use Rattle.player_spec.specs.Lookups.{allFloat, faceSound, ownerAt, pointAt, uvRow}
 use Rattle.player_spec.specs.Answers.{numbered}
 use Rattle.player_corners.specs.Answers.{cornered}

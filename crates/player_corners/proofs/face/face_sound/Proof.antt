@@ -11,7 +11,7 @@ use borrow.Author.Tests.{not-true, not-false}
 use Rattle.table_references.specs.References.{isRow}
 use Rattle.table_references.specs.Index.{isIndex}
 use Rattle.player_spec.specs.Lookups.{sizeFine, cornersFine, allNone}
-use Rattle.text_numbers.proofs.Tests.{tested}
+use Rattle.signed.proofs.Tests.{tested}
 use Rattle.table_columns.proofs.Casts.{natural-cast}
 use Rattle.player_corners.proofs.FaceRows.{no-material, no-size, no-vertices, no-uvs, by-group}
 use Rattle.player_face_tests.proofs.Corners.{size-is}

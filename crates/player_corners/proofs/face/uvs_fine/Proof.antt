@@ -1,6 +1,6 @@
 -- `uvs_fine` is the one test or the other: no corner used is all of them none.
 use mathlib.Core.Path.{sym, _∙_}
-use Rattle.text_numbers.proofs.Tests.{either, other}
+use Rattle.signed.proofs.Tests.{either, other}
 use Rattle.player_face_tests.proofs.Corners.{none-used}
 use borrow.Author.Needs.{needs}
 use Rattle.player_corners.proofs.face.uvs_fine.Statement.{statement}

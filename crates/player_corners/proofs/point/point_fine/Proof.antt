@@ -2,7 +2,7 @@
 use mathlib.Core.Path.{sym, _∙_}
 use Rattle.table_references.specs.Index.{isIndex}
 use Rattle.player_spec.specs.Lookups.{isFloat}
-use Rattle.text_numbers.proofs.Tests.{tested, failed, passed}
+use Rattle.signed.proofs.Tests.{tested, failed, passed}
 use Rattle.player_corners.proofs.FaceRows.{point-tests}
 use borrow.Author.Needs.{needs}
 use Rattle.player_corners.proofs.point.point_fine.Statement.{statement}

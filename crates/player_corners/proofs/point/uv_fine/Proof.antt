@@ -1,7 +1,7 @@
 -- `uv_fine` is the test of both numbers.
 use mathlib.Core.Path.{sym, _∙_}
 use Rattle.player_spec.specs.Lookups.{isFloat, allFloat}
-use Rattle.text_numbers.proofs.Tests.{tested, failed, passed}
+use Rattle.signed.proofs.Tests.{tested, failed, passed}
 use Rattle.player_corners.proofs.FaceRows.{and-last}
 use borrow.Author.Needs.{needs}
 use Rattle.player_corners.proofs.point.uv_fine.Statement.{statement}

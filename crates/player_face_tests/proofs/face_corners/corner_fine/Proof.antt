@@ -1,6 +1,6 @@
 -- `corner_fine` is the one test or the other.
 use Rattle.table_references.specs.References.{isRow, isNone}
-use Rattle.text_numbers.proofs.Tests.{tested}
+use Rattle.signed.proofs.Tests.{tested}
 use borrow.Author.Needs.{needs}
 use Rattle.player_face_tests.proofs.face_corners.corner_fine.Statement.{statement}
 use Rattle.player_face_tests.proofs.face_corners.corner_fine.Tie as tie

@@ -9,7 +9,7 @@ use lib.ListN.{length, getD, drop}
 use native.Mathlib.Omega.{arith}
 use Rattle.table_references.specs.References.{isRow, isNone}
 use Rattle.player_spec.specs.Lookups.{cornersFine}
-use Rattle.text_numbers.proofs.Tests.{tested, failed, passed}
+use Rattle.signed.proofs.Tests.{tested, failed, passed}
 use Rattle.player_face_tests.proofs.Corners.{corner-next, corners-end}
 use borrow.Author.Needs.{needs}
 use Rattle.player_face_tests.proofs.face_corners.corners_fine.Statement.{statement}

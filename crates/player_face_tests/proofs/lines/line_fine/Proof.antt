@@ -7,7 +7,7 @@ use borrow.Author.Needs.{needs}
 use mir.Facts.{toZ-ofZ}
 use Rattle.table_references.specs.References.{isRow}
 use Rattle.player_spec.specs.Internal.Flags.{lineFine}
-use Rattle.text_numbers.proofs.Tests.{tested, failed, passed}
+use Rattle.signed.proofs.Tests.{tested, failed, passed}
 use Rattle.player_face_tests.proofs.PatternLines.{line-negative, line-late, line-falls, line-is}
 use Rattle.player_face_tests.proofs.lines.line_fine.Statement.{statement}
 use Rattle.player_face_tests.proofs.lines.line_fine.Tie as tie

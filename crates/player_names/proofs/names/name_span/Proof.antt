@@ -1,6 +1,6 @@
 -- `name_span` is the definition, by its tests on the pair.
 use mir.Facts.{toZ-ofZ}
-use Rattle.text_numbers.proofs.Signed.{from-zero}
+use Rattle.signed.proofs.Signed.{from-zero}
 use Rattle.table_columns.proofs.Casts.{natural-cast}
 use Rattle.player_names.specs.Internal.Answers.{found}
 use Rattle.player_names.proofs.Spans.{end-fits, place-below, length-below, length-over, end-over, end-within}

@@ -1,7 +1,7 @@
 -- `weighted` is the sum: each product and the sum fit 64 bits.
 use native.Mathlib.Omega.{arith}
 use mir.Facts.{toZ-ofZ}
-use Rattle.text_numbers.proofs.Signed.{bits-pos}
+use Rattle.signed.proofs.Signed.{bits-pos}
 use Rattle.player_samples.proofs.Sizes.{first-fits, second-fits, sum-fits}
 use borrow.Author.Needs.{needs}
 use Rattle.player_samples.proofs.line.weighted.Statement.{statement}

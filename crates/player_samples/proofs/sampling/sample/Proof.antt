@@ -10,7 +10,7 @@ use mir.Val.{SFits}
 use mir.Facts.{toZ-ofZ}
 use native.Mathlib.Omega.{arith}
 use borrow.Author.Tests.{not-true, not-false}
-use Rattle.text_numbers.proofs.Tests.{tested}
+use Rattle.signed.proofs.Tests.{tested}
 use Rattle.table_columns.specs.Parts.{numberAt, rowsAt}
 use Rattle.table_columns.proofs.Casts.{natural-cast}
 use Rattle.table_movement.specs.declared.sections.MovementSections.{MovementSections}

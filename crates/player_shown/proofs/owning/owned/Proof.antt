@@ -11,7 +11,7 @@ use borrow.Author.Needs.{needs}
 use borrow.Author.Tests.{not-true, not-false}
 use Rattle.table_references.specs.References.{isNone}
 use Rattle.table_references.specs.Index.{isIndex}
-use Rattle.text_numbers.proofs.Tests.{tested}
+use Rattle.signed.proofs.Tests.{tested}
 use Rattle.table_columns.specs.Columns.{faceVertices}
 use Rattle.table_columns.proofs.Corners.{corner-part}
 use Rattle.table_figure.proofs.Founds.{owners-room}

@@ -10,7 +10,7 @@ use mir.Val.{SFits}
 use mir.Facts.{toZ-ofZ}
 use native.Mathlib.Omega.{arith}
 use borrow.Author.Tests.{not-true, not-false}
-use Rattle.text_numbers.proofs.Tests.{tested}
+use Rattle.signed.proofs.Tests.{tested}
 use Rattle.player_spec.specs.Lookups.{sizeFine, cornersFine}
 use Rattle.player_shown.specs.Internal.Rows.{ownedIn}
 use Rattle.player_shown.specs.Answers.{visible}

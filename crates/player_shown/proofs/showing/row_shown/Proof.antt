@@ -11,7 +11,7 @@ use mir.Facts.{toZ-ofZ}
 use borrow.Author.Tests.{not-true, not-false}
 use Rattle.table_references.specs.References.{isNone}
 use Rattle.table_references.specs.Index.{isIndex}
-use Rattle.text_numbers.proofs.Tests.{tested}
+use Rattle.signed.proofs.Tests.{tested}
 use Rattle.table_references.proofs.Numbers.{index-row}
 use Rattle.player_shown.specs.Internal.Rows.{bothShown}
 use Rattle.player_shown.specs.Answers.{visible}

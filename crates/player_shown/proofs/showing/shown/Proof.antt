@@ -12,7 +12,7 @@ use mir.Facts.{toZ-ofZ}
 use native.Mathlib.Omega.{arith}
 use borrow.Author.Tests.{not-true, not-false}
 use Rattle.tra4_text.specs.Movement.{Pattern}
-use Rattle.text_numbers.proofs.Tests.{tested}
+use Rattle.signed.proofs.Tests.{tested}
 use Rattle.table_columns.specs.Parts.{numberAt, rowsAt}
 use Rattle.table_columns.proofs.Parts.{part-length, part-numbers}
 use Rattle.table_movement.specs.declared.sections.MovementSections.{MovementSections}

@@ -1,7 +1,7 @@
 -- `follows` is the definition, by its bounds.
 use mathlib.Core.Path.{sym}
 use mir.Facts.{toZ-ofZ}
-use Rattle.text_numbers.proofs.Signed.{from-zero}
+use Rattle.signed.proofs.Signed.{from-zero}
 use Rattle.table_columns.proofs.Casts.{natural-cast}
 use Rattle.player_tests.proofs.KeyFrames.{follow-negative, follow-late, follow-is}
 use Rattle.player_tests.proofs.frames.follows.Statement.{statement}

@@ -1,7 +1,7 @@
 -- `is_range` is the definition, by its bounds.
 use mathlib.Core.Path.{sym}
 use mir.Facts.{toZ-ofZ}
-use Rattle.text_numbers.proofs.Signed.{from-zero}
+use Rattle.signed.proofs.Signed.{from-zero}
 use Rattle.player_tests.proofs.Numbers.{some-number, range-first, range-count, range-beyond, range-within}
 use Rattle.table_columns.proofs.Casts.{natural-cast}
 use Rattle.player_tests.proofs.range.is_range.Statement.{statement}

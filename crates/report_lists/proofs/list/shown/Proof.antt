@@ -1,7 +1,7 @@
 -- `shown` is the definition, by its two cases.
 use native.Mathlib.Omega.{arith}
 use borrow.Author.Needs.{needs}
-use Rattle.text_numbers.proofs.Signed.{bits-pos}
+use Rattle.signed.proofs.Signed.{bits-pos}
 use mathlib.Core.Path.{sym, _∙_}
 use Rattle.report_lists.proofs.Lists.{shown-small, shown-large}
 use Rattle.report_lists.proofs.list.shown.Statement.{statement}

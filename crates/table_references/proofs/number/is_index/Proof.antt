@@ -1,7 +1,7 @@
 -- `is_index` is the definition, by its two parts.
 use mathlib.Core.Path.{sym, _∙_}
 use Rattle.table_references.specs.References.{isRow, isNone}
-use Rattle.text_numbers.proofs.Tests.{tested}
+use Rattle.signed.proofs.Tests.{tested}
 use Rattle.table_references.proofs.Numbers.{index-none, index-row}
 use borrow.Author.Needs.{needs}
 use Rattle.table_references.proofs.number.is_index.Statement.{statement}

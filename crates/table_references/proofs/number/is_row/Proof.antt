@@ -1,7 +1,7 @@
 -- `is_row` is the definition: a number below zero is no row, and any other is compared as it stands.
 use mathlib.Core.Path.{sym}
 use mir.Facts.{toZ-ofZ, fits-natAbs}
-use Rattle.text_numbers.proofs.Tests.{negative, natural}
+use Rattle.signed.proofs.Tests.{negative, natural}
 use Rattle.table_references.proofs.Numbers.{negative-row, natural-row}
 use Rattle.table_references.proofs.number.is_row.Statement.{statement}
 use Rattle.table_references.proofs.number.is_row.Tie as tie

@@ -1,7 +1,7 @@
 -- `set_bone` lays a bone's keys and its row, or tells that there are too many keys, by the law of each end.
 use mathlib.Core.Path.{refl}
 use native.Mathlib.Omega.{arith}
-use Rattle.text_numbers.proofs.Signed.{bits-pos}
+use Rattle.signed.proofs.Signed.{bits-pos}
 use Rattle.tra4_bone.proofs.Gathered.{held-ranged, held-total}
 use Rattle.tra4_bone.proofs.Keeping.{set-over, set-beyond, set-laid}
 use borrow.Author.Needs.{needs}

@@ -2,7 +2,7 @@
 use Prim.Native.Nat.{_<_, _^_}
 use native.Mathlib.Omega.{arith}
 use Rattle.text_bytes.specs.Bytes.{bytes}
-use Rattle.text_numbers.proofs.Signed.{bits-pos}
+use Rattle.signed.proofs.Signed.{bits-pos}
 use Rattle.parse_numbers.specs.Internal.Answers.{formNamed}
 use Rattle.tra4_channels.proofs.Reading.{keys-refused, keys-over, keys-many, keys-more}
 use borrow.Author.Needs.{needs}

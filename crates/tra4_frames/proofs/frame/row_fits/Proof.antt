@@ -7,7 +7,7 @@ use lib.ListN.{getD}
 use lib.IntN.{pos}
 use lib.Signed.{leZ}
 use Rattle.tra4_frames.specs.Internal.Frames.{beforeOf, frameFits}
-use Rattle.text_numbers.proofs.Tests.{tested, failed, passed}
+use Rattle.signed.proofs.Tests.{tested, failed, passed}
 use Rattle.tra4_frames.proofs.Frames.{frame-told, key-row, pattern-row}
 use Rattle.tra4_frames.proofs.frame.row_fits.Statement.{statement}
 use Rattle.tra4_frames.proofs.frame.row_fits.Tie as tie

@@ -1,7 +1,7 @@
 -- `rows_within` is the lesser of a count, none below zero, and what is left.
 use native.Mathlib.Omega.{arith}
 use mir.Facts.{toZ-ofZ, fits-natAbs}
-use Rattle.text_numbers.proofs.Tests.{negative, natural}
+use Rattle.signed.proofs.Tests.{negative, natural}
 use Rattle.tra4_keys.proofs.Keys.{negative-count, natural-count, lesser-first, lesser-second}
 use Rattle.tra4_keys.proofs.key.rows_within.Statement.{statement}
 use Rattle.tra4_keys.proofs.key.rows_within.Tie as tie

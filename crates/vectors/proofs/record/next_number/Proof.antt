@@ -1,6 +1,6 @@
 -- `next_number`: a magnitude below 2 ^ 63 fits with either sign.
 use lib.IntN.{pos}
-use Rattle.text_numbers.proofs.Signed.{neg-fits, zero-minus, bits-pos}
+use Rattle.signed.proofs.Signed.{neg-fits, zero-minus, bits-pos}
 use borrow.Author.Needs.{needs}
 use Rattle.vectors.proofs.record.next_number.Statement.{statement}
 use Rattle.vectors.proofs.record.next_number.Tie as tie

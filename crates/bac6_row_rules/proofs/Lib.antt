@@ -1,4 +1,0 @@
--- Laws that belong to no one function.
-pub mod Faces
-pub mod Materials
-pub mod Tables

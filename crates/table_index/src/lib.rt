@@ -1,0 +1,5 @@
+// Indices of a table.
+mod index;
+
+pub use index::advance;
+pub use index::rows_end;
