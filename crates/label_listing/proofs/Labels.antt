@@ -19,7 +19,7 @@ use Rattle.table_counts.specs.declared.counts.MovementCounts.{MovementCounts}
 use Rattle.player_spec.specs.Lookups.{onlyIf}
 use Rattle.player_names.specs.Names.{isName, nameSpan, partAt, figureSpan, figureName, movementSpan, movementName, ifTrue}
 use Rattle.player_label.specs.Labels.{labelOf, labelFrom, labelIn, orEmpty}
-use Rattle.pair_listing.specs.Lines.{labelParts}
+use Rattle.label_listing.specs.Lines.{labelParts}
 
 long-most : (size : ℕ) (place long : ℤ) → isName size place long ≡ true → natAbs long ≤ 255
 unfolding isName

@@ -1,14 +1,29 @@
 // The labels of a pair's bones, as lines into a lent buffer.
 ghost use mathlib.Core.Path.{_≡_};
-ghost use Prim.Native.Nat.{_*_, _≤_};
+ghost use Prim.Native.Nat.{_+_, _*_, _≤_};
 ghost use lib.ListN.{length};
 ghost use Rattle.report_text.specs.Output.{output};
 ghost use Rattle.report_lists.specs.Lists.{appendedEach, textOf};
-ghost use Rattle.label_listing.specs.Lines.{labelsIn};
-use pair_listing::append_label;
+ghost use Rattle.label_listing.specs.Lines.{labelParts, labelsIn};
 use player_label::label;
+use report_lists::shown;
+use report_text::append;
+use report_text::append_number;
 use table_counts::FigureCounts;
 use table_counts::MovementCounts;
+
+// Puts a bone's row and its name after the first n bytes of buf, and answers how many bytes are filled then.
+fn append_label(buf: &mut [u8], n: usize, bone: usize, name: &[u8]) -> usize
+    ensures parts { λ r. ⌜ output r (now (buf .exit)) ≡ appendedEach (output n (now (buf .entry))) (labelParts bone (now (name .entry))) ⌝ }
+    ensures most { λ r. ⌜ length (textOf (labelParts bone (now (name .entry)))) ≤ 28 + length (now (name .entry)) ⌝ }
+{
+    let word = append(buf, n, b"label");
+    let first = append(buf, word, b"\t");
+    let row = append_number(buf, first, shown(bone));
+    let second = append(buf, row, b"\t");
+    let end = append(buf, second, name);
+    append(buf, end, b"\n")
+}
 
 // Puts each bone's label after the first filled bytes of buf, each line whole or not at all; 283 bytes a bone hold them.
 pub fn append_labels<'a>(

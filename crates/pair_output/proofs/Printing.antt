@@ -30,9 +30,9 @@ use Rattle.pair_head.specs.Division.{divided}
 use Rattle.pair_head.specs.Answers.{divisionNamed}
 use Rattle.pair_head.specs.declared.division.Division.{Division}
 use Rattle.pair_head.specs.declared.division.Division.the-variants as division
-use Rattle.pair_listing.specs.Lines.{replyLine, labelParts}
+use Rattle.pair_listing.specs.Lines.{replyLine}
 use Rattle.pair_listing.proofs.Replies.{reply-most}
-use Rattle.label_listing.specs.Lines.{labelsIn}
+use Rattle.label_listing.specs.Lines.{labelParts, labelsIn}
 use Rattle.pair_output.specs.Printing.{pairLines, textsLines, dividedLines, inputLines, inputText}
 use Rattle.bac6_text.specs.Rules.{figureCounts}
 

@@ -13,7 +13,8 @@ use Rattle.report_lists.specs.Parts.{linesFrom}
 use Rattle.pair_text.specs.Answer.{Loaded, refused, loaded, pairAnswer}
 use Rattle.pair_bridge.specs.Playing.{labelAsked}
 use Rattle.pair_head.specs.Division as input
-use Rattle.pair_listing.specs.Lines.{replyLine, labelParts}
+use Rattle.pair_listing.specs.Lines.{replyLine}
+use Rattle.label_listing.specs.Lines.{labelParts}
 
 -- a refusal; or the totals, and each bone's label
 unfoldable pub pairLines : Loaded (Figure × Movement) → List (List ℕ)

@@ -15,8 +15,7 @@ use Rattle.table_counts.specs.declared.counts.MovementCounts.{MovementCounts}
 use Rattle.player_label.specs.Labels.{labelIn, orEmpty}
 use Rattle.report_lists.specs.Parts.{linesFrom}
 use Rattle.report_lists.proofs.Turns.{turn-put, turn-short, Short, all-lines, all-short}
-use Rattle.pair_listing.specs.Lines.{labelParts}
-use Rattle.label_listing.specs.Lines.{labelsIn}
+use Rattle.label_listing.specs.Lines.{labelParts, labelsIn}
 use Rattle.label_listing.proofs.Labels.{label-most, label-put}
 use Rattle.label_listing.proofs.append_labels.Statement.{statement}
 use Rattle.label_listing.proofs.append_labels.Tie as tie

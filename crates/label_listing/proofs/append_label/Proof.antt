@@ -8,9 +8,9 @@ use Rattle.text_bytes.specs.Bytes.{bytes}
 use Rattle.report_text.specs.Output.{output, appended}
 use Rattle.report_text.specs.Text.{numeral}
 use Rattle.report_lists.proofs.Texts.{held}
-use Rattle.pair_listing.proofs.Labels.{label-put}
-use Rattle.pair_listing.proofs.append_label.Statement.{statement}
-use Rattle.pair_listing.proofs.append_label.Tie as tie
+use Rattle.label_listing.proofs.LabelParts.{label-put}
+use Rattle.label_listing.proofs.append_label.Statement.{statement}
+use Rattle.label_listing.proofs.append_label.Tie as tie
 
 slice-aggregate-append : tie.Need-slice-aggregate-append
 slice-aggregate-append c = search needs

@@ -10,7 +10,7 @@ use Rattle.report_text.specs.Output.{Output, output, appended}
 use Rattle.report_lists.specs.Lists.{appendedEach, textOf, shown}
 use Rattle.report_text.proofs.Numerals.{numeral-most}
 use Rattle.report_lists.proofs.Texts.{shown-fits}
-use Rattle.pair_listing.specs.Lines.{labelParts}
+use Rattle.label_listing.specs.Lines.{labelParts}
 
 module _ (bone : ℕ) (name : List ℕ) where
   label-most : length (textOf (labelParts bone name)) ≤ 28 + length name
