@@ -1,14 +1,14 @@
 -- What was parsed of a figure: its counts and parts are the figure's, so are the rules over them, and where none is broken, the numbers that are laid are its layout.
 use mathlib.Core.Path.{_≡_, ap, ap₂, subst, sym, _∙_}
 use mathlib.Core.List.{List, [], _∷_, _++_}
-use Prim.Native.Nat.{ℕ, zero, suc, _+_, _-_, _*_, _≤_}
+use Prim.Native.Nat.{ℕ, zero, suc, _+_, _-_, _*_, _≤_, _<_}
 use native.Mathlib.Omega.{arith}
 use lib.IntN.{ℤ, pos, negsuc}
 use lib.ListN.{length, take, drop, replicate}
 use lib.Seq.{take-at}
 use Rattle.refusal.specs.Faults.{Fault, clear, fault}
 use Rattle.refusal.specs.Rules.{tooMany}
-use Rattle.refusal.specs.Outcomes.{Outcome, rejected, accepted, ruled, fitted, laid}
+use Rattle.refusal.specs.Outcomes.{Outcome, rejected, accepted, ruled}
 use Rattle.refusal.proofs.Rules.{or-first, or-second}
 use Rattle.table_counts.specs.declared.counts.FigureCounts.{FigureCounts}
 use Rattle.table_counts.specs.Counts.{figureMosts}
@@ -34,17 +34,18 @@ use Rattle.bac6_rules.proofs.Orders.{tables-within, tables-laid, bones-left}
 use Rattle.bac6_shape.specs.declared.shape.Parsed.{Parsed}
 use Rattle.bac6_shape.specs.Internal.Parse.{Kept, keptOf, rowNumbers}
 use Rattle.bac6_shape.specs.Internal.Answers.{keptBy}
-use Rattle.bac6_layout.specs.Internal.Places.{materialsFrom, bonesFrom, facesFrom, rowsEnd}
+use Rattle.bac6_layout.specs.Internal.Places.{materialsFrom, bonesFrom, facesFrom}
 use Rattle.bac6_layout.specs.Internal.Numbers.{numbersOf}
 use Rattle.bac6_check.specs.Internal.Rows.{rowsFault, PlacedIn, RowsLeft}
 use Rattle.bac6_check.proofs.Parts.{placed-left}
 use Rattle.bac6.specs.Internal.Places.{Within, totalOf}
-use Rattle.bac6.specs.Answers.{refusedWith, answerOf}
-use Rattle.bac6.specs.Internal.Answers.{downAnswer, downTable, laidNumbers}
+use Rattle.bac6.specs.declared.setting.FigureAnswer.{FigureAnswer}
+use Rattle.bac6.specs.Answers.{refusedWith}
+use Rattle.bac6.specs.Internal.Answers.{Answered, laidNumbers}
 use Rattle.bac6.specs.Internal.Checks.{rulesFault, Held}
 use Rattle.bac6.proofs.Limits.{within-by, within-counts, rows-few}
 use Rattle.bac6.proofs.Numbers.{front, after, zeros, zeros-count, rows-same, rows-length, materials-part, bones-part, front-part, faces-part, first-part, second-part, parents, layout-parts, layout-length, groups-wide, groups-count}
-use Rattle.bac6.proofs.Settings.{answer-is, table-is, refused-answer, refused-table}
+use Rattle.bac6.proofs.Settings.{refused-answered, short-answered, long-answered}
 
 -- as many unclaimed vertices as there are points, and the others
 unclaimed-parts : (n k : ℕ) → n ≤ k → replicate k (negsuc 0) ≡ unclaimed n (replicate (k - n) (negsuc 0))
@@ -214,13 +215,14 @@ module _ {p : Parsed} {rows owners names : List ℤ} (h : Held p rows owners nam
     unfolding ruled
     taken = rw clean
 
-    set-answer : (room : ℕ) → downAnswer (p .counts) room ≡ answerOf (fitted layoutOf room (ruled f (figureFault f)))
-    set-answer room =
-        ap (λ (n : FigureCounts). downAnswer n room) counts-are ∙ answer-is f total-is room ∙ ap (λ (o : Outcome Figure). answerOf (fitted layoutOf room o)) (sym taken)
+    set-short : (total : ℕ) → total ≡ totalOf (p .counts) → (table : List ℤ) {r : FigureAnswer} → r ≡ refusedWith 17 total → length table < total → Answered (ruled f (figureFault f)) table table r
+    set-short total t table {r} a s =
+        subst (λ (o : Outcome Figure). Answered o table table r) (sym taken) (short-answered f table total (t ∙ ap (λ (n : FigureCounts). totalOf n) counts-are ∙ total-is) a s)
 
-    set-table : (table : List ℤ) → downTable (p .counts) (laidNumbers p exit owners names) table ≡ laid layoutOf table (fitted layoutOf (length table) (ruled f (figureFault f)))
-    set-table table =
-        ap₂ (λ (n : FigureCounts) (l : List ℤ). downTable n l table) counts-are numbers-are ∙ table-is f total-is table ∙ ap (λ (o : Outcome Figure). laid layoutOf table (fitted layoutOf (length table) o)) (sym taken)
+    set-long : (total : ℕ) → total ≡ totalOf (p .counts) → (table laid : List ℤ) → total ≤ length table → laid ≡ overlayAt 0 (laidNumbers p exit owners names) table → Answered (ruled f (figureFault f)) table laid (record { refusal = 0; place = 0; file = 0; total = total; counts = p .counts })
+    set-long total t table laid s x =
+        subst (λ (o : Outcome Figure). Answered o table laid (record { refusal = 0; place = 0; file = 0; total = total; counts = p .counts })) (sym taken)
+        (long-answered f table total (t ∙ ap (λ (n : FigureCounts). totalOf n) counts-are ∙ total-is) (p .counts) laid counts-are s (x ∙ ap (λ (l : List ℤ). overlayAt 0 l table) numbers-are))
 
   -- a rule is broken
   module _ {k i : ℕ} (e : rulesFault p rows ≡ fault k i) where
@@ -228,11 +230,8 @@ module _ {p : Parsed} {rows owners names : List ℤ} (h : Held p rows owners nam
     unfolding ruled
     broken = rw (sym rules-are ∙ e)
 
-    pub broken-answer : (room : ℕ) → refusedWith k i ≡ answerOf (fitted layoutOf room (ruled f (figureFault f)))
-    broken-answer room = refused-answer broken room
-
-    pub broken-table : (table : List ℤ) → table ≡ laid layoutOf table (fitted layoutOf (length table) (ruled f (figureFault f)))
-    broken-table table = refused-table broken table
+    pub broken-rows : {r : FigureAnswer} → r ≡ refusedWith k i → (table : List ℤ) → Answered (ruled f (figureFault f)) table table r
+    broken-rows a table = refused-answered broken a table
 
   -- none is
   module _ (e : rulesFault p rows ≡ clear) where
@@ -244,8 +243,8 @@ module _ {p : Parsed} {rows owners names : List ℤ} (h : Held p rows owners nam
     none-over = within-counts (p .counts) counts-clear
 
     module _ (exit : List ℤ) (left : RowsLeft (p .counts) rows exit) where
-      pub taken-answer : (room : ℕ) → downAnswer (p .counts) room ≡ answerOf (fitted layoutOf room (ruled f (figureFault f)))
-      taken-answer room = set-answer (sym rules-are ∙ e) exit (placed-left (p .counts) rows exit counts-clear left) room
+      pub short-rows : (total : ℕ) → total ≡ totalOf (p .counts) → (table : List ℤ) {r : FigureAnswer} → r ≡ refusedWith 17 total → length table < total → Answered (ruled f (figureFault f)) table table r
+      short-rows = set-short (sym rules-are ∙ e) exit (placed-left (p .counts) rows exit counts-clear left)
 
-      pub taken-table : (table : List ℤ) → downTable (p .counts) (laidNumbers p exit owners names) table ≡ laid layoutOf table (fitted layoutOf (length table) (ruled f (figureFault f)))
-      taken-table table = set-table (sym rules-are ∙ e) exit (placed-left (p .counts) rows exit counts-clear left) table
+      pub long-rows : (total : ℕ) → total ≡ totalOf (p .counts) → (table laid : List ℤ) → total ≤ length table → laid ≡ overlayAt 0 (laidNumbers p exit owners names) table → Answered (ruled f (figureFault f)) table laid (record { refusal = 0; place = 0; file = 0; total = total; counts = p .counts })
+      long-rows = set-long (sym rules-are ∙ e) exit (placed-left (p .counts) rows exit counts-clear left)

@@ -16,5 +16,3 @@ refusedWith n p = record { refusal = n; place = p; file = 0; total = 0; counts =
 unfoldable pub answerOf : Outcome Figure → FigureAnswer
 answerOf (rejected n p) = refusedWith n p
 answerOf (accepted f) = record { refusal = 0; place = 0; file = 0; total = length (layoutOf f); counts = figureCounts f }
-
--- ---- from the counts and tables

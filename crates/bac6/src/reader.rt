@@ -1,49 +1,35 @@
 // Reads a figure's text into a lent table.
 ghost use mathlib.Core.Path.{_≡_};
-ghost use Prim.Native.Nat.{_≤_};
 ghost use lib.ListN.{length};
 ghost use Rattle.refusal.specs.Internal.Answers.{refusal};
-ghost use Rattle.text_tokens.specs.Tokens.{lex};
 ghost use Rattle.bac6_bones.specs.Internal.Into.{faultOf};
-ghost use Rattle.bac6_text.specs.Grammar.{figure};
-ghost use Rattle.refusal.specs.Outcomes.{fitted, laid, ruled};
-ghost use Rattle.parse_text.specs.Texts.{shaped};
-ghost use Rattle.bac6_text.specs.Rules.{figureFault};
-ghost use Rattle.bac6_text.specs.Layout.{layoutOf};
 ghost use Rattle.bac6_text.specs.Answer.{figureAnswer, tableAfter};
 ghost use Rattle.bac6.specs.Answers.{answerOf};
 ghost use Rattle.bac6.specs.Internal.Checks.{Held};
+ghost use Rattle.bac6.specs.Internal.Answers.{RowsAnswered};
 use crate::setting::FigureAnswer;
 use crate::setting::refused;
-use crate::setting::set_down;
+use crate::setting::total_of;
 use bac6_shape::Parsed;
 use refusal::Checked;
 use text_check::Format;
 
 // The answer is document 01's, and the table holds the layout from its start on; or, where refused, what it held.
+// Each list is read into room for its most rows, and the lent table is written only once all is checked.
 pub fn read(text: &[u8], table: &mut [i64]) -> FigureAnswer
     ensures answer { λ r. ⌜ r ≡ answerOf (figureAnswer (now (text .entry)) (length (now (table .entry)))) ⌝ }
     ensures content { λ r. ⌜ now (table .exit) ≡ tableAfter (now (text .entry)) (now (table .entry)) ⌝ }
 {
-    match text_check::check_text(text, Format::Bac) {
-        Checked::Refused { number, place } => refused(number as usize, place),
-        Checked::Clear => read_shape(text, table),
+    if let Checked::Refused { number, place } = text_check::check_text(text, Format::Bac) {
+        return refused(number, place);
     }
-}
-
-// The rows have a table for the most of each list.
-fn read_shape(text: &[u8], table: &mut [i64]) -> FigureAnswer
-    requires { ⌜ length (now text) ≤ 65536 ⌝ }
-    ensures answer { λ r. ⌜ r ≡ answerOf (fitted layoutOf (length (now (table .entry))) (shaped figureFault (figure (lex (now (text .entry)))))) ⌝ }
-    ensures content { λ r. ⌜ now (table .exit) ≡ laid layoutOf (now (table .entry)) (fitted layoutOf (length (now (table .entry))) (shaped figureFault (figure (lex (now (text .entry)))))) ⌝ }
-{
     let mut rows = [0i64; 34912];
     let mut owners = [-1i64; 2048];
     let mut names = [0i64; 64];
     let p = bac6_shape::parse(text, &mut rows, &mut owners, &mut names);
     let d = p.cursor;
     if d.refusal != 0 {
-        return refused(d.refusal as usize, d.at);
+        return refused(d.refusal, d.at);
     }
     read_rows(table, p, &mut rows, &owners, &names)
 }
@@ -61,7 +47,7 @@ fn claims_of(p: Parsed) -> Checked
     Checked::Clear
 }
 
-// The rules run over the rows, and the lent table is written where all of them hold.
+// The rules run over the rows, and the lists are laid in the lent table where all of them hold and it is long enough (else 17).
 fn read_rows(
     table: &mut [i64],
     p: Parsed,
@@ -70,11 +56,29 @@ fn read_rows(
     names: &[i64],
 ) -> FigureAnswer
     requires { ⌜ Held p (now rows) (now owners) (now names) ⌝ }
-    ensures answer { λ r. ⌜ ((h : Held p (now (rows .entry)) (now (owners .entry)) (now (names .entry))) → r ≡ answerOf (fitted layoutOf (length (now (table .entry))) (ruled (h .read) (figureFault (h .read))))) ⌝ }
-    ensures content { λ r. ⌜ ((h : Held p (now (rows .entry)) (now (owners .entry)) (now (names .entry))) → now (table .exit) ≡ laid layoutOf (now (table .entry)) (fitted layoutOf (length (now (table .entry))) (ruled (h .read) (figureFault (h .read))))) ⌝ }
+    ensures { λ r. ⌜ RowsAnswered p (now (rows .entry)) (now (owners .entry)) (now (names .entry)) (now (table .entry)) (now (table .exit)) r ⌝ }
 {
-    match bac6_check::first_fault(p.counts, claims_of(p), rows) {
-        Checked::Refused { number, place } => refused(number as usize, place),
-        Checked::Clear => set_down(table, p, rows, owners, names),
+    if let Checked::Refused { number, place } = bac6_check::first_fault(
+        p.counts,
+        claims_of(p),
+        rows,
+    ) {
+        return refused(number, place);
+    }
+    let counts = p.counts;
+    let total = total_of(counts);
+    if table.len() < total {
+        return refused(17, total);
+    }
+    let place = p.place;
+    let size = p.length;
+    let name = [place as i64, size as i64];
+    bac6_layout::lay(table, counts, &name, rows, owners, names);
+    FigureAnswer {
+        refusal: 0,
+        place: 0,
+        file: 0,
+        total,
+        counts,
     }
 }

@@ -11,32 +11,40 @@ use report_lists::append_list;
 use report_lists::first_line;
 use table_counts::FigureCounts;
 
-// Puts the lines of the lists after the first n bytes of buf, and answers how many bytes are filled then.
+// Puts the lines of the lists after the first `start` bytes of buf, and answers how many bytes are filled then. The lists go by index, so that one call
+// serves them all: each has a word, which begins at a multiple of 8, its size, how many numbers a row has and how many rows there are.
 fn append_lists(n: FigureCounts, table: &[i64], buf: &mut [u8], start: usize) -> usize
     ensures { λ r. ⌜ output r (now (buf .exit)) ≡ appendedEach (output start (now (buf .entry))) (listLines (figureLists n) (now (table .entry))) ⌝ }
 {
-    let names = append_list(
-        buf,
-        Progress {
-            filled: start,
-            at: 0,
-        },
-        b"name",
-        2,
+    let words: &[u8] =
+        b"name    texture colour  materialpoint   normal  bone    owner   uv      face    group   ";
+    let sizes: [usize; 11] = [4, 7, 6, 8, 5, 6, 4, 5, 2, 4, 5];
+    let widths: [usize; 11] = [2, 2, 3, 9, 3, 3, 14, 1, 2, 11, 2];
+    let counts = [
         1,
-        table,
-    );
-    let textures = append_list(buf, names, b"texture", 2, n.textures, table);
-    let colours = append_list(buf, textures, b"colour", 3, n.colours, table);
-    let materials = append_list(buf, colours, b"material", 9, n.materials, table);
-    let points = append_list(buf, materials, b"point", 3, n.points, table);
-    let normals = append_list(buf, points, b"normal", 3, n.normals, table);
-    let bones = append_list(buf, normals, b"bone", 14, n.bones, table);
-    let owners = append_list(buf, bones, b"owner", 1, n.points, table);
-    let uvs = append_list(buf, owners, b"uv", 2, n.uvs, table);
-    let faces = append_list(buf, uvs, b"face", 11, n.faces, table);
-    let groups = append_list(buf, faces, b"group", 2, n.groups, table);
-    groups.filled
+        n.textures,
+        n.colours,
+        n.materials,
+        n.points,
+        n.normals,
+        n.bones,
+        n.points,
+        n.uvs,
+        n.faces,
+        n.groups,
+    ];
+    let mut p = Progress {
+        filled: start,
+        at: 0,
+    };
+    let mut i = 0;
+    while i < 11 {
+        let from = i * 8;
+        let end = from + sizes[i];
+        p = append_list(buf, p, &words[from..end], widths[i], counts[i], table);
+        i += 1;
+    }
+    p.filled
 }
 
 // Puts a figure's listing, or a refusal's line, at the start of buf and answers how many bytes are filled. A line that does

@@ -30,14 +30,15 @@ use Rattle.tra4_parse.specs.Internal.Parse.{MovementValue, movementValue}
 use Rattle.tra4_rules.specs.Internal.Order.{tablesFault}
 use Rattle.tra4_rules.proofs.Laid.{Tenfold, inTables, keys-beyond, tables-over, tables-within, tables-laid}
 use Rattle.tra4.specs.Internal.Parse.{valueOf}
+use Rattle.tra4.specs.declared.setting.MovementAnswer.{MovementAnswer}
 use Rattle.tra4.specs.Answers.{refusedWith, answerOf}
-use Rattle.tra4.specs.Internal.Answers.{totalOf, countsAnswer, downAnswer, downTable, partsOf, Fits}
+use Rattle.tra4.specs.Internal.Answers.{Answered, totalOf, countsAnswer, downAnswer, downTable, partsOf, Fits}
 use Rattle.tra4.specs.Internal.Checks.{keyCount, rulesFault, parsedAs, Held}
 use Rattle.tra4_text.proofs.Names.{movement-placed}
 use Rattle.tra4_text.proofs.Whole.{WholeBone, WholeMovement, movement-whole}
 use Rattle.tra4_text.proofs.Layouts.{all-wide, rows-wide, rows-count, layout-length}
 use Rattle.tra4.proofs.Bones.{fold-bones, fold-over}
-use Rattle.tra4.proofs.Settings.{answer-is, table-is, refused-answer, refused-table}
+use Rattle.tra4.proofs.Settings.{answer-is, table-is, refused-answered}
 use Rattle.table_counts.specs.Counts.{movementMosts, movementLists}
 
 -- ---- what is kept of bones
@@ -182,11 +183,8 @@ module _ {p : Parsed} {b′ k′ g′ : List ℤ} (h : Held p b′ k′ g′) wh
     unfolding ruled
     broken = rw (sym rules ∙ e)
 
-    pub broken-answer : (room : ℕ) → refusedWith n i ≡ answerOf (fitted layoutOf room (ruled read (movementFault read)))
-    broken-answer room = refused-answer broken room
-
-    pub broken-table : (table : List ℤ) → table ≡ laid layoutOf table (fitted layoutOf (length table) (ruled read (movementFault read)))
-    broken-table table = refused-table broken table
+    pub broken-rows : {r : MovementAnswer} → r ≡ refusedWith n i → (table : List ℤ) → Answered (ruled read (movementFault read)) table table r
+    broken-rows a table = refused-answered broken a table
 
   -- none is
   module _ (e : rulesFault p b′ k′ g′ ≡ clear) where
@@ -244,8 +242,9 @@ module _ {p : Parsed} {b′ k′ g′ : List ℤ} (h : Held p b′ k′ g′) wh
           patterns = room-is 3 256 (p .patterns) (read .patterns) g g′ (whole .patterns) (within .2) (omega (arith, h .patterns-most)) patterns-are;
         }
 
-    pub down-answer : (room : ℕ) → downAnswer p room ≡ answerOf (fitted layoutOf room (ruled read (movementFault read)))
-    down-answer room = answer-is read p total counts room ∙ ap (λ (o : Outcome Movement). answerOf (fitted layoutOf room o)) (sym taken)
-
-    pub down-table : (table : List ℤ) → downTable p (partsOf p b′ k′ g′) table ≡ laid layoutOf table (fitted layoutOf (length table) (ruled read (movementFault read)))
-    down-table table = ap (λ (l : List ℤ). downTable p l table) parts ∙ table-is read p total table ∙ ap (λ (o : Outcome Movement). laid layoutOf table (fitted layoutOf (length table) o)) (sym taken)
+    pub down-rows : (table exit : List ℤ) {r : MovementAnswer} → r ≡ downAnswer p (length table) → exit ≡ downTable p (partsOf p b′ k′ g′) table → Answered (ruled read (movementFault read)) table exit r
+    down-rows table exit a c =
+        record {
+          answer = a ∙ answer-is read p total counts (length table) ∙ ap (λ (o : Outcome Movement). answerOf (fitted layoutOf (length table) o)) (sym taken);
+          content = c ∙ ap (λ (l : List ℤ). downTable p l table) parts ∙ table-is read p total table ∙ ap (λ (o : Outcome Movement). laid layoutOf table (fitted layoutOf (length table) o)) (sym taken);
+        }

@@ -1,5 +1,5 @@
 -- The answer and the table by whether the table is long enough, and the numbers that stand first.
-use mathlib.Core.Path.{_≡_, refl, ap, _∙_}
+use mathlib.Core.Path.{_≡_, refl, ap, sym, _∙_}
 use mathlib.Core.List.{List, [], _∷_}
 use mathlib.Core.Bool.{Bool, true, false}
 use Prim.Native.Nat.{ℕ, _^_, _≤_, _<_}
@@ -16,9 +16,11 @@ use Rattle.refusal.specs.Outcomes.{Outcome, rejected, accepted, fitted, laid}
 use Rattle.parse_text.proofs.Outcomes.{fitted-room, fitted-short, fitted-rejected, laid-rejected, laid-accepted}
 use Rattle.tra4_text.specs.Movement.{Movement}
 use Rattle.tra4_text.specs.Layout.{layoutOf}
+use Rattle.tra4_text.specs.Answer.{movementOutcome, movementAnswer, movementTable}
 use Rattle.tra4_parse.specs.declared.shape.Parsed.{Parsed}
+use Rattle.tra4.specs.declared.setting.MovementAnswer.{MovementAnswer}
 use Rattle.tra4.specs.Answers.{refusedWith, answerOf}
-use Rattle.tra4.specs.Internal.Answers.{totalOf, countsAnswer, downAnswer, downTable}
+use Rattle.tra4.specs.Internal.Answers.{Answered, totalOf, countsAnswer, downAnswer, downTable}
 
 -- a part that is lent
 pub part-length : (n : ℕ) (l : List ℤ) → n ≤ length l → n ≡ length (take n l)
@@ -43,15 +45,20 @@ module _ (p : Parsed) where
   unfolding downTable
   long-table numbers table exit h e = e ∙ rw (le-leb (totalOf p) (length table) h, downTable)
 
--- ---- an outcome that is a refusal
+-- ---- the ways to answer
 
-module _ {o : Outcome Movement} {n p : ℕ} (e : o ≡ rejected n p) where
-  pub refused-answer : (room : ℕ) → refusedWith n p ≡ answerOf (fitted layoutOf room o)
-  unfolding answerOf
-  refused-answer room = rw (fitted-rejected layoutOf e room)
+-- a refusal leaves the table
+pub refused-answered : {o : Outcome Movement} {n p : ℕ} {r : MovementAnswer} → o ≡ rejected n p → r ≡ refusedWith n p → (table : List ℤ) → Answered o table table r
+unfolding answerOf
+refused-answered e a table =
+    let f = fitted-rejected layoutOf e (length table) in
+    record { answer = a ∙ rw f; content = laid-rejected layoutOf f table }
 
-  pub refused-table : (table : List ℤ) → table ≡ laid layoutOf table (fitted layoutOf (length table) o)
-  refused-table table = laid-rejected layoutOf (fitted-rejected layoutOf e (length table)) table
+-- the answer that `read` promises
+pub outcome-answered : (text : List ℕ) {o : Outcome Movement} {table exit : List ℤ} {r : MovementAnswer} → movementOutcome text ≡ o → Answered o table exit r → (r ≡ answerOf (movementAnswer text (length table))) × (exit ≡ movementTable text table)
+unfolding movementAnswer movementTable
+outcome-answered text {table = table} e a =
+    (a .answer ∙ ap (λ (o : Outcome Movement). answerOf (fitted layoutOf (length table) o)) (sym e), a .content ∙ ap (λ (o : Outcome Movement). laid layoutOf table (fitted layoutOf (length table) o)) (sym e))
 
 -- ---- a movement that is taken
 

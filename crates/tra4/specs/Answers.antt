@@ -16,5 +16,3 @@ refusedWith n p = record { refusal = n; place = p; file = 1; total = 0; counts =
 unfoldable pub answerOf : Outcome Movement → MovementAnswer
 answerOf (rejected n p) = refusedWith n p
 answerOf (accepted m) = record { refusal = 0; place = 0; file = 0; total = length (layoutOf m); counts = movementCounts m }
-
--- ---- from the counts and tables

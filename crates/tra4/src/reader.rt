@@ -1,16 +1,10 @@
 // Reads a movement's text into a lent table.
 ghost use mathlib.Core.Path.{_≡_};
-ghost use Prim.Native.Nat.{_≤_};
 ghost use lib.ListN.{length};
-ghost use Rattle.text_tokens.specs.Tokens.{lex};
-ghost use Rattle.refusal.specs.Outcomes.{fitted, laid, ruled};
-ghost use Rattle.parse_text.specs.Texts.{shaped};
-ghost use Rattle.tra4_text.specs.Grammar.{movement};
-ghost use Rattle.tra4_text.specs.Rules.{movementFault};
-ghost use Rattle.tra4_text.specs.Layout.{layoutOf};
 ghost use Rattle.tra4_text.specs.Answer.{movementAnswer, movementTable};
 ghost use Rattle.tra4.specs.Answers.{answerOf};
 ghost use Rattle.tra4.specs.Internal.Checks.{Held, keyCount};
+ghost use Rattle.tra4.specs.Internal.Answers.{RowsAnswered};
 use crate::setting::MovementAnswer;
 use crate::setting::refused;
 use crate::setting::set_down;
@@ -20,22 +14,14 @@ use tra4_parse::Parsed;
 use tra4_parse::parse;
 
 // The answer is document 01's, and the table holds the layout from its start on; or, where refused, what it held.
+// Each list is read into room for its most rows, and the lent table is written only once all is checked.
 pub fn read(text: &[u8], table: &mut [i64]) -> MovementAnswer
     ensures answer { λ r. ⌜ r ≡ answerOf (movementAnswer (now (text .entry)) (length (now (table .entry)))) ⌝ }
     ensures content { λ r. ⌜ now (table .exit) ≡ movementTable (now (text .entry)) (now (table .entry)) ⌝ }
 {
-    match text_check::check_text(text, Format::Tra) {
-        Checked::Refused { number, place } => refused(number, place),
-        Checked::Clear => read_shape(text, table),
+    if let Checked::Refused { number, place } = text_check::check_text(text, Format::Tra) {
+        return refused(number, place);
     }
-}
-
-// Each list has a table of its most rows.
-fn read_shape(text: &[u8], table: &mut [i64]) -> MovementAnswer
-    requires { ⌜ length (now text) ≤ 65536 ⌝ }
-    ensures answer { λ r. ⌜ r ≡ answerOf (fitted layoutOf (length (now (table .entry))) (shaped movementFault (movement (lex (now (text .entry)))))) ⌝ }
-    ensures content { λ r. ⌜ now (table .exit) ≡ laid layoutOf (now (table .entry)) (fitted layoutOf (length (now (table .entry))) (shaped movementFault (movement (lex (now (text .entry)))))) ⌝ }
-{
     let mut bone_rows = [0i64; 2816];
     let mut key_rows = [0i64; 8192];
     let mut pattern_rows = [0i64; 768];
@@ -63,8 +49,7 @@ fn read_rows(
     pattern_rows: &[i64],
 ) -> MovementAnswer
     requires { ⌜ Held p (now «bone_rows») (now «key_rows») (now «pattern_rows») ⌝ }
-    ensures answer { λ r. ⌜ ((h : Held p (now («bone_rows» .entry)) (now («key_rows» .entry)) (now («pattern_rows» .entry))) → r ≡ answerOf (fitted layoutOf (length (now (table .entry))) (ruled (h .read) (movementFault (h .read))))) ⌝ }
-    ensures content { λ r. ⌜ ((h : Held p (now («bone_rows» .entry)) (now («key_rows» .entry)) (now («pattern_rows» .entry))) → now (table .exit) ≡ laid layoutOf (now (table .entry)) (fitted layoutOf (length (now (table .entry))) (ruled (h .read) (movementFault (h .read))))) ⌝ }
+    ensures { λ r. ⌜ RowsAnswered p (now («bone_rows» .entry)) (now («key_rows» .entry)) (now («pattern_rows» .entry)) (now (table .entry)) (now (table .exit)) r ⌝ }
 {
     let total = p.total;
     let keys = key_count(p.over, p.keys);

@@ -1,6 +1,8 @@
 // A parsed movement's lists set down in the lent table.
 ghost use mathlib.Core.Path.{_≡_};
-ghost use lib.ListN.{length};
+ghost use Prim.Native.Nat.{_+_, _≤_, min};
+ghost use lib.ListN.{length, take};
+ghost use Rattle.table_rows.specs.Internal.Overlay.{overlayAt};
 ghost use Rattle.tra4.specs.Answers.{refusedWith};
 ghost use Rattle.tra4.specs.Internal.Answers.{Fits, downAnswer, downTable, partsOf};
 use table_counts::KEY_WIDTH;
@@ -32,6 +34,15 @@ pub(crate) fn refused(number: u8, place: usize) -> MovementAnswer
     }
 }
 
+// The first `size` numbers of `rows` put in the table at `at`; the index after them.
+fn put_part(table: &mut [i64], at: usize, rows: &[i64], size: usize) -> usize
+    requires { ⌜ size ≤ length (now rows) ⌝ }
+    ensures content { λ r. ⌜ now (table .exit) ≡ overlayAt at (take size (now (rows .entry))) (now (table .entry)) ⌝ }
+    ensures next { λ r. ⌜ r ≡ min (at + length (take size (now (rows .entry)))) (length (now (table .entry))) ⌝ }
+{
+    put(table, at, &rows[..size])
+}
+
 // Lays the lists without gaps, each list's part of its table; or refuses a table that is too short (17).
 pub(crate) fn set_down(
     table: &mut [i64],
@@ -55,9 +66,9 @@ pub(crate) fn set_down(
     let place = p.place;
     let size = p.length;
     let named = put(table, 0, &[frames, place as i64, size as i64]);
-    let boned = put(table, named, &bone_rows[..b]);
-    let keyed = put(table, boned, &key_rows[..k]);
-    put(table, keyed, &pattern_rows[..g]);
+    let boned = put_part(table, named, bone_rows, b);
+    let keyed = put_part(table, boned, key_rows, k);
+    put_part(table, keyed, pattern_rows, g);
     let counts = MovementCounts {
         bones: p.bones,
         keys: p.keys,

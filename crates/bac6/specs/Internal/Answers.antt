@@ -1,27 +1,26 @@
--- What a figure's answer says, and how it follows from what was parsed.
+-- How what was parsed is answered.
+use mathlib.Core.Path.{_≡_}
 use mathlib.Core.List.{List, [], _∷_}
-use mathlib.Core.Bool.{true, false}
-use Prim.Native.Nat.{ℕ}
-use lib.Dec.{leb}
 use lib.IntN.{ℤ, pos}
 use lib.ListN.{length}
-use Rattle.table_rows.specs.Internal.Overlay.{overlayAt}
-use Rattle.table_counts.specs.declared.counts.FigureCounts.{FigureCounts}
+use Rattle.refusal.specs.Outcomes.{Outcome, fitted, laid, ruled}
+use Rattle.bac6_text.specs.Figure.{Figure}
+use Rattle.bac6_text.specs.Rules.{figureFault}
+use Rattle.bac6_text.specs.Layout.{layoutOf}
 use Rattle.bac6_shape.specs.declared.shape.Parsed.{Parsed}
-use Rattle.bac6.specs.declared.setting.FigureAnswer.{FigureAnswer}
 use Rattle.bac6_layout.specs.Internal.Numbers.{numbersOf}
-use Rattle.bac6.specs.Internal.Places.{totalOf}
-use Rattle.bac6.specs.Answers.{refusedWith}
+use Rattle.bac6.specs.declared.setting.FigureAnswer.{FigureAnswer}
+use Rattle.bac6.specs.Answers.{answerOf}
+use Rattle.bac6.specs.Internal.Checks.{Held}
 
-unfoldable pub countsAnswer : FigureCounts → FigureAnswer
-countsAnswer n = record { refusal = 0; place = 0; file = 0; total = totalOf n; counts = n }
+-- an outcome's answer, and what it leaves of the table
+pub record Answered (o : Outcome Figure) (table exit : List ℤ) (r : FigureAnswer) : Type 0 where
+  pub answer : r ≡ answerOf (fitted layoutOf (length table) o)
+  pub content : exit ≡ laid layoutOf table (fitted layoutOf (length table) o)
 
--- 17 where the table is too short
-unfoldable pub downAnswer : FigureCounts → ℕ → FigureAnswer
-downAnswer n room = elim (leb (totalOf n) room) [ true ↦ countsAnswer n | false ↦ refusedWith 17 (totalOf n) ]
-
-unfoldable pub downTable : FigureCounts → List ℤ → List ℤ → List ℤ
-downTable n numbers table = elim (leb (totalOf n) (length table)) [ true ↦ overlayAt 0 numbers table | false ↦ table ]
+-- that of the rules over the figure that the rows hold
+pub record RowsAnswered (p : Parsed) (rows owners names table exit : List ℤ) (r : FigureAnswer) : Type 0 where
+  pub outcome : (h : Held p rows owners names) → Answered (ruled (h .read) (figureFault (h .read))) table exit r
 
 -- the numbers of what was parsed
 unfoldable pub laidNumbers : Parsed → List ℤ → List ℤ → List ℤ → List ℤ

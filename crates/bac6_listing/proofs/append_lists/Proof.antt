@@ -1,149 +1,116 @@
--- `append_lists` puts the lists one after the other, each by `append_list`.
-use mathlib.Core.Path.{ap, _∙_}
+-- `append_lists` puts one list after the other. The loop's invariant: the lists left, put after what is put, give all of them.
+use mathlib.Core.Path.{_≡_, refl, ap, _∙_}
+use Prim.Native.Nat.{_-_, _≤_}
+use native.Mathlib.Omega.{arith}
 use denote.Ref.{now}
+use lib.ListN.{length}
 use Rattle.text_bytes.specs.Bytes.{bytes}
 use Rattle.report_text.specs.Output.{output}
 use Rattle.report_lists.specs.Lists.{reached}
-use Rattle.report_lists.proofs.Texts.{next-list, allListed, putOf, all-lines}
+use Rattle.report_lists.proofs.Texts.{allListed, putOf, all-lines}
 use Rattle.bac6_listing.specs.Figures.{figureLists}
+use Rattle.bac6_listing.specs.Internal.Rows.{rowsAt, listsFrom}
+use Rattle.bac6_listing.proofs.Rows.{next-row, all-rows, size-most}
 use borrow.Author.Needs.{needs}
 use Rattle.bac6_listing.proofs.append_lists.Statement.{statement}
 use Rattle.bac6_listing.proofs.append_lists.Tie as tie
 
-slice-aggregate-append-list : tie.Need-slice-aggregate-append-list
-slice-aggregate-append-list c = search needs
+abbrev Inv-loop : tie.InvT-loop
+Inv-loop table buf₀ start words sizes widths counts p₀ i₀ buf p i =
+    (i ≤ 11)
+    × (length buf ≡ length buf₀)
+    × (allListed (reached p buf table) (listsFrom (rowsAt words sizes widths counts) (11 - i) i) ≡ allListed (reached p₀ buf₀ table) (listsFrom (rowsAt words sizes widths counts) 11 0))
 
-append-list-requires : tie.Need-append-list-requires
+abbrev μ-loop : tie.MeasureT-loop
+μ-loop table buf₀ start words sizes widths counts p₀ i₀ buf p i = 11 - i
+
+slice-aggregate-words : tie.Need-slice-aggregate-words Inv-loop μ-loop
+slice-aggregate-words c = search needs
+
+loop-holds : tie.Need-loop-holds Inv-loop μ-loop
+loop-holds c = (omega arith, refl, refl)
+
+mul-from : tie.Need-mul-from Inv-loop μ-loop
+mul-from c = omega arith
+
+mul-end : tie.Need-mul-end Inv-loop μ-loop
+mul-end c = omega arith
+
+array-read-end : tie.Need-array-read-end Inv-loop μ-loop
+array-read-end c = omega arith
+
+add-end : tie.Need-add-end Inv-loop μ-loop
+add-end c = omega (arith, size-most (c .before .loop .i))
+
+sub-append-list : tie.Need-sub-append-list Inv-loop μ-loop
+sub-append-list c = omega arith
+
+part-append-list-start : tie.Need-part-append-list-start Inv-loop μ-loop
+part-append-list-start c = omega arith
+
+part-append-list-end : tie.Need-part-append-list-end Inv-loop μ-loop
+part-append-list-end c = omega (arith, size-most (c .before .before .loop .i))
+
+mul-append-list : tie.Need-mul-append-list Inv-loop μ-loop
+mul-append-list c = omega arith
+
+array-read-append-list : tie.Need-array-read-append-list Inv-loop μ-loop
+array-read-append-list c = omega arith
+
+mul-append-list-2 : tie.Need-mul-append-list-2 Inv-loop μ-loop
+mul-append-list-2 c = omega arith
+
+array-read-append-list-2 : tie.Need-array-read-append-list-2 Inv-loop μ-loop
+array-read-append-list-2 c = omega arith
+
+append-list-requires : tie.Need-append-list-requires Inv-loop μ-loop
 append-list-requires c κs = search needs
 
-slice-aggregate-append-list-2 : tie.Need-slice-aggregate-append-list-2
-slice-aggregate-append-list-2 c = search needs
+add-i : tie.Need-add-i Inv-loop μ-loop
+add-i c = omega arith
 
-append-list-requires-2 : tie.Need-append-list-requires-2
-append-list-requires-2 c κs = search needs
+loop-less : tie.Need-loop-less Inv-loop μ-loop
+loop-less c = omega arith
 
-slice-aggregate-append-list-3 : tie.Need-slice-aggregate-append-list-3
-slice-aggregate-append-list-3 c = search needs
+loop-again : tie.Need-loop-again Inv-loop μ-loop
+unfolding rowsAt
+loop-again c =
+    let k = c .before .before in
+    let l = k .before .before .before .before .loop in
+    (omega arith, k .append-list .kept .0 ∙ l .inv .1, next-row _ (l .i) _ _ (omega arith) (k .append-list .ensures) ∙ l .inv .2)
 
-append-list-requires-3 : tie.Need-append-list-requires-3
-append-list-requires-3 c κs = search needs
+same-length : tie.Need-same-length Inv-loop μ-loop
+same-length c = c .before .loop .inv .1
 
-slice-aggregate-append-list-4 : tie.Need-slice-aggregate-append-list-4
-slice-aggregate-append-list-4 c = search needs
-
-append-list-requires-4 : tie.Need-append-list-requires-4
-append-list-requires-4 c κs = search needs
-
-slice-aggregate-append-list-5 : tie.Need-slice-aggregate-append-list-5
-slice-aggregate-append-list-5 c = search needs
-
-append-list-requires-5 : tie.Need-append-list-requires-5
-append-list-requires-5 c κs = search needs
-
-slice-aggregate-append-list-6 : tie.Need-slice-aggregate-append-list-6
-slice-aggregate-append-list-6 c = search needs
-
-append-list-requires-6 : tie.Need-append-list-requires-6
-append-list-requires-6 c κs = search needs
-
-slice-aggregate-append-list-7 : tie.Need-slice-aggregate-append-list-7
-slice-aggregate-append-list-7 c = search needs
-
-append-list-requires-7 : tie.Need-append-list-requires-7
-append-list-requires-7 c κs = search needs
-
-slice-aggregate-append-list-8 : tie.Need-slice-aggregate-append-list-8
-slice-aggregate-append-list-8 c = search needs
-
-append-list-requires-8 : tie.Need-append-list-requires-8
-append-list-requires-8 c κs = search needs
-
-slice-aggregate-append-list-9 : tie.Need-slice-aggregate-append-list-9
-slice-aggregate-append-list-9 c = search needs
-
-append-list-requires-9 : tie.Need-append-list-requires-9
-append-list-requires-9 c κs = search needs
-
-slice-aggregate-append-list-10 : tie.Need-slice-aggregate-append-list-10
-slice-aggregate-append-list-10 c = search needs
-
-append-list-requires-10 : tie.Need-append-list-requires-10
-append-list-requires-10 c κs = search needs
-
-slice-aggregate-append-list-11 : tie.Need-slice-aggregate-append-list-11
-slice-aggregate-append-list-11 c = search needs
-
-append-list-requires-11 : tie.Need-append-list-requires-11
-append-list-requires-11 c κs = search needs
-
-same-length : tie.Need-same-length
-same-length c =
-    let k11 = c .before .before in
-    let k10 = k11 .before .before .before .before .before in
-    let k9 = k10 .before .before .before .before .before in
-    let k8 = k9 .before .before .before .before .before in
-    let k7 = k8 .before .before .before .before .before in
-    let k6 = k7 .before .before .before .before .before in
-    let k5 = k6 .before .before .before .before .before in
-    let k4 = k5 .before .before .before .before .before in
-    let k3 = k4 .before .before .before .before .before in
-    let k2 = k3 .before .before .before .before .before in
-    let k1 = k2 .before .before .before .before .before in
-    k11 .append-list11 .kept .0 ∙ k10 .append-list10 .kept .0 ∙ k9 .append-list9 .kept .0 ∙ k8 .append-list8 .kept .0 ∙ k7 .append-list7 .kept .0 ∙ k6 .append-list6 .kept .0 ∙ k5 .append-list5 .kept .0 ∙ k4 .append-list4 .kept .0 ∙ k3 .append-list3 .kept .0 ∙ k2 .append-list2 .kept .0 ∙ k1 .append-list .kept .0
-
-returns : tie.Need-returns
-unfolding putOf reached allListed figureLists bytes
+returns : tie.Need-returns Inv-loop μ-loop
+unfolding putOf reached figureLists bytes rowsAt listsFrom
 returns c =
-    let k11 = c .before .before in
-    let k10 = k11 .before .before .before .before .before in
-    let k9 = k10 .before .before .before .before .before in
-    let k8 = k9 .before .before .before .before .before in
-    let k7 = k8 .before .before .before .before .before in
-    let k6 = k7 .before .before .before .before .before in
-    let k5 = k6 .before .before .before .before .before in
-    let k4 = k5 .before .before .before .before .before in
-    let k3 = k4 .before .before .before .before .before in
-    let k2 = k3 .before .before .before .before .before in
-    let k1 = k2 .before .before .before .before .before in
-    let a = k1 .before .before .before .before .args in
-    ap putOf (next-list _ (k11 .append-list11 .ensures)
-    (next-list _ (k10 .append-list10 .ensures)
-    (next-list _ (k9 .append-list9 .ensures)
-    (next-list _ (k8 .append-list8 .ensures)
-    (next-list _ (k7 .append-list7 .ensures)
-    (next-list _ (k6 .append-list6 .ensures)
-    (next-list _ (k5 .append-list5 .ensures)
-    (next-list _ (k4 .append-list4 .ensures)
-    (next-list _ (k3 .append-list3 .ensures)
-    (next-list _ (k2 .append-list2 .ensures)
-    (k1 .append-list .ensures)))))))))))
-    ∙ all-lines (output (a .start) (now (a .buf))) (now (a .table)) (figureLists (a .n))
+    let l = c .before .loop in
+    let a = c .before .before .before .before .args in
+    ap putOf (all-rows _ (l .i) _ _ (omega arith) (l .inv .2)) ∙ all-lines (output (a .start) (now (a .buf))) (now (a .table)) (figureLists (a .n))
 
 pub append-lists-spec : {M : Type 1} → statement M
 append-lists-spec =
     tie.close
     (tie.spec
-    slice-aggregate-append-list
+    Inv-loop
+    μ-loop
+    slice-aggregate-words
+    loop-holds
+    mul-from
+    mul-end
+    array-read-end
+    add-end
+    sub-append-list
+    part-append-list-start
+    part-append-list-end
+    mul-append-list
+    array-read-append-list
+    mul-append-list-2
+    array-read-append-list-2
     append-list-requires
-    slice-aggregate-append-list-2
-    append-list-requires-2
-    slice-aggregate-append-list-3
-    append-list-requires-3
-    slice-aggregate-append-list-4
-    append-list-requires-4
-    slice-aggregate-append-list-5
-    append-list-requires-5
-    slice-aggregate-append-list-6
-    append-list-requires-6
-    slice-aggregate-append-list-7
-    append-list-requires-7
-    slice-aggregate-append-list-8
-    append-list-requires-8
-    slice-aggregate-append-list-9
-    append-list-requires-9
-    slice-aggregate-append-list-10
-    append-list-requires-10
-    slice-aggregate-append-list-11
-    append-list-requires-11
+    add-i
+    loop-less
+    loop-again
     same-length
     returns)

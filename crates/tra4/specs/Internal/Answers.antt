@@ -1,4 +1,5 @@
--- What a movement's answer says, and how it follows from what was parsed.
+-- How what was parsed is answered.
+use mathlib.Core.Path.{_≡_}
 use mathlib.Core.List.{List, [], _∷_, _++_}
 use mathlib.Core.Bool.{true, false}
 use Prim.Native.Nat.{ℕ, _+_, _*_, _≤_}
@@ -6,9 +7,25 @@ use lib.Dec.{leb}
 use lib.IntN.{ℤ, pos}
 use lib.ListN.{length, take}
 use Rattle.table_rows.specs.Internal.Overlay.{overlayAt}
+use Rattle.refusal.specs.Outcomes.{Outcome, fitted, laid, ruled}
+use Rattle.tra4_text.specs.Movement.{Movement}
+use Rattle.tra4_text.specs.Rules.{movementFault}
+use Rattle.tra4_text.specs.Layout.{layoutOf}
 use Rattle.tra4_parse.specs.declared.shape.Parsed.{Parsed}
 use Rattle.tra4.specs.declared.setting.MovementAnswer.{MovementAnswer}
-use Rattle.tra4.specs.Answers.{refusedWith}
+use Rattle.tra4.specs.Answers.{refusedWith, answerOf}
+use Rattle.tra4.specs.Internal.Checks.{Held}
+
+-- an outcome's answer, and what it leaves of the table
+pub record Answered (o : Outcome Movement) (table exit : List ℤ) (r : MovementAnswer) : Type 0 where
+  pub answer : r ≡ answerOf (fitted layoutOf (length table) o)
+  pub content : exit ≡ laid layoutOf table (fitted layoutOf (length table) o)
+
+-- that of the rules over the movement that the rows hold
+pub record RowsAnswered (p : Parsed) (b k g table exit : List ℤ) (r : MovementAnswer) : Type 0 where
+  pub outcome : (h : Held p b k g) → Answered (ruled (h .read) (movementFault (h .read))) table exit r
+
+-- ---- from the counts and tables
 
 unfoldable pub totalOf : Parsed → ℕ
 totalOf p = 3 + p .bones * 22 + p .keys * 2 + p .patterns * 3

@@ -1,13 +1,12 @@
 -- `read_rows` refuses with the first fault, or sets the lists down, by the law of each branch.
-use mathlib.Core.Path.{_≡_, _∙_}
+use mathlib.Core.Path.{_≡_}
 use mir.Syntax.{w64}
 use mir.Facts.{toZ-ofZ}
-use lib.ListN.{length}
 use denote.Ref.{now}
 use Rattle.refusal.specs.Internal.Answers.{refusal}
 use Rattle.refusal.proofs.Rules.{refused-by, clear-by}
 use Rattle.tra4.specs.Internal.Checks.{rulesFault}
-use Rattle.tra4.proofs.Ends.{broken-answer, broken-table, rows-fit, down-answer, down-table}
+use Rattle.tra4.proofs.Ends.{broken-rows, rows-fit, down-rows}
 use borrow.Author.Needs.{needs}
 use Rattle.tra4.proofs.reader.read_rows.Statement.{statement}
 use Rattle.tra4.proofs.reader.read_rows.Tie as tie
@@ -43,7 +42,7 @@ returns c =
     let f = c .before .before .before .before in
     let t = now (f .before .before .before .args .table) in
     let e = refused-by (rules-are f) (c .before .before .number .given .1) in
-    (λ h. c .refused .ensures ∙ broken-answer h e (length t), λ h. broken-table h e t)
+    record { outcome = λ h. broken-rows h e (c .refused .ensures) t }
 
 same-length : tie.Need-same-length
 same-length c = search needs
@@ -53,7 +52,7 @@ returns-2 c =
     let f = c .before .before .before .before .before in
     let t = now (f .before .before .before .args .table) in
     let e = clear-by (rules-are f) (c .before .before .before .enum-told .given .1) in
-    (λ h. c .before .set-down .ensures .0 ∙ down-answer h e (length t), λ h. c .before .set-down .ensures .1 ∙ down-table h e t)
+    record { outcome = λ h. down-rows h e t _ (c .before .set-down .ensures .0) (c .before .set-down .ensures .1) }
 
 pub read-rows-spec : {M : Type 1} → statement M
 read-rows-spec =

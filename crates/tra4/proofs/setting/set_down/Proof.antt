@@ -10,7 +10,7 @@ use denote.Ref.{now}
 use Rattle.table_rows.specs.Internal.Overlay.{overlayAt}
 use Rattle.table_rows.proofs.Chains.{laid-first, laid-next}
 use Rattle.tra4.specs.Internal.Answers.{totalOf, countsAnswer, partsOf}
-use Rattle.tra4.proofs.Settings.{part-length, short-answer, short-table, long-answer, long-table, first-numbers}
+use Rattle.tra4.proofs.Settings.{short-answer, short-table, long-answer, long-table, first-numbers}
 use borrow.Author.Needs.{needs}
 use Rattle.tra4.proofs.setting.set_down.Statement.{statement}
 use Rattle.tra4.proofs.setting.set_down.Tie as tie
@@ -54,42 +54,39 @@ slice-aggregate-put c = search needs
 put-requires : tie.Need-put-requires
 put-requires c κs = search needs
 
-slice-aggregate-put-2 : tie.Need-slice-aggregate-put-2
-slice-aggregate-put-2 c = part-length _ _ (c .before .before .before .before .before .before .before .before .before .before .before .pre .bones)
+put-part-requires : tie.Need-put-part-requires
+put-part-requires c κs = c .before .before .before .before .before .before .before .before .before .before .pre .bones
 
-put-requires-2 : tie.Need-put-requires-2
-put-requires-2 c κs = search needs
+put-part-requires-2 : tie.Need-put-part-requires-2
+put-part-requires-2 c κs = c .before .before .before .before .before .before .before .before .before .before .before .before .before .pre .keys
 
-slice-aggregate-put-3 : tie.Need-slice-aggregate-put-3
-slice-aggregate-put-3 c = part-length _ _ (c .before .before .before .before .before .before .before .before .before .before .before .before .before .before .before .pre .keys)
-
-put-requires-3 : tie.Need-put-requires-3
-put-requires-3 c κs = search needs
-
-slice-aggregate-put-4 : tie.Need-slice-aggregate-put-4
-slice-aggregate-put-4 c = part-length _ _ (c .before .before .before .before .before .before .before .before .before .before .before .before .before .before .before .before .before .before .before .pre .patterns)
-
-put-requires-4 : tie.Need-put-requires-4
-put-requires-4 c κs = search needs
+put-part-requires-3 : tie.Need-put-part-requires-3
+put-part-requires-3 c κs = c .before .before .before .before .before .before .before .before .before .before .before .before .before .before .before .before .pre .patterns
 
 same-length : tie.Need-same-length
-same-length c = search needs
+same-length c =
+    let k3 = c .before in
+    let k2 = k3 .before .before .before in
+    let k1 = k2 .before .before .before in
+    let k0 = k1 .before .before .before in
+    k3 .put-part3 .kept .0 ∙ k2 .put-part2 .kept .0 ∙ k1 .put-part .kept .0 ∙ k0 .put .kept .0
 
 returns-2 : tie.Need-returns-2
 unfolding totalOf countsAnswer partsOf
 returns-2 c =
-    let a = c .before .before .before .before .before .before .before .before .before .before .before .before .before .before .before .before .before .before .before .before .before in
+    let k3 = c .before in
+    let k2 = k3 .before .before .before in
+    let k1 = k2 .before .before .before in
+    let k0 = k1 .before .before .before in
+    let told = k0 .before .before .before in
+    let a = told .before .before .before .before .before in
     let t = now (a .args .table) in
-    let one = c .before .before .before .before .before .before .before .before .before .before .before .before .before .put .ensures in
-    let two = c .before .before .before .before .before .before .before .before .before .put2 .ensures in
-    let three = c .before .before .before .before .before .put3 .ensures in
-    let four = c .before .put4 .ensures in
-    let first = first-numbers (a .args .p .total) _ (a .args .p .place) (a .args .p .length) (toZ-ofZ {w = w64} {z = a .args .p .total} (record { sfits = c .before .before .before .before .before .before .before .before .before .before .before .before .before .before .before .before .struct-told .given .1 .0 .1 })) (omega (arith, a .pre .place)) (omega (arith, a .pre .size)) in
-    let l1 = laid-first t (a .args .p .total ∷ pos (a .args .p .place) ∷ pos (a .args .p .length) ∷ []) _ _ (one .0 ∙ ap (λ (l : List ℤ). overlayAt 0 l t) first) (one .1) in
-    let l2 = laid-next t _ _ _ _ _ _ l1 (two .0) (two .1) in
-    let l3 = laid-next t _ _ _ _ _ _ l2 (three .0) (three .1) in
-    let l4 = laid-next t _ _ _ _ _ _ l3 (four .0) (four .1) in
-    (sym (long-answer (a .args .p) (length t) (c .before .before .before .before .before .before .before .before .before .before .before .before .before .before .before .before .before .if1 .left)), long-table (a .args .p) _ t _ (c .before .before .before .before .before .before .before .before .before .before .before .before .before .before .before .before .before .if1 .left) (l4 .0))
+    let first = first-numbers (a .args .p .total) _ (a .args .p .place) (a .args .p .length) (toZ-ofZ {w = w64} {z = a .args .p .total} (record { sfits = told .struct-told .given .1 .0 .1 })) (omega (arith, a .pre .place)) (omega (arith, a .pre .size)) in
+    let l1 = laid-first t (a .args .p .total ∷ pos (a .args .p .place) ∷ pos (a .args .p .length) ∷ []) _ _ (k0 .put .ensures .0 ∙ ap (λ (l : List ℤ). overlayAt 0 l t) first) (k0 .put .ensures .1) in
+    let l2 = laid-next t _ _ _ _ _ _ l1 (k1 .put-part .ensures .0) (k1 .put-part .ensures .1) in
+    let l3 = laid-next t _ _ _ _ _ _ l2 (k2 .put-part2 .ensures .0) (k2 .put-part2 .ensures .1) in
+    let l4 = laid-next t _ _ _ _ _ _ l3 (k3 .put-part3 .ensures .0) (k3 .put-part3 .ensures .1) in
+    (sym (long-answer (a .args .p) (length t) (told .before .if1 .left)), long-table (a .args .p) _ t _ (told .before .if1 .left) (l4 .0))
 
 pub set-down-spec : {M : Type 1} → statement M
 set-down-spec =
@@ -107,11 +104,8 @@ set-down-spec =
     cast-t24
     slice-aggregate-put
     put-requires
-    slice-aggregate-put-2
-    put-requires-2
-    slice-aggregate-put-3
-    put-requires-3
-    slice-aggregate-put-4
-    put-requires-4
+    put-part-requires
+    put-part-requires-2
+    put-part-requires-3
     same-length
     returns-2)
