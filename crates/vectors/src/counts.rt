@@ -1,0 +1,39 @@
+// The counts of a table's lists.
+use crate::record::next_number;
+use table_counts::FigureCounts;
+use table_counts::MovementCounts;
+
+// Nine counts from an offset on.
+pub(crate) fn figure_counts(args: &[u8], at: usize) -> FigureCounts {
+    let textures = next_number(args, at);
+    let colours = next_number(args, textures.at);
+    let materials = next_number(args, colours.at);
+    let points = next_number(args, materials.at);
+    let normals = next_number(args, points.at);
+    let bones = next_number(args, normals.at);
+    let uvs = next_number(args, bones.at);
+    let faces = next_number(args, uvs.at);
+    let groups = next_number(args, faces.at);
+    FigureCounts {
+        textures: textures.size,
+        colours: colours.size,
+        materials: materials.size,
+        points: points.size,
+        normals: normals.size,
+        bones: bones.size,
+        uvs: uvs.size,
+        faces: faces.size,
+        groups: groups.size,
+    }
+}
+
+pub(crate) fn movement_counts(args: &[u8], at: usize) -> MovementCounts {
+    let bones = next_number(args, at);
+    let keys = next_number(args, bones.at);
+    let patterns = next_number(args, keys.at);
+    MovementCounts {
+        bones: bones.size,
+        keys: keys.size,
+        patterns: patterns.size,
+    }
+}
