@@ -29,18 +29,16 @@ use texts::tell_tokens;
 fn answer(
     kind: usize,
     input: &[u8],
-    from: usize,
-    end: usize,
+    args: &[u8],
     k: Kept,
     figure: &mut [i64; 11779],
     moves: &mut [i64; 11779],
     out: &mut [u8; 4096],
 ) -> usize {
     if SAMPLE <= kind {
-        let args = text_runs::part(input, from, end);
         return play::ask(kind, input, args, k, *figure, *moves, out);
     }
-    let t = text_of(input, from, k);
+    let t = text_of(input, args, k);
     let text = text_runs::part(&t.bytes, 0, t.size);
     match kind {
         TOKENS => tell_tokens(text, out),
@@ -75,7 +73,8 @@ fn run_record(
     io::write_all(STDOUT_FILENO, text_runs::part(input, word.start, label.end));
     io::write_all(STDOUT_FILENO, b"\t");
     let mut out = [0u8; 4096];
-    let size = answer(kind, input, label.end, end, k, figure, moves, &mut out);
+    let args = text_runs::part(input, label.end, end);
+    let size = answer(kind, input, args, k, figure, moves, &mut out);
     put(&out, size);
     k
 }

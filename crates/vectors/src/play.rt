@@ -1,5 +1,6 @@
 // Questions on tables: Sample, Corner and Shown. Each answer is put at the start of out, and its length told.
 use crate::counts::figure_counts;
+use crate::counts::lent_size;
 use crate::counts::movement_counts;
 use crate::kept::Kept;
 use crate::kind::CORNER;
@@ -31,12 +32,10 @@ fn answer(
     c: usize,
     out: &mut [u8; 4096],
 ) -> usize {
-    let size = next_number(input, k.figure);
-    let n = figure_counts(input, size.at);
-    let table = front(figure, size.size);
-    let room = next_number(input, k.movement);
-    let m = movement_counts(input, room.at);
-    let keys = front(moves, room.size);
+    let n = figure_counts(input, k.figure);
+    let table = front(figure, lent_size(input, k.figure));
+    let m = movement_counts(input, k.movement);
+    let keys = front(moves, lent_size(input, k.movement));
     match kind {
         SAMPLE => { sample_listing::list_fraction(out, player_samples::sample(keys, m, a, b, c)) }
         CORNER => {

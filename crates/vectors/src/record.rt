@@ -51,8 +51,8 @@ pub(crate) struct Text {
     pub size: usize,
 }
 
-// The text of a question: the front and the copies after it, what stands from `from` on, and the back, padded to its least length.
-pub(crate) fn text_of(input: &[u8], from: usize, k: Kept) -> Text {
+// The text of a question: the front and the copies after it, its own TEXT, and the back, padded to its least length.
+pub(crate) fn text_of(input: &[u8], args: &[u8], k: Kept) -> Text {
     let mut bytes = [32u8; 65600];
     let mut filled = append_text(&mut bytes, 0, input, k.front);
     let copies = next_number(input, k.copies);
@@ -61,7 +61,7 @@ pub(crate) fn text_of(input: &[u8], from: usize, k: Kept) -> Text {
         filled = append_text(&mut bytes, filled, input, copies.at);
         i += 1;
     }
-    filled = append_text(&mut bytes, filled, input, from);
+    filled = append_text(&mut bytes, filled, args, 0);
     filled = append_text(&mut bytes, filled, input, k.back);
     let least = next_number(input, k.pad);
     if filled < least.size {

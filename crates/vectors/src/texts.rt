@@ -2,8 +2,8 @@
 use crate::kind::BAC;
 use crate::kind::INT;
 use crate::kind::TRA;
+use crate::counts::lent_size;
 use crate::play::front;
-use crate::record::next_number;
 use refusal::Checked;
 use report_lists::shown;
 use report_rows::append_row;
@@ -122,11 +122,7 @@ pub(crate) fn tell_figure(
     table: &mut [i64; 11779],
     out: &mut [u8; 4096],
 ) -> usize {
-    let room = next_number(input, counts);
-    let size = room.size;
-    if 11779 < size {
-        return 0;
-    }
+    let size = lent_size(input, counts);
     let mut lent = [0i64; 11779];
     let answer = bac6::read(text, &mut lent[0..size]);
     *table = lent;
@@ -141,11 +137,7 @@ pub(crate) fn tell_movement(
     table: &mut [i64; 11779],
     out: &mut [u8; 4096],
 ) -> usize {
-    let room = next_number(input, counts);
-    let size = room.size;
-    if 11779 < size {
-        return 0;
-    }
+    let size = lent_size(input, counts);
     let mut lent = [0i64; 11779];
     let answer = tra4::read(text, &mut lent[0..size]);
     *table = lent;

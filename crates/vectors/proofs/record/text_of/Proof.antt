@@ -5,10 +5,10 @@ use Rattle.vectors.proofs.record.text_of.Statement.{statement}
 use Rattle.vectors.proofs.record.text_of.Tie as tie
 
 abbrev Inv-loop : tie.InvT-loop
-Inv-loop input from k bytes₀ filled₀ copies i₀ bytes filled i = Unit {0}
+Inv-loop input args k bytes₀ filled₀ copies i₀ bytes filled i = Unit {0}
 
 abbrev μ-loop : tie.MeasureT-loop
-μ-loop input from k bytes₀ filled₀ copies i₀ bytes filled i = copies .size - i
+μ-loop input args k bytes₀ filled₀ copies i₀ bytes filled i = copies .size - i
 
 append-text-requires : tie.Need-append-text-requires Inv-loop μ-loop
 append-text-requires c κs = search needs
