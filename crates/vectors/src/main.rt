@@ -36,7 +36,7 @@ fn answer(
     out: &mut [u8; 4096],
 ) -> usize {
     if SAMPLE <= kind {
-        return play::ask(kind, input, args, k, *figure, *moves, out);
+        return play::ask(kind, input, args, k, figure, moves, out);
     }
     let t = text_of(input, args, k);
     let text = text_runs::part(&t.bytes, 0, t.size);

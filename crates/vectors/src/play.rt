@@ -21,6 +21,7 @@ pub(crate) fn front(table: &[i64], size: usize) -> &[i64] {
     &table[0..size]
 }
 
+// A question of no known kind has no answer.
 fn answer(
     kind: usize,
     input: &[u8],
@@ -52,30 +53,36 @@ fn answer(
     }
 }
 
-// The numbers asked, and then perhaps the name of a table, an index and the number that stands there for this question.
+// A table with another number in it, where a question gives its name, an index and that number from an offset on.
+fn altered(table: &[i64; 11779], name: usize, args: &[u8], at: usize) -> [i64; 11779] {
+    let word = text_tokens::next(args, at);
+    let index = next_number(args, word.end);
+    let number = next_number(args, index.at);
+    let i = index.size;
+    let z = number.value;
+    let mut t = *table;
+    if kind_of(args, word) == name {
+        if i < 11779 {
+            t[i] = z;
+        }
+    }
+    t
+}
+
+// The numbers asked, and then perhaps another number for a table.
 pub(crate) fn ask(
     kind: usize,
     input: &[u8],
     args: &[u8],
     k: Kept,
-    mut figure: [i64; 11779],
-    mut moves: [i64; 11779],
+    figure: &[i64; 11779],
+    moves: &[i64; 11779],
     out: &mut [u8; 4096],
 ) -> usize {
     let a = next_number(args, 0);
     let b = next_number(args, a.at);
     let c = next_number(args, b.at);
-    let word = text_tokens::next(args, c.at);
-    let index = next_number(args, word.end);
-    let number = next_number(args, index.at);
-    let i = index.size;
-    let z = number.value;
-    if i < 11779 {
-        match kind_of(args, word) {
-            FIGURE => figure[i] = z,
-            MOVEMENT => moves[i] = z,
-            _ => {}
-        }
-    }
-    answer(kind, input, k, &figure, &moves, a.size, b.size, c.size, out)
+    let f = altered(figure, FIGURE, args, c.at);
+    let m = altered(moves, MOVEMENT, args, c.at);
+    answer(kind, input, k, &f, &m, a.size, b.size, c.size, out)
 }

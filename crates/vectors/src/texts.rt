@@ -1,8 +1,8 @@
 // Questions on texts: tokens, numbers, figures and movements. Each answer is put at the start of out, and its length told.
+use crate::counts::lent_size;
 use crate::kind::BAC;
 use crate::kind::INT;
 use crate::kind::TRA;
-use crate::counts::lent_size;
 use crate::play::front;
 use refusal::Checked;
 use report_lists::shown;
@@ -11,6 +11,23 @@ use text_check::Format;
 use text_numbers::Parsed;
 use text_runs::Run;
 use text_tokens::Kind;
+
+// Where each word begins in the list of `append_line`.
+const OPENING: usize = 0;
+
+const CLOSING: usize = 8;
+
+const QUOTED: usize = 16;
+
+const PLAIN: usize = 23;
+
+const ENDING: usize = 29;
+
+const CLEAR: usize = 36;
+
+const REFUSED: usize = 42;
+
+const VALUE: usize = 50;
 
 // A line: where its word begins in the list of them, and how many of its numbers are told.
 pub(crate) struct Line {
@@ -21,6 +38,7 @@ pub(crate) struct Line {
     c: i64,
 }
 
+// Puts a line after the first n bytes of out.
 pub(crate) fn append_line(out: &mut [u8; 4096], n: usize, line: Line) -> usize {
     let words: &[u8] = b"opening closing quoted plain ending clear refused value";
     let end = text_runs::run_end(words, line.word, Run::Word);
@@ -31,14 +49,14 @@ pub(crate) fn append_line(out: &mut [u8; 4096], n: usize, line: Line) -> usize {
 fn checked_line(answer: Checked) -> Line {
     match answer {
         Checked::Clear => Line {
-            word: 36,
+            word: CLEAR,
             count: 0,
             a: 0,
             b: 0,
             c: 0,
         },
         Checked::Refused { number, place } => Line {
-            word: 42,
+            word: REFUSED,
             count: 2,
             a: number as i64,
             b: shown(place),
@@ -50,21 +68,21 @@ fn checked_line(answer: Checked) -> Line {
 fn number_line(answer: Parsed) -> Line {
     match answer {
         Parsed::Value(z) => Line {
-            word: 50,
+            word: VALUE,
             count: 1,
             a: z,
             b: 0,
             c: 0,
         },
         Parsed::Beyond => Line {
-            word: 42,
+            word: REFUSED,
             count: 1,
             a: 6,
             b: 0,
             c: 0,
         },
         Parsed::Malformed => Line {
-            word: 42,
+            word: REFUSED,
             count: 1,
             a: 5,
             b: 0,
@@ -91,11 +109,11 @@ pub(crate) fn tell_tokens(text: &[u8], out: &mut [u8; 4096]) -> usize {
         let t = text_tokens::next(text, at);
         let kind = t.kind;
         let word = match kind {
-            Kind::Opening => 0,
-            Kind::Closing => 8,
-            Kind::Quoted => 16,
-            Kind::Plain => 23,
-            Kind::Ending => 29,
+            Kind::Opening => OPENING,
+            Kind::Closing => CLOSING,
+            Kind::Quoted => QUOTED,
+            Kind::Plain => PLAIN,
+            Kind::Ending => ENDING,
         };
         let line = Line {
             word,
