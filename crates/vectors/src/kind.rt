@@ -21,8 +21,6 @@ pub(crate) const TRA: usize = 9;
 
 pub(crate) const INT: usize = 10;
 
-pub(crate) const FLOAT: usize = 11;
-
 pub(crate) const TOKENS: usize = 12;
 
 pub(crate) const FIGURE: usize = 13;

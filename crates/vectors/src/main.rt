@@ -1,5 +1,6 @@
 // Runs vectors, the lines of document 01's "Both sides of each line" among them. Each line of standard input is a record,
 // KIND "LABEL" ARGS; docs/ARCHITECTURE.md, "Vectors", says what each kind means.
+mod counts;
 mod kept;
 mod kind;
 mod play;
@@ -8,34 +9,47 @@ mod texts;
 
 use kept::Kept;
 use kept::keep;
-use kept::nothing;
 use kind::BAC;
+use kind::FIGURE;
+use kind::MOVEMENT;
 use kind::SAMPLE;
+use kind::TOKENS;
 use kind::kind_of;
 use libc::STDIN_FILENO;
-use record::after;
-use record::put;
+use libc::STDOUT_FILENO;
+use record::text_of;
 use text_runs::Run;
+use texts::append_line;
+use texts::line_of;
+use texts::tell_figure;
+use texts::tell_movement;
+use texts::tell_tokens;
 
-// Prints the answer to a question.
+// Puts the answer to a question at the start of out, and tells its length.
 fn answer(
     kind: usize,
     input: &[u8],
-    from: usize,
-    end: usize,
+    args: &[u8],
     k: Kept,
-    table: &mut [i64; 11400],
+    figure: &mut [i64; 11779],
     moves: &mut [i64; 11779],
-) {
-    let mut out = [0u8; 4096];
-    if kind < SAMPLE {
-        let told = texts::ask(kind, input, from, end, k, table, moves, &mut out);
-        put(text_parts::part(&out, 0, told));
-        return;
+    out: &mut [u8; 4096],
+) -> usize {
+    if SAMPLE <= kind {
+        return play::ask(kind, input, args, k, figure, moves, out);
     }
-    let args = text_parts::part(input, from, end);
-    let filled = play::ask(kind, args, k, table, moves, &mut out);
-    put(text_parts::part(&out, 0, filled));
+    let t = text_of(input, args, k);
+    let text = text_parts::part(&t.bytes, 0, t.size);
+    match kind {
+        TOKENS => tell_tokens(text, out),
+        FIGURE => tell_figure(text, input, k.figure, figure, out),
+        MOVEMENT => tell_movement(text, input, k.movement, moves, out),
+        _ => append_line(out, 0, line_of(kind, text)),
+    }
+}
+
+fn put(out: &[u8; 4096], size: usize) {
+    io::write_all(STDOUT_FILENO, text_parts::part(out, 0, size));
 }
 
 // Keeps a record, or prints the kind and the label of a question, and its answer.
@@ -44,7 +58,7 @@ fn run_record(
     at: usize,
     end: usize,
     k: Kept,
-    table: &mut [i64; 11400],
+    figure: &mut [i64; 11779],
     moves: &mut [i64; 11779],
 ) -> Kept {
     let word = text_tokens::next(input, at);
@@ -52,24 +66,33 @@ fn run_record(
         return k;
     }
     let label = text_tokens::next(input, word.end);
-    let from = after(label.end, end);
     let kind = kind_of(input, word);
     if kind < BAC {
-        return keep(kind, input, from, end, k, table, moves);
+        return keep(kind, input, label.end, k, figure, moves);
     }
-    put(text_parts::part(input, word.start, label.end));
-    put(b"\t");
-    answer(kind, input, from, end, k, table, moves);
+    io::write_all(
+        STDOUT_FILENO,
+        text_parts::part(input, word.start, label.end),
+    );
+    io::write_all(STDOUT_FILENO, b"\t");
+    let mut out = [0u8; 4096];
+    let args = text_parts::part(input, label.end, end);
+    let size = answer(kind, input, args, k, figure, moves, &mut out);
+    put(&out, size);
     k
 }
 
-fn run(input: &[u8], table: &mut [i64; 11400], moves: &mut [i64; 11779]) {
-    let mut k = nothing();
+fn run(input: &mut [u8; 131072]) {
+    let size = io::read_full(STDIN_FILENO, input);
+    let records = text_parts::part(input, 0, size);
+    let mut k = kept::nothing(size);
+    let mut figure = [0i64; 11779];
+    let mut moves = [0i64; 11779];
     let mut at = 0;
     loop {
-        let end = text_runs::run_end(input, at, Run::Line);
-        k = run_record(input, at, end, k, table, moves);
-        if input.len() <= end {
+        let end = text_runs::run_end(records, at, Run::Line);
+        k = run_record(records, at, end, k, &mut figure, &mut moves);
+        if records.len() <= end {
             return;
         }
         at = end + 1;
@@ -78,8 +101,5 @@ fn run(input: &[u8], table: &mut [i64; 11400], moves: &mut [i64; 11779]) {
 
 fn main() {
     let mut input = [0u8; 131072];
-    let size = io::read_full(STDIN_FILENO, &mut input);
-    let mut table = [0i64; 11400];
-    let mut moves = [0i64; 11779];
-    run(text_parts::part(&input, 0, size), &mut table, &mut moves);
+    run(&mut input);
 }

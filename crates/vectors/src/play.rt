@@ -1,4 +1,7 @@
 // Questions on tables: Sample, Corner and Shown. Each answer is put at the start of out, and its length told.
+use crate::counts::figure_counts;
+use crate::counts::lent_size;
+use crate::counts::movement_counts;
 use crate::kept::Kept;
 use crate::kind::CORNER;
 use crate::kind::FIGURE;
@@ -7,116 +10,79 @@ use crate::kind::SAMPLE;
 use crate::kind::SHOWN;
 use crate::kind::kind_of;
 use crate::record::next_number;
-use report_text::append;
-
-// Sets a number of a table, and answers what stood there.
-fn exchange(table: &mut [i64], at: usize, z: i64) -> i64 {
-    if table.len() <= at {
-        return z;
-    }
-    let old = table[at];
-    table[at] = z;
-    old
-}
-
-// The same in the figure's table or the movement's, by its name.
-fn alter(
-    table: &mut [i64; 11400],
-    moves: &mut [i64; 11779],
-    name: usize,
-    at: usize,
-    z: i64,
-) -> i64 {
-    match name {
-        FIGURE => exchange(table, at, z),
-        MOVEMENT => exchange(moves, at, z),
-        _ => z,
-    }
-}
+use player_corners::Cornered;
+use player_samples::Sampled;
 
 // The first numbers of a table, or none where it is shorter.
-fn front(table: &[i64], size: usize) -> &[i64] {
+pub(crate) fn front(table: &[i64], size: usize) -> &[i64] {
     if table.len() < size {
         return &table[0..0];
     }
     &table[0..size]
 }
 
-fn tell_sample(
-    moves: &[i64],
-    k: Kept,
-    bone: usize,
-    channel: usize,
-    at: usize,
-    out: &mut [u8],
-) -> usize {
-    let m = k.movement;
-    let answer = player_samples::sample(front(moves, k.movement_size), m, bone, channel, at);
-    sample_listing::list_fraction(out, answer)
-}
-
-// A corner that does not exist has no line.
-fn tell_corner(table: &[i64], k: Kept, face: usize, corner: usize, out: &mut [u8]) -> usize {
-    let n = k.figure;
-    let answer = player_corners::corner(front(table, k.figure_size), n, face, corner);
-    let filled = corner_listing::append_corner(out, 0, face, corner, answer);
-    if filled == 0 {
-        return append(out, 0, b"refused\t21\t0\n");
-    }
-    filled
-}
-
-fn tell_shown(
-    table: &[i64],
-    moves: &[i64],
-    k: Kept,
-    face: usize,
-    at: usize,
-    out: &mut [u8],
-) -> usize {
-    let n = k.figure;
-    let m = k.movement;
-    let figure = front(table, k.figure_size);
-    let answer = player_shown::shown(figure, n, front(moves, k.movement_size), m, face, at);
-    shown_listing::append_shown(out, 0, face, at, answer)
-}
-
+// A question of no known kind has no answer.
 fn answer(
     kind: usize,
-    table: &[i64; 11400],
-    moves: &[i64; 11779],
+    input: &[u8],
     k: Kept,
+    figure: &[i64; 11779],
+    moves: &[i64; 11779],
     a: usize,
     b: usize,
     c: usize,
-    out: &mut [u8],
+    out: &mut [u8; 4096],
 ) -> usize {
+    let n = figure_counts(input, k.figure);
+    let table = front(figure, lent_size(input, k.figure));
+    let m = movement_counts(input, k.movement);
+    let keys = front(moves, lent_size(input, k.movement));
     match kind {
-        SAMPLE => tell_sample(moves, k, a, b, c, out),
-        CORNER => tell_corner(table, k, a, b, out),
-        SHOWN => tell_shown(table, moves, k, a, b, out),
-        _ => append(out, 0, b"no such kind\n"),
+        SAMPLE => { sample_listing::list_fraction(out, player_samples::sample(keys, m, a, b, c)) }
+        CORNER => {
+            let answer = player_corners::corner(table, n, a, b);
+            match answer {
+                Cornered::Refused => sample_listing::list_fraction(out, Sampled::Refused),
+                _ => corner_listing::append_corner(out, 0, a, b, answer),
+            }
+        }
+        SHOWN => {
+            shown_listing::append_shown(out, 0, a, b, player_shown::shown(table, n, keys, m, a, b))
+        }
+        _ => report_text::append(out, 0, b"no such kind\n"),
     }
 }
 
-// The numbers asked, and then perhaps the name of a table, an index and the number that stands there for this question.
+// A table with another number in it, where a question gives its name, an index and that number from an offset on.
+fn altered(table: &[i64; 11779], name: usize, args: &[u8], at: usize) -> [i64; 11779] {
+    let word = text_tokens::next(args, at);
+    let index = next_number(args, word.end);
+    let number = next_number(args, index.at);
+    let i = index.size;
+    let z = number.value;
+    let mut t = *table;
+    if kind_of(args, word) == name {
+        if i < 11779 {
+            t[i] = z;
+        }
+    }
+    t
+}
+
+// The numbers asked, and then perhaps another number for a table.
 pub(crate) fn ask(
     kind: usize,
+    input: &[u8],
     args: &[u8],
     k: Kept,
-    table: &mut [i64; 11400],
-    moves: &mut [i64; 11779],
-    out: &mut [u8],
+    figure: &[i64; 11779],
+    moves: &[i64; 11779],
+    out: &mut [u8; 4096],
 ) -> usize {
     let a = next_number(args, 0);
     let b = next_number(args, a.at);
     let c = next_number(args, b.at);
-    let word = text_tokens::next(args, c.at);
-    let name = kind_of(args, word);
-    let index = next_number(args, word.end);
-    let z = next_number(args, index.at);
-    let old = alter(table, moves, name, index.size, z.value);
-    let filled = answer(kind, table, moves, k, a.size, b.size, c.size, out);
-    alter(table, moves, name, index.size, old);
-    filled
+    let f = altered(figure, FIGURE, args, c.at);
+    let m = altered(moves, MOVEMENT, args, c.at);
+    answer(kind, input, k, &f, &m, a.size, b.size, c.size, out)
 }

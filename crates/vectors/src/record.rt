@@ -1,19 +1,14 @@
 // What a record holds: texts and numbers.
-ghost use Prim.Native.Nat.{_≤_, _<_, _^_};
-ghost use lib.ListN.{length};
+ghost use Prim.Native.Nat.{_<_, _^_};
 use crate::kept::Kept;
-use libc::STDOUT_FILENO;
+use text_runs::Run;
 
-pub(crate) fn put(text: &[u8]) {
-    io::write_all(STDOUT_FILENO, text);
-}
-
-// The offset after one, within size.
-pub(crate) fn after(at: usize, size: usize) -> usize {
-    if size <= at {
-        return size;
+// The byte at an offset, or past the end 0.
+fn byte(bytes: &[u8], at: usize) -> u8 {
+    if bytes.len() <= at {
+        return 0;
     }
-    at + 1
+    bytes[at]
 }
 
 // The value of a digit, to base 16; of another byte, 0.
@@ -27,86 +22,55 @@ fn digit(b: u8) -> u8
     }
 }
 
-// A byte of a text, and how many bytes of the record it takes.
-struct Decoded {
-    byte: u8,
-    width: usize,
-}
-
-// The byte at an offset of a record: `\` and two digits to base 16 stand for a byte, any other byte for itself.
-fn decode(bytes: &[u8], at: usize) -> Decoded
-    requires { ⌜ at < length (now bytes) ⌝ }
-    ensures { λ r. ⌜ (0 < r .width) × (r .width ≤ 3) ⌝ }
-{
-    if bytes[at] != b'\\' {
-        return Decoded {
-            byte: bytes[at],
-            width: 1,
-        };
-    }
-    if bytes.len() - at < 3 {
-        return Decoded { byte: 0, width: 1 };
-    }
-    Decoded {
-        byte: digit(bytes[at + 1]) * 16 + digit(bytes[at + 2]),
-        width: 3,
-    }
-}
-
-// Puts a text that a record writes after the first n bytes of buf, and answers how many those are then.
-fn append_text(buf: &mut [u8], n: usize, bytes: &[u8]) -> usize {
+// Puts a text that stands in a record, after a space and up to the line's end, after the first n bytes of buf, and answers
+// how many those are then: `\` and two digits to base 16 stand for a byte, any other byte for itself.
+fn append_text(buf: &mut [u8; 65600], n: usize, input: &[u8], at: usize) -> usize {
+    let bytes = text_parts::part(input, at, text_runs::run_end(input, at, Run::Line));
     let mut filled = n;
-    let mut i = 0;
+    let mut i = 1;
     while i < bytes.len() {
-        if buf.len() <= filled {
+        if 65600 <= filled {
             return filled;
         }
-        let d = decode(bytes, i);
-        buf[filled] = d.byte;
-        filled += 1;
-        i += d.width;
-    }
-    filled
-}
-
-// Puts so many copies of a text likewise.
-fn append_copies(buf: &mut [u8], n: usize, bytes: &[u8], times: usize) -> usize {
-    let mut filled = n;
-    let mut i = 0;
-    while i < times {
-        filled = append_text(buf, filled, bytes);
+        let b = bytes[i];
         i += 1;
-    }
-    filled
-}
-
-// Puts the text of a question at the start of buf, which is spaces: the front and the copies after it, what stands from `from`
-// to `end`, and the back.
-// The answer is how long it is, padded to its least length.
-pub(crate) fn put_text(buf: &mut [u8], input: &[u8], from: usize, end: usize, k: Kept) -> usize {
-    let fronts = append_text(buf, 0, text_parts::part(input, k.front, k.front_end));
-    let copied = text_parts::part(input, k.copy, k.copy_end);
-    let copies = append_copies(buf, fronts, copied, k.copies);
-    let parts = append_text(buf, copies, text_parts::part(input, from, end));
-    let backs = append_text(buf, parts, text_parts::part(input, k.back, k.back_end));
-    let least = k.least;
-    if backs < least { least } else { backs }
-}
-
-// The number that the digits of a word make, as far as 18 of them go.
-fn magnitude(word: &[u8]) -> usize
-    ensures { λ r. ⌜ r < 2 ^ 63 ⌝ }
-{
-    let mut value: usize = 0;
-    let mut i = 0;
-    while i < word.len() {
-        if 100000000000000000 <= value {
-            return value;
+        if b == b'\\' {
+            buf[filled] = digit(byte(bytes, i)) * 16 + digit(byte(bytes, i + 1));
+            i += 2;
+        } else {
+            buf[filled] = b;
         }
-        value = value * 10 + digit(word[i]) as usize;
+        filled += 1;
+    }
+    filled
+}
+
+// A text, and after it spaces.
+pub(crate) struct Text {
+    pub bytes: [u8; 65600],
+    pub size: usize,
+}
+
+// The text of a question: the front and the copies after it, its own TEXT, and the back, padded to its least length.
+pub(crate) fn text_of(input: &[u8], args: &[u8], k: Kept) -> Text {
+    let mut bytes = [32u8; 65600];
+    let mut filled = append_text(&mut bytes, 0, input, k.front);
+    let copies = next_number(input, k.copies);
+    let mut i = 0;
+    while i < copies.size {
+        filled = append_text(&mut bytes, filled, input, copies.at);
         i += 1;
     }
-    value
+    filled = append_text(&mut bytes, filled, args, 0);
+    filled = append_text(&mut bytes, filled, input, k.back);
+    let least = next_number(input, k.pad);
+    if filled < least.size {
+        filled = least.size;
+    }
+    Text {
+        bytes,
+        size: filled,
+    }
 }
 
 // A number in decimal, the same without its sign, and the offset after it; zeros and the offset before it where there is none.
@@ -116,45 +80,46 @@ pub(crate) struct Number {
     pub at: usize,
 }
 
-// The number that stands next.
+// The number that stands next, to its last 18 digits.
 pub(crate) fn next_number(args: &[u8], at: usize) -> Number {
     let t = text_tokens::next(args, at);
-    let word = text_parts::part(args, t.start, t.end);
-    if word.len() == 0 {
+    let first = byte(args, t.start);
+    if b'9' < first {
         return Number {
             value: 0,
             size: 0,
             at,
         };
     }
-    let size = magnitude(word);
-    match word[0] {
-        45 => Number {
-            value: 0 - size as i64,
+    let mut size: usize = 0;
+    let mut i = t.start;
+    while i < t.end {
+        size = (size * 10 + digit(byte(args, i)) as usize) % 1000000000000000000;
+        i += 1;
+    }
+    let value = size as i64;
+    if first == b'-' {
+        return Number {
+            value: 0 - value,
             size,
             at: t.end,
-        },
-        48..=57 => Number {
-            value: size as i64,
-            size,
-            at: t.end,
-        },
-        _ => Number {
-            value: 0,
-            size: 0,
-            at,
-        },
+        };
+    }
+    Number {
+        value,
+        size,
+        at: t.end,
     }
 }
 
-// Fills out with the numbers that a record writes, and with zeros where there are no more.
-pub(crate) fn numbers(args: &[u8], out: &mut [i64]) {
-    let mut at = 0;
+// Fills a table with the numbers that a record writes, and with zeros where there are no more.
+pub(crate) fn numbers(args: &[u8], from: usize, table: &mut [i64; 11779]) {
+    let mut at = from;
     let mut i = 0;
-    while i < out.len() {
+    while i < 11779 {
         let n = next_number(args, at);
         let z = n.value;
-        out[i] = z;
+        table[i] = z;
         at = n.at;
         i += 1;
     }

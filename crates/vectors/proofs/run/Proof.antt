@@ -6,10 +6,16 @@ use Rattle.vectors.proofs.run.Statement.{statement}
 use Rattle.vectors.proofs.run.Tie as tie
 
 abbrev Inv-loop : tie.InvT-loop
-Inv-loop input table₀ moves₀ k₀ at₀ table moves k at = Unit {0}
+Inv-loop size records k₀ figure₀ moves₀ at₀ k figure moves at = Unit {0}
 
 abbrev μ-loop : tie.MeasureT-loop
-μ-loop input table₀ moves₀ k₀ at₀ table moves k at = length input - at
+μ-loop size records k₀ figure₀ moves₀ at₀ k figure moves at = length records - at
+
+read-full-requires : tie.Need-read-full-requires Inv-loop μ-loop
+read-full-requires c κs = search needs
+
+part-requires : tie.Need-part-requires Inv-loop μ-loop
+part-requires c κs = search needs
 
 nothing-requires : tie.Need-nothing-requires Inv-loop μ-loop
 nothing-requires c κs = search needs
@@ -41,6 +47,8 @@ run-spec =
     (tie.spec
     Inv-loop
     μ-loop
+    read-full-requires
+    part-requires
     nothing-requires
     loop-holds
     run-end-requires

