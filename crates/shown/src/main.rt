@@ -61,10 +61,13 @@ fn tell_text(text: &[u8], more: usize) {
     }
 }
 
+fn tell_input(text: &mut [u8; 131082]) {
+    let input = pair_input::read_input(STDIN_FILENO, text);
+    tell_text(text_parts::part(text, 0, input.size), input.more);
+}
+
 // The head, the longest figure, and one byte more than the longest movement has.
 fn main() {
     let mut text = [0u8; 131082];
-    let input = pair_input::read_input(STDIN_FILENO, &mut text);
-    let size = input.size;
-    tell_text(&text[..size], input.more);
+    tell_input(&mut text);
 }
