@@ -1,24 +1,24 @@
--- A sample's line and a fraction's parts, by the answer's two cases; and how long a line is at most.
-use mathlib.Core.Path.{_≡_, ap, _∙_}
+-- A sample's line, by the answer's two cases, and how long it is at most.
+use mathlib.Core.Path.{_≡_}
 use mathlib.Core.List.{List, [], _∷_}
 use mathlib.Core.Option.{Option, some}
 use Prim.Native.Nat.{ℕ, _≤_}
 use native.Mathlib.Omega.{arith}
 use lib.IntN.{ℤ, pos}
-use lib.ListN.{length, take}
+use lib.ListN.{length}
 use mir.Syntax.{w64}
 use mir.Val.{SFits}
 use Rattle.text_bytes.specs.Bytes.{bytes}
-use Rattle.report_text.specs.Text.{numeral, line}
-use Rattle.report_text.specs.Output.{Output, output, appended}
+use Rattle.report_text.specs.Text.{line}
+use Rattle.report_text.specs.Output.{output, appended}
 use Rattle.report_lists.specs.Lists.{appendedEach, textOf, shown}
-use Rattle.report_lists.proofs.Texts.{AllFit, line-most, shown-fits, each-within, each-whole}
+use Rattle.report_lists.proofs.Texts.{AllFit, line-most, shown-fits}
 use Rattle.player_spec.specs.Fractions.{Fraction}
 use Rattle.player_samples.specs.Answers.{sampled}
 use Rattle.player_samples.specs.declared.sampling.Sampled.{Sampled}
 use Rattle.player_samples.specs.declared.sampling.Sampled.the-variants.{Refused, Value}
 use Rattle.report_lists.proofs.Turns.{one-line}
-use Rattle.sample_listing.specs.Samples.{sampleLine, fractionParts, fractionText}
+use Rattle.sample_listing.specs.Samples.{sampleLine}
 use Rattle.report_lists.specs.Refusals.{refusedLine}
 use Rattle.report_lists.proofs.Refusals.{refused-most}
 
@@ -53,24 +53,3 @@ module _ (n bone channel at m : ℕ) (buf buf' : List ℕ) (a : Sampled) where
       let l = sampleLine bone channel at (sampled a) in
       let q : (output m buf' ≡ appendedEach (output n buf) (sampleLine bone channel at (sampled a) ∷ [])) × (length (textOf (sampleLine bone channel at (sampled a) ∷ [])) ≤ 112) = (p .0, one-line l 112 (p .1)) in
       rw e at q
-
--- ---- a fraction's parts
-
-abbrev pub Told : Sampled → ℕ → List ℕ → List ℕ → Type 0
-Told a m buf buf' =
-    (output m buf' ≡ appendedEach (output 0 buf) (fractionParts (sampled a)))
-    × ((m ≤ length buf') × (length (fractionText (sampled a)) ≤ length buf → take m buf' ≡ fractionText (sampled a)))
-
-told : (a : Sampled) (m : ℕ) (buf buf' : List ℕ) → output m buf' ≡ appendedEach (output 0 buf) (fractionParts (sampled a)) → Told a m buf buf'
-unfolding fractionText
-told a m buf buf' e = (e, (each-within 0 m buf buf' (fractionParts (sampled a)) e (omega arith), λ fits. each-whole m buf buf' (fractionParts (sampled a)) e fits))
-
-module _ (a : Sampled) (m : ℕ) (buf buf' : List ℕ) where
-  pub refused-told : a ≡ Refused → output m buf' ≡ appended (output 0 buf) (line (bytes "refused") (pos 21 ∷ pos 0 ∷ [])) → Told a m buf buf'
-  unfolding sampled fractionParts refusedLine shown appendedEach
-  refused-told e p = told a m buf buf' (rw e p)
-
-  -- each part after the one before it
-  pub value-told : (z : ℤ) (d : ℕ) → a ≡ Value z d → (o1 o2 o3 : Output) → o1 ≡ appended (output 0 buf) (numeral z) → o2 ≡ appended o1 (bytes "/") → o3 ≡ appended o2 (numeral (shown d)) → output m buf' ≡ appended o3 (10 ∷ []) → Told a m buf buf'
-  unfolding sampled fractionParts appendedEach
-  value-told z d e o1 o2 o3 p q r s = told a m buf buf' (rw e (s ∙ ap (λ (o : Output). appended o (10 ∷ [])) (r ∙ ap (λ (o : Output). appended o (numeral (shown d))) (q ∙ ap (λ (o : Output). appended o (bytes "/")) p))))

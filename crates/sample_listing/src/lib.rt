@@ -1,5 +1,4 @@
 // Samples as text.
 mod samples;
 
-pub use samples::list_fraction;
 pub use samples::list_samples;

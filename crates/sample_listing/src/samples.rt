@@ -5,13 +5,11 @@ ghost use lib.ListN.{length, take};
 ghost use Rattle.report_text.specs.Output.{output, appended};
 ghost use Rattle.report_lists.specs.Lists.{appendedEach};
 ghost use Rattle.player_samples.specs.Answers.{sampled};
-ghost use Rattle.sample_listing.specs.Samples.{sampleLine, sampleLines, sampleText, fractionParts, fractionText};
+ghost use Rattle.sample_listing.specs.Samples.{sampleLine, sampleLines, sampleText};
 use player_samples::Sampled;
 use player_samples::sample;
 use report_lists::shown;
 use report_rows::append_row;
-use report_text::append;
-use report_text::append_number;
 use table_counts::MovementCounts;
 
 // Puts a sample's line, or a refusal's, after the first n bytes of buf, and answers how many bytes are filled then.
@@ -68,24 +66,4 @@ pub fn list_samples(
         at += 1;
     }
     filled
-}
-
-// Puts numerator, bar and denominator, or a refusal's line, at the start of buf.
-pub fn list_fraction(buf: &mut [u8], answer: Sampled) -> usize
-    ensures parts { λ r. ⌜ output r (now (buf .exit)) ≡ appendedEach (output 0 (now (buf .entry))) (fractionParts (sampled answer)) ⌝ }
-    ensures within { λ r. ⌜ r ≤ length (now (buf .exit)) ⌝ }
-    ensures whole { λ r. ⌜ (length (fractionText (sampled answer)) ≤ length (now (buf .entry)) → take r (now (buf .exit)) ≡ fractionText (sampled answer)) ⌝ }
-{
-    match answer {
-        Sampled::Refused => append_row(buf, 0, b"refused", &[21, 0]),
-        Sampled::Value {
-            numerator,
-            denominator,
-        } => {
-            let top = append_number(buf, 0, numerator);
-            let bar = append(buf, top, b"/");
-            let bottom = append_number(buf, bar, shown(denominator as usize));
-            append(buf, bottom, b"\n")
-        }
-    }
 }

@@ -13,7 +13,7 @@ use table_counts::FigureCounts;
 use table_counts::MovementCounts;
 
 // Puts a line of face, frame and 1 or 0, or a refusal's, after the first n bytes of buf.
-pub fn append_shown(buf: &mut [u8], n: usize, face: usize, at: usize, answer: Visibility) -> usize
+fn append_shown(buf: &mut [u8], n: usize, face: usize, at: usize, answer: Visibility) -> usize
     ensures line { λ r. ⌜ output r (now (buf .exit)) ≡ appended (output n (now (buf .entry))) (shownLine face at (showed answer)) ⌝ }
     ensures most { λ r. ⌜ length (shownLine face at (showed answer)) ≤ 69 ⌝ }
 {

@@ -1,5 +1,4 @@
 // Whether faces are shown, as text.
 mod faces;
 
-pub use faces::append_shown;
 pub use faces::list_shown;

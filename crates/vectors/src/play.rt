@@ -10,8 +10,14 @@ use crate::kind::SAMPLE;
 use crate::kind::SHOWN;
 use crate::kind::kind_of;
 use crate::record::next_number;
+use crate::texts::append_line;
+use crate::texts::refused_line;
+use crate::texts::shown_line;
 use player_corners::Cornered;
 use player_samples::Sampled;
+use report_lists::shown;
+use report_text::append;
+use report_text::append_number;
 
 // The first numbers of a table, or none where it is shorter.
 pub(crate) fn front(table: &[i64], size: usize) -> &[i64] {
@@ -22,6 +28,22 @@ pub(crate) fn front(table: &[i64], size: usize) -> &[i64] {
 }
 
 // A question of no known kind has no answer.
+// Numerator, bar and denominator, as document 01 writes a sample.
+fn put_fraction(out: &mut [u8; 4096], answer: Sampled) -> usize {
+    match answer {
+        Sampled::Refused => append_line(out, 0, refused_line()),
+        Sampled::Value {
+            numerator,
+            denominator,
+        } => {
+            let top = append_number(out, 0, numerator);
+            let bar = append(out, top, b"/");
+            let bottom = append_number(out, bar, shown(denominator as usize));
+            append(out, bottom, b"\n")
+        }
+    }
+}
+
 fn answer(
     kind: usize,
     input: &[u8],
@@ -38,18 +60,19 @@ fn answer(
     let m = movement_counts(input, k.movement);
     let keys = front(moves, lent_size(input, k.movement));
     match kind {
-        SAMPLE => { sample_listing::list_fraction(out, player_samples::sample(keys, m, a, b, c)) }
+        SAMPLE => put_fraction(out, player_samples::sample(keys, m, a, b, c)),
         CORNER => {
             let answer = player_corners::corner(table, n, a, b);
             match answer {
-                Cornered::Refused => sample_listing::list_fraction(out, Sampled::Refused),
+                Cornered::Refused => append_line(out, 0, refused_line()),
                 _ => corner_listing::append_corner(out, 0, a, b, answer),
             }
         }
         SHOWN => {
-            shown_listing::append_shown(out, 0, a, b, player_shown::shown(table, n, keys, m, a, b))
+            let line = shown_line(a, b, player_shown::shown(table, n, keys, m, a, b));
+            append_line(out, 0, line)
         }
-        _ => report_text::append(out, 0, b"no such kind\n"),
+        _ => append(out, 0, b"no such kind\n"),
     }
 }
 

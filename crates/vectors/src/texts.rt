@@ -4,6 +4,7 @@ use crate::kind::BAC;
 use crate::kind::INT;
 use crate::kind::TRA;
 use crate::play::front;
+use player_shown::Visibility;
 use refusal::Checked;
 use report_lists::shown;
 use report_rows::append_row;
@@ -29,6 +30,8 @@ const REFUSED: usize = 42;
 
 const VALUE: usize = 50;
 
+const SHOWN: usize = 56;
+
 // A line: where its word begins in the list of them, and how many of its numbers are told.
 pub(crate) struct Line {
     word: usize,
@@ -40,10 +43,42 @@ pub(crate) struct Line {
 
 // Puts a line after the first n bytes of out.
 pub(crate) fn append_line(out: &mut [u8; 4096], n: usize, line: Line) -> usize {
-    let words: &[u8] = b"opening closing quoted plain ending clear refused value";
+    let words: &[u8] = b"opening closing quoted plain ending clear refused value shown";
     let end = text_runs::run_end(words, line.word, Run::Word);
     let word = text_parts::part(words, line.word, end);
     append_row(out, n, word, front(&[line.a, line.b, line.c], line.count))
+}
+
+// A lookup's 21.
+pub(crate) fn refused_line() -> Line {
+    Line {
+        word: REFUSED,
+        count: 2,
+        a: 21,
+        b: 0,
+        c: 0,
+    }
+}
+
+pub(crate) fn shown_line(face: usize, at: usize, answer: Visibility) -> Line {
+    let line = Line {
+        word: SHOWN,
+        count: 3,
+        a: shown(face),
+        b: shown(at),
+        c: 0,
+    };
+    match answer {
+        Visibility::Refused => refused_line(),
+        Visibility::Shown => Line {
+            word: SHOWN,
+            count: 3,
+            a: line.a,
+            b: line.b,
+            c: 1,
+        },
+        Visibility::Hidden => line,
+    }
 }
 
 fn checked_line(answer: Checked) -> Line {
