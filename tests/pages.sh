@@ -1,6 +1,6 @@
 #!/usr/bin/env bash
 # What README and docs/ name is there: files of crates, functions as CRATE::NAME, must-fail edits as CRATE/LABEL; docs/CALLS.md has every call and
-# contract as the sources have them; and docs/ARCHITECTURE.md names every crate.
+# contract as the sources have them; and docs/ARCHITECTURE.md names every crate, and says how many lines of definitions must be believed.
 set -eu
 cd "$(dirname "$0")/.."
 missing=0
@@ -27,6 +27,9 @@ for crate in crates/*/; do
     crate=$(basename "$crate")
     grep -q "\`$crate\`" docs/ARCHITECTURE.md || tell "docs/ARCHITECTURE.md: no crate $crate"
 done
+
+lines=$(tools/believed | tail -n 1 | awk '{ printf "%d,%03d lines", $1 / 1000, $1 % 1000 }')
+grep -q "$lines of definitions" docs/ARCHITECTURE.md || tell "docs/ARCHITECTURE.md: tools/believed prints $lines"
 
 [ "$missing" -eq 0 ] || exit 1
 echo "pages: $names names found, $(grep -c '^### ' docs/CALLS.md) calls and types as the sources have them"
