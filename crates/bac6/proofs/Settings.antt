@@ -1,13 +1,14 @@
 -- How an outcome is answered, by whether it is a refusal and by whether the table is long enough.
-use mathlib.Core.Path.{_≡_, ap, ap₂, sym, _∙_}
+use mathlib.Core.Path.{_≡_, ap, ap₂, _∙_}
 use mathlib.Core.List.{List, [], _∷_}
 use Prim.Native.Nat.{ℕ, _≤_, _<_}
 use lib.IntN.{ℤ, pos}
 use lib.ListN.{length}
 use Rattle.table_rows.specs.Internal.Overlay.{overlayAt}
 use Rattle.table_counts.specs.declared.counts.FigureCounts.{FigureCounts}
-use Rattle.refusal.specs.Outcomes.{Outcome, rejected, accepted, fitted, laid}
-use Rattle.parse_text.proofs.Outcomes.{fitted-room, fitted-short, fitted-rejected, laid-rejected, laid-accepted}
+use Rattle.refusal.specs.Outcomes.{Outcome, rejected, accepted}
+use Rattle.parse_text.proofs.Answers.{refused-answer, answer-parts}
+use Rattle.parse_text.proofs.Outcomes.{fitted-room, fitted-short, laid-rejected, laid-accepted}
 use Rattle.bac6_text.specs.Figure.{Figure}
 use Rattle.bac6_text.specs.Rules.{figureCounts}
 use Rattle.bac6_text.specs.Layout.{layoutOf}
@@ -37,9 +38,7 @@ rules-by p claims r rows e h = h ∙ rw e
 -- a refusal leaves the table
 pub refused-answered : {o : Outcome Figure} {n p : ℕ} {r : FigureAnswer} → o ≡ rejected n p → r ≡ refusedWith n p → (table : List ℤ) → Answered o table table r
 unfolding answerOf
-refused-answered e a table =
-    let f = fitted-rejected layoutOf e (length table) in
-    record { answer = a ∙ rw f; content = laid-rejected layoutOf f table }
+refused-answered e a table = refused-answer answerOf layoutOf e a table
 
 module _ (f : Figure) (table : List ℤ) (total : ℕ) (e : total ≡ length (layoutOf f)) where
   -- and so does a table that is too short
@@ -60,5 +59,4 @@ module _ (f : Figure) (table : List ℤ) (total : ℕ) (e : total ≡ length (la
 -- the answer that `read` promises
 pub outcome-answered : (text : List ℕ) {o : Outcome Figure} {table exit : List ℤ} {r : FigureAnswer} → figureOutcome text ≡ o → Answered o table exit r → (r ≡ answerOf (figureAnswer text (length table))) × (exit ≡ tableAfter text table)
 unfolding figureAnswer tableAfter
-outcome-answered text {table = table} e a =
-    (a .answer ∙ ap (λ (o : Outcome Figure). answerOf (fitted layoutOf (length table) o)) (sym e), a .content ∙ ap (λ (o : Outcome Figure). laid layoutOf table (fitted layoutOf (length table) o)) (sym e))
+outcome-answered text e a = answer-parts answerOf layoutOf e a

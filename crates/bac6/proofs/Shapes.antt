@@ -1,10 +1,10 @@
 -- What a text that was parsed says of the grammar's figure: refused where the cursor has refused, and else a figure of which parsing kept what it did.
-use mathlib.Core.Path.{_≡_, refl, ap, sym, subst, _∙_}
+use mathlib.Core.Path.{_≡_, refl, ap, sym, _∙_}
 use mathlib.Core.List.{List}
 use Prim.Native.Nat.{ℕ, _≤_}
 use lib.IntN.{ℤ, negsuc}
 use lib.ListN.{length, replicate}
-use Rattle.refusal.specs.Outcomes.{Outcome, rejected, ruled}
+use Rattle.refusal.specs.Outcomes.{rejected, ruled}
 use Rattle.text_tokens.specs.Tokens.{lex, lexAt}
 use Rattle.parse_cursor.specs.declared.cursor.Cursor.{Cursor}
 use Rattle.parse_spec.specs.Readers.{Got, got, refused, after, _>>=_, pure}
@@ -12,15 +12,18 @@ use Rattle.parse_cursor.specs.Internal.Cursors.{reads}
 use Rattle.parse_cursor.proofs.Steps.{from-on, from-off}
 use Rattle.parse_spec.proofs.Many.{not-got}
 use Rattle.parse_text.specs.Texts.{shaped}
+use Rattle.parse_text.proofs.Answers.{same-answer}
 use Rattle.parse_text.proofs.Outcomes.{shape-rejected}
 use Rattle.bac6_text.specs.Figure.{Figure}
 use Rattle.bac6_text.specs.Grammar.{figure}
+use Rattle.bac6_text.specs.Layout.{layoutOf}
 use Rattle.bac6_text.specs.Rules.{figureFault}
 use Rattle.bac6_shape.specs.declared.shape.Parsed.{Parsed}
 use Rattle.bac6_shape.specs.Internal.Parse.{Kept, keptOf, figureInto}
 use Rattle.bac6_shape.specs.Internal.Answers.{keptBy}
 use Rattle.bac6.specs.declared.setting.FigureAnswer.{FigureAnswer}
 use Rattle.bac6.specs.Internal.Checks.{Held}
+use Rattle.bac6.specs.Answers.{answerOf}
 use Rattle.bac6.specs.Internal.Answers.{Answered, RowsAnswered}
 
 -- what was held, of the text's own figure
@@ -78,4 +81,4 @@ module _ (text : List ℕ) (rows owners names : List ℤ) (p : Parsed) (rows′ 
 
 -- what answers the rows answers the text's figure
 pub held-answered : {text : List ℕ} {p : Parsed} {rows owners names : List ℤ} {table exit : List ℤ} {r : FigureAnswer} → HeldOf text p rows owners names → RowsAnswered p rows owners names table exit r → Answered (shaped figureFault (figure (lex text))) table exit r
-held-answered {table = table} {exit = exit} {r = r} h a = subst (λ (o : Outcome Figure). Answered o table exit r) (h .same) (a .outcome (h .held))
+held-answered h a = same-answer answerOf layoutOf (h .same) (a .outcome (h .held))

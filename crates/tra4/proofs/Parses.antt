@@ -1,11 +1,11 @@
 -- What parsing leaves in the tables is what the grammar's movement has: both sequences of readers are walked side by side.
-use mathlib.Core.Path.{_≡_, refl, ap, sym, subst, _∙_}
+use mathlib.Core.Path.{_≡_, refl, ap, sym, _∙_}
 use mathlib.Core.List.{List, []}
 use mathlib.Core.Option.{some}
 use Prim.Native.Nat.{ℕ, _≤_}
 use lib.IntN.{ℤ}
 use lib.ListN.{length}
-use Rattle.refusal.specs.Outcomes.{Outcome, rejected, ruled}
+use Rattle.refusal.specs.Outcomes.{rejected, ruled}
 use Rattle.text_numbers.specs.Numbers.{INT}
 use Rattle.text_tokens.specs.Tokens.{Lexeme, lex, lexAt}
 use Rattle.parse_cursor.specs.declared.cursor.Cursor.{Cursor}
@@ -20,9 +20,11 @@ use Rattle.parse_spec.proofs.Many.{not-got, got-value}
 use Rattle.parse_spec.proofs.Given.{before}
 use Rattle.parse_spec.proofs.Sequences.{into-then, into-bind}
 use Rattle.parse_text.specs.Texts.{shaped}
+use Rattle.parse_text.proofs.Answers.{same-answer}
 use Rattle.parse_text.proofs.Outcomes.{shape-rejected}
 use Rattle.tra4_text.specs.Movement.{Bone, Pattern, Movement}
 use Rattle.tra4_text.specs.Grammar.{bone, pattern, repeated⁺, movement}
+use Rattle.tra4_text.specs.Layout.{layoutOf}
 use Rattle.tra4_text.specs.Rules.{movementFault}
 use Rattle.tra4_bones.specs.Internal.Into.{boneStep, bonesInto}
 use Rattle.tra4_bone.specs.Internal.Into.{Kept}
@@ -30,6 +32,7 @@ use Rattle.tra4_parse.specs.declared.shape.Parsed.{Parsed}
 use Rattle.tra4_patterns.specs.Internal.Patterns.{patternsInto}
 use Rattle.tra4_parse.specs.Internal.Parse.{MovementValue, movementValue, movementInto}
 use Rattle.tra4.specs.declared.setting.MovementAnswer.{MovementAnswer}
+use Rattle.tra4.specs.Answers.{answerOf}
 use Rattle.tra4.specs.Internal.Answers.{Answered, RowsAnswered}
 use Rattle.tra4.specs.Internal.Parse.{valueOf}
 use Rattle.tra4.specs.Internal.Checks.{parsedAs, Held}
@@ -133,4 +136,4 @@ module _ (text : List ℕ) (rows keys lines : List ℤ) (p : Parsed) (b k g : Li
 
 -- what answers the rows answers the text's movement
 pub held-answered : {text : List ℕ} {p : Parsed} {b k g : List ℤ} {table exit : List ℤ} {r : MovementAnswer} → HeldOf text p b k g → RowsAnswered p b k g table exit r → Answered (shaped movementFault (movement (lex text))) table exit r
-held-answered {table = table} {exit = exit} {r = r} h a = subst (λ (o : Outcome Movement). Answered o table exit r) (h .same) (a .outcome (h .held))
+held-answered h a = same-answer answerOf layoutOf (h .same) (a .outcome (h .held))

@@ -1,5 +1,5 @@
 -- The answer and the table by whether the table is long enough, and the numbers that stand first.
-use mathlib.Core.Path.{_≡_, refl, ap, sym, _∙_}
+use mathlib.Core.Path.{_≡_, refl, ap, _∙_}
 use mathlib.Core.List.{List, [], _∷_}
 use mathlib.Core.Bool.{Bool, true, false}
 use Prim.Native.Nat.{ℕ, _^_, _≤_, _<_}
@@ -13,7 +13,8 @@ use lib.ListN.{length, take, length-take}
 use Rattle.signed.proofs.Signed.{bits-pos}
 use Rattle.table_rows.specs.Internal.Overlay.{overlayAt}
 use Rattle.refusal.specs.Outcomes.{Outcome, rejected, accepted, fitted, laid}
-use Rattle.parse_text.proofs.Outcomes.{fitted-room, fitted-short, fitted-rejected, laid-rejected, laid-accepted}
+use Rattle.parse_text.proofs.Answers.{refused-answer, answer-parts}
+use Rattle.parse_text.proofs.Outcomes.{fitted-room, fitted-short, laid-rejected, laid-accepted}
 use Rattle.tra4_text.specs.Movement.{Movement}
 use Rattle.tra4_text.specs.Layout.{layoutOf}
 use Rattle.tra4_text.specs.Answer.{movementOutcome, movementAnswer, movementTable}
@@ -50,15 +51,12 @@ module _ (p : Parsed) where
 -- a refusal leaves the table
 pub refused-answered : {o : Outcome Movement} {n p : ℕ} {r : MovementAnswer} → o ≡ rejected n p → r ≡ refusedWith n p → (table : List ℤ) → Answered o table table r
 unfolding answerOf
-refused-answered e a table =
-    let f = fitted-rejected layoutOf e (length table) in
-    record { answer = a ∙ rw f; content = laid-rejected layoutOf f table }
+refused-answered e a table = refused-answer answerOf layoutOf e a table
 
 -- the answer that `read` promises
 pub outcome-answered : (text : List ℕ) {o : Outcome Movement} {table exit : List ℤ} {r : MovementAnswer} → movementOutcome text ≡ o → Answered o table exit r → (r ≡ answerOf (movementAnswer text (length table))) × (exit ≡ movementTable text table)
 unfolding movementAnswer movementTable
-outcome-answered text {table = table} e a =
-    (a .answer ∙ ap (λ (o : Outcome Movement). answerOf (fitted layoutOf (length table) o)) (sym e), a .content ∙ ap (λ (o : Outcome Movement). laid layoutOf table (fitted layoutOf (length table) o)) (sym e))
+outcome-answered text e a = answer-parts answerOf layoutOf e a
 
 -- ---- a movement that is taken
 

@@ -1,9 +1,8 @@
 -- How what was parsed is answered.
-use mathlib.Core.Path.{_≡_}
 use mathlib.Core.List.{List, [], _∷_}
 use lib.IntN.{ℤ, pos}
-use lib.ListN.{length}
-use Rattle.refusal.specs.Outcomes.{Outcome, fitted, laid, ruled}
+use Rattle.refusal.specs.Outcomes.{Outcome, ruled}
+use Rattle.parse_text.specs.Internal.Answered as outcomes
 use Rattle.bac6_text.specs.Figure.{Figure}
 use Rattle.bac6_text.specs.Rules.{figureFault}
 use Rattle.bac6_text.specs.Layout.{layoutOf}
@@ -14,9 +13,8 @@ use Rattle.bac6.specs.Answers.{answerOf}
 use Rattle.bac6.specs.Internal.Checks.{Held}
 
 -- an outcome's answer, and what it leaves of the table
-pub record Answered (o : Outcome Figure) (table exit : List ℤ) (r : FigureAnswer) : Type 0 where
-  pub answer : r ≡ answerOf (fitted layoutOf (length table) o)
-  pub content : exit ≡ laid layoutOf table (fitted layoutOf (length table) o)
+abbrev pub Answered : Outcome Figure → List ℤ → List ℤ → FigureAnswer → Type 0
+Answered o table exit r = outcomes.Answered answerOf layoutOf o table exit r
 
 -- that of the rules over the figure that the rows hold
 pub record RowsAnswered (p : Parsed) (rows owners names table exit : List ℤ) (r : FigureAnswer) : Type 0 where

@@ -9,7 +9,7 @@ use Rattle.report_text.specs.Output.{output}
 use Rattle.report_lists.specs.Lists.{reached}
 use Rattle.report_lists.proofs.Texts.{allListed, putOf, all-lines}
 use Rattle.bac6_listing.specs.Figures.{figureLists}
-use Rattle.bac6_listing.specs.Internal.Rows.{rowsAt, listsFrom}
+use Rattle.bac6_listing.specs.Internal.Rows.{listAt, listsFrom}
 use Rattle.bac6_listing.proofs.Rows.{next-row, all-rows, size-most}
 use borrow.Author.Needs.{needs}
 use Rattle.bac6_listing.proofs.append_lists.Statement.{statement}
@@ -19,7 +19,7 @@ abbrev Inv-loop : tie.InvT-loop
 Inv-loop table buf₀ start words sizes widths counts p₀ i₀ buf p i =
     (i ≤ 11)
     × (length buf ≡ length buf₀)
-    × (allListed (reached p buf table) (listsFrom (rowsAt words sizes widths counts) (11 - i) i) ≡ allListed (reached p₀ buf₀ table) (listsFrom (rowsAt words sizes widths counts) 11 0))
+    × (allListed (reached p buf table) (listsFrom (listAt words sizes widths counts) (11 - i) i) ≡ allListed (reached p₀ buf₀ table) (listsFrom (listAt words sizes widths counts) 11 0))
 
 abbrev μ-loop : tie.MeasureT-loop
 μ-loop table buf₀ start words sizes widths counts p₀ i₀ buf p i = 11 - i
@@ -73,7 +73,7 @@ loop-less : tie.Need-loop-less Inv-loop μ-loop
 loop-less c = omega arith
 
 loop-again : tie.Need-loop-again Inv-loop μ-loop
-unfolding rowsAt
+unfolding listAt
 loop-again c =
     let k = c .before .before in
     let l = k .before .before .before .before .loop in
@@ -83,7 +83,7 @@ same-length : tie.Need-same-length Inv-loop μ-loop
 same-length c = c .before .loop .inv .1
 
 returns : tie.Need-returns Inv-loop μ-loop
-unfolding putOf reached figureLists bytes rowsAt listsFrom
+unfolding putOf reached figureLists bytes listAt listsFrom
 returns c =
     let l = c .before .loop in
     let a = c .before .before .before .before .args in

@@ -7,8 +7,8 @@ use lib.ListN.{getD, take, drop}
 use Rattle.report_lists.specs.Lists.{RowList, rowList}
 
 -- the word of a list stands every 8 bytes
-unfoldable pub rowsAt : List ℕ → List ℕ → List ℕ → List ℕ → ℕ → RowList
-rowsAt words sizes widths counts i = rowList (take (i * 8 + getD sizes i 0 - i * 8) (drop (i * 8) words)) (getD widths i 0) (getD counts i 0)
+unfoldable pub listAt : List ℕ → List ℕ → List ℕ → List ℕ → ℕ → RowList
+listAt words sizes widths counts i = rowList (take (i * 8 + getD sizes i 0 - i * 8) (drop (i * 8) words)) (getD widths i 0) (getD counts i 0)
 
 -- so many lists from an index on
 unfoldable pub listsFrom : (ℕ → RowList) → ℕ → ℕ → List RowList
@@ -19,6 +19,6 @@ listsFrom f (suc k) i = f i ∷ listsFrom f k (i + 1)
 abbrev pub sizes : List ℕ
 sizes = 4 ∷ 7 ∷ 6 ∷ 8 ∷ 5 ∷ 6 ∷ 4 ∷ 5 ∷ 2 ∷ 4 ∷ 5 ∷ []
 
-unfoldable pub short : List ℕ → Bool
-short [] = true
-short (s ∷ ss) = elim (leb s 8) [ true ↦ short ss | false ↦ false ]
+unfoldable pub wordsFit : List ℕ → Bool
+wordsFit [] = true
+wordsFit (s ∷ ss) = elim (leb s 8) [ true ↦ wordsFit ss | false ↦ false ]

@@ -1,5 +1,4 @@
 -- How what was parsed is answered.
-use mathlib.Core.Path.{_≡_}
 use mathlib.Core.List.{List, [], _∷_, _++_}
 use mathlib.Core.Bool.{true, false}
 use Prim.Native.Nat.{ℕ, _+_, _*_, _≤_}
@@ -7,7 +6,8 @@ use lib.Dec.{leb}
 use lib.IntN.{ℤ, pos}
 use lib.ListN.{length, take}
 use Rattle.table_rows.specs.Internal.Overlay.{overlayAt}
-use Rattle.refusal.specs.Outcomes.{Outcome, fitted, laid, ruled}
+use Rattle.refusal.specs.Outcomes.{Outcome, ruled}
+use Rattle.parse_text.specs.Internal.Answered as outcomes
 use Rattle.tra4_text.specs.Movement.{Movement}
 use Rattle.tra4_text.specs.Rules.{movementFault}
 use Rattle.tra4_text.specs.Layout.{layoutOf}
@@ -17,9 +17,8 @@ use Rattle.tra4.specs.Answers.{refusedWith, answerOf}
 use Rattle.tra4.specs.Internal.Checks.{Held}
 
 -- an outcome's answer, and what it leaves of the table
-pub record Answered (o : Outcome Movement) (table exit : List ℤ) (r : MovementAnswer) : Type 0 where
-  pub answer : r ≡ answerOf (fitted layoutOf (length table) o)
-  pub content : exit ≡ laid layoutOf table (fitted layoutOf (length table) o)
+abbrev pub Answered : Outcome Movement → List ℤ → List ℤ → MovementAnswer → Type 0
+Answered o table exit r = outcomes.Answered answerOf layoutOf o table exit r
 
 -- that of the rules over the movement that the rows hold
 pub record RowsAnswered (p : Parsed) (b k g table exit : List ℤ) (r : MovementAnswer) : Type 0 where
