@@ -7,7 +7,7 @@ missing=0
 tell() { echo "$1"; missing=1; }
 
 names=0
-for page in README.md docs/*.md; do
+for page in README.md docs/*.md docs/landings/*.md; do
     while read -r name; do
         crate=${name%%[:/]*}
         [ -d "crates/$crate" ] || continue

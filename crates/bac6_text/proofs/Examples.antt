@@ -6,7 +6,7 @@ use lib.IntN.{ℤ, pos, negsuc}
 use lib.ListN.{replicate}
 use Rattle.text_bytes.specs.Bytes.{bytes, isBlank, between, isLetter, classOf, inLine, inString, inWord, isDigit, isContent}
 use Rattle.text_runs.specs.Runs.{run, part, same}
-use Rattle.text_numbers.specs.Numbers.{refusalOf, decimalFrom, decimal, signed, notEmpty, allDigits, intMost, intOf, millionths, floatOf, numberFrom, afterDigits, unsigned, negative, unsignedPart, numberOf, inForm}
+use Rattle.text_numbers.specs.Numbers.{refusalOf, decimalFrom, decimal, signed, notEmpty, allDigits, intMost, wholeOf, intOf, millionths, floatOf, numberFrom, afterDigits, unsigned, negative, unsignedPart, fixedOf, inMantissa, mantissa, withExponent, numberOf, inForm}
 use Rattle.text_tokens.specs.Tokens.{lexeme, tokens, lexAt, lex, first, bytesOf, widthOf, isKeyword}
 use Rattle.text_check.specs.Faults.{faultIn, markOf, blankOrEnd, begins, marked, textFault}
 use Rattle.parse_spec.specs.Readers.{after, _>>=_, _>>_, pure, stop, tokenOf, rest, take-if, open-bracket, close-bracket, wordOf, keyword, text-end, openedOf, opened, closed, numberIn, numberAt, number, numbers, versionAt, version, absent, nameAt, string, oneFrom, oneOf, starts, optional, trailing, manyIn, many, many⁺, cells, rowOf, row, headOf, head}
@@ -54,5 +54,5 @@ rows =
     pos 0 ∷ pos 3 ∷ pos 0 ∷ pos 1 ∷ pos 2 ∷ negsuc 0 ∷ negsuc 0 ∷ negsuc 0 ∷ negsuc 0 ∷ negsuc 0 ∷ negsuc 0 ∷ []
 
 pub listing-example : tableAfter text (replicate 60 (pos 7)) ≡ rows ++ replicate 3 (pos 7)
-unfolding bytes isBlank between isLetter classOf inLine inString inWord isDigit isContent run part same refusalOf decimalFrom decimal signed notEmpty allDigits intMost intOf millionths floatOf numberFrom afterDigits unsigned negative unsignedPart numberOf inForm lexeme tokens lexAt lex first bytesOf widthOf isKeyword faultIn markOf blankOrEnd begins marked textFault after _>>=_ _>>_ pure stop tokenOf rest isOpening isClosing isPlain isEnd take-if open-bracket close-bracket wordOf keyword text-end openedOf opened closed numberIn numberAt number numbers versionAt version absent nameAt string oneFrom oneOf starts optional trailing manyIn many many⁺ cells rowOf row headOf head kind isSome unread complete kindFrom fieldsIn fields flat word truth blend materialKinds orZero material boneKinds nameIn flagIn numbersIn boneOf bone faceOf faceBy face group nameSection textureSection colourSection materialSection pointSection normalSection boneSection uvSection polygonSection figure orElse groupFaces facesOf countsOf figureCounts figureLists figureMosts tooMany normalsFault flagsOf isSet joined thenIf boneList wholeList placedFault parentsIn bonesFault isRow isNone sameNumber member all firstBad entriesFine verticesFault ownerFrom ownerOf isLevel materialFine faceFine figureFault nameNumbers boneRow boneRows ownersFrom corners faceRow groupRows faceRows groupNames layoutOf ruled shaped checked outcome figureOutcome fitted figureAnswer laid tableAfter
+unfolding bytes isBlank between isLetter classOf inLine inString inWord isDigit isContent run part same refusalOf decimalFrom decimal signed notEmpty allDigits intMost wholeOf intOf millionths floatOf numberFrom afterDigits unsigned negative unsignedPart fixedOf inMantissa mantissa withExponent numberOf inForm lexeme tokens lexAt lex first bytesOf widthOf isKeyword faultIn markOf blankOrEnd begins marked textFault after _>>=_ _>>_ pure stop tokenOf rest isOpening isClosing isPlain isEnd take-if open-bracket close-bracket wordOf keyword text-end openedOf opened closed numberIn numberAt number numbers versionAt version absent nameAt string oneFrom oneOf starts optional trailing manyIn many many⁺ cells rowOf row headOf head kind isSome unread complete kindFrom fieldsIn fields flat word truth blend materialKinds orZero material boneKinds nameIn flagIn numbersIn boneOf bone faceOf faceBy face group nameSection textureSection colourSection materialSection pointSection normalSection boneSection uvSection polygonSection figure orElse groupFaces facesOf countsOf figureCounts figureLists figureMosts tooMany normalsFault flagsOf isSet joined thenIf boneList wholeList placedFault parentsIn bonesFault isRow isNone sameNumber member all firstBad entriesFine verticesFault ownerFrom ownerOf isLevel materialFine faceFine figureFault nameNumbers boneRow boneRows ownersFrom corners faceRow groupRows faceRows groupNames layoutOf ruled shaped checked outcome figureOutcome fitted figureAnswer laid tableAfter
 listing-example = refl

@@ -1,3 +1,4 @@
--- The demands, and the marked cases.
+-- The demands, the requests, and the marked cases.
 pub mod Demands
+pub mod Requests
 pub mod Marked

@@ -1,7 +1,7 @@
 -- Laws of digits, their values and the words that they make: by induction on the digits, and a word by what stands after them.
 use mathlib.Core.Path.{_≡_, refl, sym, _∙_}
 use mathlib.Core.List.{List, [], _∷_, _++_}
-use mathlib.Core.Bool.{Bool, true, false, cond, _&&_, false≢true}
+use mathlib.Core.Bool.{Bool, true, false, cond, _&&_, and-false, false≢true}
 use Prim.Native.Nat.{ℕ, zero, suc, _+_, _-_, _*_, _^_, _≤_, _<_}
 use native.Mathlib.Nat.{add-sub-cancel-left, one-mul, mul-assoc, pow-zero, pow-succ', mul-le-mul-right, mul-lt-mul-of-pos-right, pow-le-pow-right, lt-of-lt-of-le}
 use native.Mathlib.Omega.{arith}
@@ -13,9 +13,10 @@ use lib.Seq.{drop-cons, drop-drop, take-all}
 use lib.IntN.{ℤ}
 use Rattle.text_bytes.specs.Bytes.{between, isDigit}
 use Rattle.text_runs.specs.Runs.{run, part}
-use Rattle.text_runs.proofs.Runs.{run-yes, run-no, run-take, run-within}
+use Rattle.text_runs.proofs.Runs.{run-yes, run-no, run-take, run-length, run-within}
 use Rattle.text_runs.proofs.Parts.{part-none}
-use Rattle.text_numbers.specs.Numbers.{Number, value, beyond, wrong, Form, INT, FLOAT, decimalFrom, decimal, allDigits, notEmpty, signed, intMost, intOf, millionths, floatOf, numberFrom, afterDigits, unsigned, negative, unsignedPart, numberOf, inForm}
+use Rattle.text_numbers.specs.Numbers.{Number, value, beyond, wrong, Form, INT, FLOAT, decimalFrom, decimal, allDigits, notEmpty, signed, intMost, wholeOf, intOf, millionths, floatOf, numberFrom, afterDigits, unsigned, negative, unsignedPart, fixedOf, numberOf, inForm}
+use Rattle.text_numbers.specs.Internal.Answers.{wholeIn}
 
 pub negative-none : (word : List ℕ) → length word ≡ 0 → negative word ≡ false
 unfolding negative
@@ -116,23 +117,56 @@ pub unsigned-no : (word : List ℕ) → negative word ≡ false → unsignedPart
 unfolding unsignedPart
 unsigned-no word e = rw (e, unsignedPart)
 
-notEmpty-some : (bs : List ℕ) → 0 < length bs → notEmpty bs ≡ true
+pub notEmpty-some : (bs : List ℕ) → 0 < length bs → notEmpty bs ≡ true
 unfolding notEmpty
 notEmpty-some [] h = absurd (omega arith)
 notEmpty-some (b ∷ bs) h = refl
 
-notEmpty-none : (bs : List ℕ) → length bs ≡ 0 → notEmpty bs ≡ false
+pub notEmpty-none : (bs : List ℕ) → length bs ≡ 0 → notEmpty bs ≡ false
 unfolding notEmpty
 notEmpty-none [] h = refl
 notEmpty-none (b ∷ bs) h = absurd (omega arith)
 
+-- where the run reaches the end, it is all
+pub run-all : (bs : List ℕ) → length bs ≤ length (run isDigit bs) → run isDigit bs ≡ bs
+run-all bs h = sym (run-take isDigit bs) ∙ take-all _ bs h
+
+-- INT, by the digits that bytes begin with or by all of the bytes
+int-unsigned : (s : Bool) (bs : List ℕ) → unsigned INT s bs ≡ cond (notEmpty bs && allDigits bs) (intOf s bs) wrong
+unfolding unsigned numberFrom afterDigits notEmpty run
+int-unsigned s [] = refl
+int-unsigned s (b ∷ bs) = go (leb (length (b ∷ bs)) (length (run isDigit (b ∷ bs)))) refl
+  where
+    short : (v : Bool) → notEmpty (run isDigit (b ∷ bs)) ≡ v → length (run isDigit (b ∷ bs)) < length (b ∷ bs) → unsigned INT s (b ∷ bs) ≡ wrong
+    short true n h = rw (n, unsigned, drop-cons (b ∷ bs) (length (run isDigit (b ∷ bs))) 0 h)
+    short false n h = rw (n, unsigned)
+
+    go : (v : Bool) → leb (length (b ∷ bs)) (length (run isDigit (b ∷ bs))) ≡ v → unsigned INT s (b ∷ bs) ≡ cond (allDigits (b ∷ bs)) (intOf s (b ∷ bs)) wrong
+    go true e =
+        let same = run-all (b ∷ bs) (leb-true _ _ e) in
+        let some : notEmpty (run isDigit (b ∷ bs)) ≡ true = rw same in
+        let none : drop (length (b ∷ bs)) (b ∷ bs) ≡ [] = drop-of-length-le (b ∷ bs) {i = length (b ∷ bs)} (omega arith) in
+        rw (rw same at (digits-run (b ∷ bs))) (rw (some, unsigned, same, none))
+    go false e =
+        let h = leb-false _ _ e in
+        rw (digits-short (b ∷ bs) h) (short (notEmpty (run isDigit (b ∷ bs))) refl h)
+
+most-chosen : (s : Bool) → cond s 2147483648 2147483647 ≡ intMost s
+unfolding intMost
+most-chosen true = refl
+most-chosen false = refl
+
+pub int-whole : (word : List ℕ) → numberOf INT word ≡ wholeIn 10 2147483647 2147483648 word
+unfolding numberOf fixedOf wholeIn intOf
+int-whole word = int-unsigned (negative word) (unsignedPart word) ∙ rw (most-chosen (negative word))
+
 module _ (word : List ℕ) (start end : ℕ) (d : drop start word ≡ unsignedPart word) (e : end ≡ start + length (run isDigit (drop start word))) where
   -- the digits, and what stands after them
-  lead-digits : part word start end ≡ run isDigit (unsignedPart word)
+  pub lead-digits : part word start end ≡ run isDigit (unsignedPart word)
   unfolding part
   lead-digits = rw (e, add-sub-cancel-left, ← d) (run-take isDigit (drop start word))
 
-  lead-after : afterDigits (unsignedPart word) ≡ drop end word
+  pub lead-after : afterDigits (unsignedPart word) ≡ drop end word
   unfolding afterDigits
   lead-after = rw (← d, drop-drop (length (run isDigit (drop start word))) start word, e)
 
@@ -145,61 +179,29 @@ module _ (word : List ℕ) (start end : ℕ) (d : drop start word ≡ unsignedPa
   pub lead-all : allDigits (part word start end) ≡ true
   lead-all = rw lead-digits (digits-run (unsignedPart word))
 
-  pub lead-none : (f : Form) → end ≡ start → numberOf f word ≡ wrong
-  unfolding numberOf unsigned
-  lead-none f n = rw (notEmpty-none (run isDigit (unsignedPart word)) (rw (← d) (omega arith)), unsigned)
+  -- digits alone
+  module _ (digits most least : ℕ) where
+    pub whole-more : end < length word → wholeIn digits most least word ≡ wrong
+    unfolding wholeIn
+    whole-more h = rw (digits-short (unsignedPart word) (rw (← d, length-drop) (omega arith)), and-false (notEmpty (unsignedPart word)))
 
-  lead-some : (f : Form) → start < end → numberOf f word ≡ numberFrom f (negative word) (part word start end) (drop end word)
-  unfolding numberOf unsigned
-  lead-some f n = rw (notEmpty-some (run isDigit (unsignedPart word)) (rw (← d) (omega arith)), unsigned, lead-digits, lead-after)
+    pub whole-none : end ≡ start → wholeIn digits most least word ≡ wrong
+    unfolding wholeIn
+    whole-none n = go (leb (length word) end) refl
+      where
+        go : (v : Bool) → leb (length word) end ≡ v → wholeIn digits most least word ≡ wrong
+        go true k = rw (notEmpty-none (unsignedPart word) (rw (← d, length-drop) (omega (arith, leb-true))))
+        go false k = whole-more (omega (arith, leb-false))
 
-  pub lead-int-more : start < end → end < length word → numberOf INT word ≡ wrong
-  unfolding numberFrom
-  lead-int-more n h = lead-some INT n ∙ rw (drop-cons word end 0 h)
+    pub whole-all : start < end → length word ≤ end → wholeIn digits most least word ≡ wholeOf digits (cond (negative word) least most) (negative word) (part word start end)
+    unfolding wholeIn
+    whole-all n h =
+        let same : run isDigit (unsignedPart word) ≡ unsignedPart word = run-all (unsignedPart word) (rw (← d, length-drop) (omega arith)) in
+        rw (lead-digits, same, notEmpty-some (unsignedPart word) (rw (← d) (omega (arith, run-length isDigit (drop start word)))), rw same at (digits-run (unsignedPart word)))
 
   pub lead-int : start < end → length word ≤ end → numberOf INT word ≡ intOf (negative word) (part word start end)
-  unfolding numberFrom
-  lead-int n h = lead-some INT n ∙ rw (drop-of-length-le word h)
-
-  pub lead-float : start < end → length word ≤ end → numberOf FLOAT word ≡ floatOf (negative word) (part word start end) (part word end end)
-  unfolding numberFrom
-  lead-float n h = lead-some FLOAT n ∙ rw (drop-of-length-le word h, part-none word end end (omega arith))
-
-  -- a point, and what stands after it
-  lead-point : start < end → end < length word → numberOf FLOAT word ≡ cond (eqb (getD word end 0) 46 && notEmpty (drop (suc end) word) && allDigits (drop (suc end) word)) (floatOf (negative word) (part word start end) (drop (suc end) word)) wrong
-  unfolding numberFrom
-  lead-point n h = lead-some FLOAT n ∙ rw (drop-cons word end 0 h)
-
-  pub lead-pointless : start < end → end < length word → (getD word end 0 ≡ 46 → ⊥) → numberOf FLOAT word ≡ wrong
-  lead-pointless n h p = lead-point n h ∙ rw (ne-eqb _ _ p)
-
-  -- digits after the point, up to `last`
-  module _ (n : start < end) (h : end < length word) (p : getD word end 0 ≡ 46) (last : ℕ) (l : last ≡ suc end + length (run isDigit (drop (suc end) word))) where
-    pub lead-rest : last < length word → numberOf FLOAT word ≡ wrong
-    lead-rest k = lead-point n h ∙ rw (eq-eqb _ _ p, digits-short (drop (suc end) word) (rw length-drop (omega arith))) (go (notEmpty (drop (suc end) word)))
-      where
-        go : (v : Bool) → cond (v && false) (floatOf (negative word) (part word start end) (drop (suc end) word)) wrong ≡ wrong
-        go true = refl
-        go false = refl
-
-    pub lead-more-all : allDigits (part word (suc end) last) ≡ true
-    unfolding part
-    lead-more-all = rw (l, add-sub-cancel-left, run-take isDigit (drop (suc end) word)) (digits-run (drop (suc end) word))
-
-    pub lead-bare : last ≡ suc end → numberOf FLOAT word ≡ wrong
-    lead-bare k = go (leb (length word) (suc end)) refl
-      where
-        go : (v : Bool) → leb (length word) (suc end) ≡ v → numberOf FLOAT word ≡ wrong
-        go true e = lead-point n h ∙ rw (eq-eqb _ _ p, notEmpty-none (drop (suc end) word) (rw length-drop (omega (arith, leb-true))))
-        go false e = lead-rest (omega (arith, leb-false))
-
-    pub lead-parts : suc end < last → length word ≤ last → numberOf FLOAT word ≡ floatOf (negative word) (part word start end) (part word (suc end) last)
-    lead-parts k m =
-        let all : length (drop (suc end) word) ≤ length (run isDigit (drop (suc end) word)) = rw length-drop (omega arith) in
-        let same : run isDigit (drop (suc end) word) ≡ drop (suc end) word = sym (run-take isDigit (drop (suc end) word)) ∙ take-all _ (drop (suc end) word) all in
-        let whole : part word (suc end) last ≡ drop (suc end) word = unfold part in take-all (last - suc end) (drop (suc end) word) (rw length-drop (omega arith)) in
-        lead-point n h
-        ∙ rw (eq-eqb _ _ p, notEmpty-some (drop (suc end) word) (rw length-drop (omega (arith, run-within isDigit word (suc end) h))), rw same at (digits-run (drop (suc end) word)), whole)
+  unfolding intOf
+  lead-int n h = int-whole word ∙ whole-all 10 2147483647 2147483648 n h ∙ rw (most-chosen (negative word))
 
 -- ---- INT and FLOAT of digits
 
@@ -225,22 +227,21 @@ pub millionths-below : (ds fs : List ℕ) → allDigits ds ≡ true → allDigit
 unfolding millionths
 millionths-below ds fs d f h k = let w = decimal-below ds 7 d h in let r = fraction-below fs f k in omega arith
 
-pub int-long : (s : Bool) (ds : List ℕ) → 10 < length ds → intOf s ds ≡ beyond
-unfolding intOf
-int-long s ds h = rw (lt-leb (length ds) 10 h)
+pub whole-long : (digits most : ℕ) (s : Bool) (ds : List ℕ) → digits < length ds → wholeOf digits most s ds ≡ beyond
+unfolding wholeOf
+whole-long digits most s ds h = rw (lt-leb (length ds) digits h)
 
-pub int-large : (s : Bool) (ds : List ℕ) → length ds ≤ 10 → intMost s < decimal ds → intOf s ds ≡ beyond
-unfolding intOf
-int-large s ds h k = rw (le-leb (length ds) 10 h, lt-leb (decimal ds) (intMost s) k)
+pub whole-large : (digits most : ℕ) (s : Bool) (ds : List ℕ) → length ds ≤ digits → most < decimal ds → wholeOf digits most s ds ≡ beyond
+unfolding wholeOf
+whole-large digits most s ds h k = rw (le-leb (length ds) digits h, lt-leb (decimal ds) most k)
+
+pub whole-value : (digits most : ℕ) (s : Bool) (ds : List ℕ) → length ds ≤ digits → decimal ds ≤ most → wholeOf digits most s ds ≡ value (signed s (decimal ds))
+unfolding wholeOf
+whole-value digits most s ds h k = rw (le-leb (length ds) digits h, le-leb (decimal ds) most k)
 
 pub int-value : (s : Bool) (ds : List ℕ) → length ds ≤ 10 → decimal ds ≤ intMost s → intOf s ds ≡ value (signed s (decimal ds))
 unfolding intOf
-int-value s ds h k = rw (le-leb (length ds) 10 h, le-leb (decimal ds) (intMost s) k)
-
-pub intMost-below : (s : Bool) → intMost s < 2 ^ 63
-unfolding intMost
-intMost-below false = omega arith
-intMost-below true = omega arith
+int-value s ds h k = whole-value 10 (intMost s) s ds h k
 
 -- ---- the values that a form can give
 
@@ -250,27 +251,27 @@ signed-int false n h = le-leb n 2147483647 h
 signed-int true zero h = refl
 signed-int true (suc n) h = le-leb n 2147483647 (omega arith)
 
-signed-float : (s : Bool) (n : ℕ) → n < 10 ^ 13 → inForm FLOAT (signed s n) ≡ true
+pub signed-float : (s : Bool) (n : ℕ) → n < 10 ^ 13 → inForm FLOAT (signed s n) ≡ true
 unfolding inForm signed
 signed-float false n h = le-leb n 9999999999999 (omega arith)
 signed-float true zero h = refl
 signed-float true (suc n) h = le-leb n 9999999999998 (omega arith)
 
 -- what a choice between a value and a refusal says where it is a value
-chosen : (t : Bool) (a z : ℤ) (other : Number) → (other ≡ value z → ⊥) → cond t (value a) other ≡ value z → (t ≡ true) × (a ≡ z)
+pub chosen : (t : Bool) (a z : ℤ) (other : Number) → (other ≡ value z → ⊥) → cond t (value a) other ≡ value z → (t ≡ true) × (a ≡ z)
 chosen true a z other n e = (refl, cc)
 chosen false a z other n e = absurd (n e)
 
-beyond-no : (z : ℤ) → beyond ≡ value z → ⊥
+pub beyond-no : (z : ℤ) → beyond ≡ value z → ⊥
 beyond-no z e = let w : _≡_ {A = ℕ} 0 1 = cc in omega arith
 
-wrong-no : (z : ℤ) → wrong ≡ value z → ⊥
+pub wrong-no : (z : ℤ) → wrong ≡ value z → ⊥
 wrong-no z e = let w : _≡_ {A = ℕ} 0 1 = cc in omega arith
 
 int-range : (s : Bool) (ds : List ℕ) (z : ℤ) → intOf s ds ≡ value z → inForm INT z ≡ true
-unfolding intOf
+unfolding intOf wholeOf
 int-range s ds z e =
-    let p = chosen _ _ z beyond (beyond-no z) e in
+    let p = chosen (leb (length ds) 10 && leb (decimal ds) (intMost s)) (signed s (decimal ds)) z beyond (beyond-no z) e in
     let t = and-true (leb (length ds) 10) (leb (decimal ds) (intMost s)) (p .0) in
     rw (← p .1) (signed-int s (decimal ds) (leb-true _ _ (t .1)))
 
@@ -292,10 +293,10 @@ from-range FLOAT s ds (b ∷ rest) z d e = go (eqb b 46 && notEmpty rest && allD
     go true c e = float-range s ds rest z d (and-true (eqb b 46 && notEmpty rest) (allDigits rest) c .1) e
     go false c e = absurd (wrong-no z e)
 
--- a word's value lies in its form's range
-pub number-range : (f : Form) (word : List ℕ) (z : ℤ) → numberOf f word ≡ value z → inForm f z ≡ true
-unfolding numberOf unsigned
-number-range f word z e = go (notEmpty (run isDigit (unsignedPart word))) refl
+-- the value of a word without an exponent lies in its form's range
+pub fixed-range : (f : Form) (word : List ℕ) (z : ℤ) → fixedOf f word ≡ value z → inForm f z ≡ true
+unfolding fixedOf unsigned
+fixed-range f word z e = go (notEmpty (run isDigit (unsignedPart word))) refl
   where
     go : (t : Bool) → notEmpty (run isDigit (unsignedPart word)) ≡ t → inForm f z ≡ true
     go true c = from-range f (negative word) _ _ z (digits-run (unsignedPart word)) (rw (c, unsigned) at e)

@@ -1,10 +1,10 @@
--- The number forms INT and FLOAT (document 01, "Words"): a FLOAT is a whole number of millionths.
+-- The number forms INT and FLOAT (document 01, "Words", and document 02, request vii): a FLOAT is a whole number of millionths.
 use mathlib.Core.List.{List, [], _∷_}
-use mathlib.Core.Bool.{Bool, true, false, cond, _&&_}
-use Prim.Native.Nat.{ℕ, _+_, _-_, _*_, _^_}
+use mathlib.Core.Bool.{Bool, true, false, cond, not, _&&_}
+use Prim.Native.Nat.{ℕ, suc, _+_, _-_, _*_, _/_, _%_, _^_}
 use lib.Dec.{leb, eqb}
 use lib.ListN.{length, drop}
-use lib.IntN.{ℤ, pos, negsuc, negℤ}
+use lib.IntN.{ℤ, pos, negsuc, negℤ, natAbs, _*ℤ_}
 use Rattle.text_bytes.specs.Bytes.{isDigit}
 use Rattle.text_runs.specs.Runs.{run}
 
@@ -47,8 +47,12 @@ unfoldable pub intMost : Bool → ℕ
 intMost false = 2147483647
 intMost true = 2147483648
 
+-- a sign and so many digits at most, of so great a value at most
+unfoldable pub wholeOf : ℕ → ℕ → Bool → List ℕ → Number
+wholeOf digits most s ds = cond (leb (length ds) digits && leb (decimal ds) most) (value (signed s (decimal ds))) beyond
+
 unfoldable pub intOf : Bool → List ℕ → Number
-intOf s ds = cond (leb (length ds) 10 && leb (decimal ds) (intMost s)) (value (signed s (decimal ds))) beyond
+intOf s ds = wholeOf 10 (intMost s) s ds
 
 -- the digits before the point and those after it
 unfoldable pub millionths : List ℕ → List ℕ → ℕ
@@ -79,9 +83,9 @@ negative (b ∷ bs) = eqb b 45
 unfoldable pub unsignedPart : List ℕ → List ℕ
 unsignedPart word = elim (negative word) [ true ↦ drop 1 word | false ↦ word ]
 
--- a word as a number of a form
-unfoldable pub numberOf : Form → List ℕ → Number
-numberOf f word = unsigned f (negative word) (unsignedPart word)
+-- a word as a number of a form that has no exponent
+unfoldable pub fixedOf : Form → List ℕ → Number
+fixedOf f word = unsigned f (negative word) (unsignedPart word)
 
 -- a value that INT or FLOAT can have
 unfoldable pub inForm : Form → ℤ → Bool
@@ -89,3 +93,49 @@ inForm INT (pos n) = leb n 2147483647
 inForm INT (negsuc n) = leb n 2147483647
 inForm FLOAT (pos n) = leb n 9999999999999
 inForm FLOAT (negsuc n) = leb n 9999999999998
+
+-- ---- exponents: a FLOAT may end in `e`, an optional minus sign and one digit, 0 to 6
+
+-- what stands after the `e`
+unfoldable pub exponentOf : List ℕ → Number
+exponentOf bs = cond (notEmpty (unsignedPart bs) && allDigits (unsignedPart bs)) (wholeOf 1 6 (negative bs) (unsignedPart bs)) wrong
+
+unfoldable pub inRange : ℤ → Number
+inRange z = cond (inForm FLOAT z) (value z) beyond
+
+-- a number over another that divides it
+unfoldable pub over : ℤ → ℕ → ℤ
+over (pos n) p = pos (n / p)
+over (negsuc n) p = negℤ (pos (suc n / p))
+
+-- millionths times ten to a power, where that is a whole number of millionths in FLOAT's range
+unfoldable pub raised : ℤ → ℤ → Number
+raised z (pos d) = inRange (z *ℤ pos (10 ^ d))
+raised z (negsuc d) = cond (eqb (natAbs z % 10 ^ suc d) 0) (inRange (over z (10 ^ suc d))) beyond
+
+-- a number before an exponent: not of the form where one of the two is not, else beyond where one of them is
+unfoldable pub timesPower : Number → Number → Number
+timesPower (value z) (value e) = raised z e
+timesPower (value z) beyond = beyond
+timesPower (value z) wrong = wrong
+timesPower beyond (value e) = beyond
+timesPower beyond beyond = beyond
+timesPower beyond wrong = wrong
+timesPower wrong e = wrong
+
+-- a byte before the first `e`
+unfoldable pub inMantissa : ℕ → Bool
+inMantissa b = not (eqb b 101)
+
+unfoldable pub mantissa : List ℕ → List ℕ
+mantissa word = run inMantissa word
+
+-- a number, and what follows it: nothing, or an `e` and more
+unfoldable pub withExponent : Number → List ℕ → Number
+withExponent n [] = n
+withExponent n (b ∷ bs) = timesPower n (exponentOf bs)
+
+-- a word as a number of a form
+unfoldable pub numberOf : Form → List ℕ → Number
+numberOf INT word = fixedOf INT word
+numberOf FLOAT word = withExponent (fixedOf FLOAT (mantissa word)) (drop (length (mantissa word)) word)

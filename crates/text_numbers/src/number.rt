@@ -1,12 +1,14 @@
 // INT and FLOAT of a plain word, as exact whole numbers.
 ghost use mathlib.Core.Path.{_≡_};
-ghost use mathlib.Core.Bool.{true};
-ghost use Prim.Native.Nat.{_+_, _-_, _≤_, _<_, _^_};
+ghost use mathlib.Core.Bool.{true, cond};
+ghost use Prim.Native.Nat.{_+_, _≤_, _<_, _^_};
 ghost use lib.ListN.{length};
+ghost use lib.IntN.{natAbs};
 ghost use Rattle.text_runs.specs.Runs.{part};
-ghost use Rattle.text_numbers.specs.Numbers.{numberOf, INT, FLOAT, floatOf, allDigits, negative, signed, intMost};
+ghost use Rattle.text_numbers.specs.Numbers.{numberOf, INT, FLOAT, floatOf, allDigits, negative, signed, timesPower, raised, inRange};
 ghost use Rattle.text_numbers.specs.Numbers.{decimal as decimalOf};
-ghost use Rattle.text_numbers.specs.Internal.Answers.{numberNamed, Leads};
+ghost use Rattle.text_numbers.specs.Internal.Answers.{numberNamed, Leads, Fractional, wholeIn, within};
+use signed::magnitude;
 use text_runs::Run;
 use text_runs::run_end;
 
@@ -20,23 +22,7 @@ pub enum Parsed {
 pub fn int(word: &[u8]) -> Parsed
     ensures { λ r. ⌜ numberNamed r ≡ numberOf INT (now (word .entry)) ⌝ }
 {
-    let n = lead(word);
-    let start = n.start;
-    let end = n.end;
-    if end == start {
-        return Parsed::Malformed;
-    }
-    if end < word.len() {
-        return Parsed::Malformed;
-    }
-    if 10 < end - start {
-        return Parsed::Beyond;
-    }
-    let value = decimal(word, start, end);
-    if int_most(n.negative) < value {
-        return Parsed::Beyond;
-    }
-    Parsed::Value(with_sign(n.negative, value))
+    whole(word, 10, 2147483647, 2147483648)
 }
 
 // A word as a FLOAT, in millionths.
@@ -44,26 +30,20 @@ pub fn float(word: &[u8]) -> Parsed
     ensures { λ r. ⌜ numberNamed r ≡ numberOf FLOAT (now (word .entry)) ⌝ }
 {
     let n = lead(word);
-    let start = n.start;
     let end = n.end;
-    if end == start {
+    if end == n.start {
         return Parsed::Malformed;
     }
-    if word.len() <= end {
-        return float_of(word, n, end, end);
+    let f = fraction_at(word, end);
+    let last = f.last;
+    let mantissa = float_of(word, n, f.from, last);
+    if word.len() <= last {
+        return mantissa;
     }
-    if word[end] != 46 {
+    if word[last] != 101 {
         return Parsed::Malformed;
     }
-    let from = end + 1;
-    let last = run_end(word, from, Run::Digits);
-    if last == from {
-        return Parsed::Malformed;
-    }
-    if last < word.len() {
-        return Parsed::Malformed;
-    }
-    float_of(word, n, from, last)
+    times_power(mantissa, whole(&word[last + 1..], 1, 6, 6))
 }
 
 // The sign of a word, and the digits that it begins with after that.
@@ -99,6 +79,71 @@ fn is_negative(word: &[u8]) -> bool
     word[0] == 45
 }
 
+// A word of a sign and digits alone, so many at most: its value is up to `most`, and up to `least` with a minus sign.
+fn whole(word: &[u8], digits: usize, most: u64, least: u64) -> Parsed
+    requires { ⌜ (digits ≤ 10) × (most < 2 ^ 63) × (least < 2 ^ 63) ⌝ }
+    ensures { λ r. ⌜ numberNamed r ≡ wholeIn digits most least (now (word .entry)) ⌝ }
+{
+    let n = lead(word);
+    let start = n.start;
+    let end = n.end;
+    if end == start {
+        return Parsed::Malformed;
+    }
+    if end < word.len() {
+        return Parsed::Malformed;
+    }
+    if digits < end - start {
+        return Parsed::Beyond;
+    }
+    let value = decimal(word, start, end);
+    if greatest(n.negative, most, least) < value {
+        return Parsed::Beyond;
+    }
+    Parsed::Value(with_sign(n.negative, value))
+}
+
+// The greatest magnitude with a sign.
+fn greatest(negative: bool, most: u64, least: u64) -> u64
+    ensures { λ r. ⌜ r ≡ cond negative least most ⌝ }
+{
+    if negative { least } else { most }
+}
+
+// The digits after a point.
+struct Fraction {
+    from: usize,
+    last: usize,
+}
+
+// The fraction that begins at `end`: a point and one digit or more, or none.
+fn fraction_at(word: &[u8], end: usize) -> Fraction
+    requires { ⌜ end ≤ length (now word) ⌝ }
+    ensures { λ r. ⌜ Fractional (now (word .entry)) end r ⌝ }
+{
+    if word.len() <= end {
+        return Fraction {
+            from: end,
+            last: end,
+        };
+    }
+    if word[end] != 46 {
+        return Fraction {
+            from: end,
+            last: end,
+        };
+    }
+    let from = end + 1;
+    let last = run_end(word, from, Run::Digits);
+    if last == from {
+        return Fraction {
+            from: end,
+            last: end,
+        };
+    }
+    Fraction { from, last }
+}
+
 // A sign, the digits of `n` and those from `from` to `last`, after the point.
 fn float_of(word: &[u8], n: Leading, from: usize, last: usize) -> Parsed
     requires { ⌜ (n .start ≤ n .end) × (n .end ≤ length (now word)) ⌝ }
@@ -115,9 +160,59 @@ fn float_of(word: &[u8], n: Leading, from: usize, last: usize) -> Parsed
     if 6 < last - from {
         return Parsed::Beyond;
     }
-    let whole = decimal(word, start, end);
-    let fraction = decimal(word, from, last);
-    Parsed::Value(with_sign(n.negative, whole * 1000000 + fraction * scale(last - from)))
+    let units = decimal(word, start, end);
+    let parts = decimal(word, from, last);
+    Parsed::Value(with_sign(
+        n.negative,
+        units * 1000000 + parts * power(6 - (last - from)),
+    ))
+}
+
+// A number times ten to the power that its exponent gives.
+fn times_power(n: Parsed, exponent: Parsed) -> Parsed
+    requires { ⌜ within 9999999999999 (numberNamed n) ≡ true ⌝ }
+    requires { ⌜ within 6 (numberNamed exponent) ≡ true ⌝ }
+    ensures { λ r. ⌜ numberNamed r ≡ timesPower (numberNamed n) (numberNamed exponent) ⌝ }
+{
+    match n {
+        Parsed::Malformed => Parsed::Malformed,
+        Parsed::Beyond => match exponent {
+            Parsed::Malformed => Parsed::Malformed,
+            Parsed::Beyond => Parsed::Beyond,
+            Parsed::Value(e) => Parsed::Beyond,
+        },
+        Parsed::Value(z) => match exponent {
+            Parsed::Malformed => Parsed::Malformed,
+            Parsed::Beyond => Parsed::Beyond,
+            Parsed::Value(e) => raise(z, e),
+        },
+    }
+}
+
+// `z` times ten to the power `e`, where that is a whole number in FLOAT's range.
+fn raise(z: i64, e: i64) -> Parsed
+    requires { ⌜ (natAbs z ≤ 9999999999999) × (natAbs e ≤ 6) ⌝ }
+    ensures { λ r. ⌜ numberNamed r ≡ raised z e ⌝ }
+{
+    let n = magnitude(z);
+    let p = power(magnitude(e) as usize);
+    if e < 0 {
+        if n % p != 0 {
+            return Parsed::Beyond;
+        }
+        return in_range(z < 0, n / p);
+    }
+    in_range(z < 0, n * p)
+}
+
+// A magnitude with its sign, where it is in FLOAT's range.
+fn in_range(negative: bool, n: u64) -> Parsed
+    ensures { λ r. ⌜ numberNamed r ≡ inRange (signed negative n) ⌝ }
+{
+    if 9999999999999 < n {
+        return Parsed::Beyond;
+    }
+    Parsed::Value(with_sign(negative, n))
 }
 
 // The value of the digits from `start` to `end`.
@@ -136,26 +231,20 @@ fn decimal(word: &[u8], start: usize, end: usize) -> u64
     value
 }
 
-// What a digit after the point is worth, by how many there are.
-fn scale(n: usize) -> u64
-    requires { ⌜ n ≤ 6 ⌝ }
-    ensures { λ r. ⌜ r ≡ 10 ^ (6 - n) ⌝ }
+// Ten to a power.
+fn power(d: usize) -> u64
+    requires { ⌜ d ≤ 6 ⌝ }
+    ensures { λ r. ⌜ r ≡ 10 ^ d ⌝ }
 {
-    match n {
-        0 => 1000000,
-        1 => 100000,
-        2 => 10000,
+    match d {
+        0 => 1,
+        1 => 10,
+        2 => 100,
         3 => 1000,
-        4 => 100,
-        5 => 10,
-        _ => 1,
+        4 => 10000,
+        5 => 100000,
+        _ => 1000000,
     }
-}
-
-fn int_most(negative: bool) -> u64
-    ensures { λ r. ⌜ r ≡ intMost negative ⌝ }
-{
-    if negative { 2147483648 } else { 2147483647 }
 }
 
 fn with_sign(negative: bool, n: u64) -> i64

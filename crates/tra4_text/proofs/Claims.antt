@@ -8,7 +8,7 @@ use lib.IntN.{ℤ, pos, negsuc}
 use Rattle.text_bytes.specs.Bytes.{bytes, isBlank, between, isLetter, classOf, inLine, inString, isDigit, isContent}
 use Rattle.text_runs.specs.Runs.{run, same}
 use Rattle.text_tokens.specs.Tokens.{lexeme, tokens, lex, isKeyword}
-use Rattle.text_numbers.specs.Numbers.{decimalFrom, decimal, signed, notEmpty, allDigits, intMost, intOf, millionths, floatOf, numberFrom, afterDigits, unsigned, negative, unsignedPart, numberOf, refusalOf}
+use Rattle.text_numbers.specs.Numbers.{decimalFrom, decimal, signed, notEmpty, allDigits, intMost, wholeOf, intOf, millionths, floatOf, numberFrom, afterDigits, unsigned, negative, unsignedPart, fixedOf, inMantissa, mantissa, withExponent, numberOf, refusalOf}
 use Rattle.text_check.specs.Faults.{faultIn, markOf, blankOrEnd, begins, marked, textFault}
 use Rattle.refusal.specs.Faults.{clear, fault}
 use Rattle.parse_spec.specs.Readers.{rowOf, cells, after, _>>=_, _>>_, pure, stop, tokenOf, rest, take-if, open-bracket, close-bracket, wordOf, text-end, openedOf, opened, closed, numberIn, numberAt, number, numbers, versionAt, version, absent, nameAt, string, oneFrom, oneOf, starts, optional, trailing, manyIn, many, many⁺, headOf, head}
@@ -93,7 +93,7 @@ cases =
     ∷ []
 
 pub worked : (movementTable walk (replicate 101 (pos 9)) ≡ walked ++ (pos 9 ∷ [])) × (movementAnswer walk 99 ≡ rejected 17 100) × (map (λ c. reply (movementAnswer (front ++ bytes (c .0)) 100)) cases ≡ map (λ c. c .1) cases)
-unfolding rowOf cells bytes isBlank between isLetter classOf inLine inString isDigit isContent run same lexeme tokens lex isKeyword decimalFrom decimal signed notEmpty allDigits intMost intOf millionths floatOf numberFrom afterDigits unsigned negative unsignedPart numberOf refusalOf faultIn markOf blankOrEnd begins marked textFault after _>>=_ _>>_ pure stop tokenOf rest isOpening isClosing isEnd take-if open-bracket close-bracket wordOf text-end openedOf opened closed numberIn numberAt number numbers versionAt version absent nameAt string oneFrom oneOf starts optional trailing manyIn many many⁺ headOf head kind isSome unread complete kindFrom fieldsIn fields flat frameOf groupOf repeatedIn repeated repeated⁺ key channelNames channel channelKinds keysIn bone word truth pattern movement orElse channelsOf allKeys keyRows countsOf movementCounts movementLists movementMosts tooMany totalFault isFrame isZero rises neverFalls framesFault keyFine keysFault patternFine patternsFault movementFault nameNumbers keyRanges boneRow boneRows layoutOf ruled shaped checked outcome movementOutcome fitted movementAnswer laid movementTable
+unfolding rowOf cells bytes isBlank between isLetter classOf inLine inString isDigit isContent run same lexeme tokens lex isKeyword decimalFrom decimal signed notEmpty allDigits intMost wholeOf intOf millionths floatOf numberFrom afterDigits unsigned negative unsignedPart fixedOf inMantissa mantissa withExponent numberOf refusalOf faultIn markOf blankOrEnd begins marked textFault after _>>=_ _>>_ pure stop tokenOf rest isOpening isClosing isEnd take-if open-bracket close-bracket wordOf text-end openedOf opened closed numberIn numberAt number numbers versionAt version absent nameAt string oneFrom oneOf starts optional trailing manyIn many many⁺ headOf head kind isSome unread complete kindFrom fieldsIn fields flat frameOf groupOf repeatedIn repeated repeated⁺ key channelNames channel channelKinds keysIn bone word truth pattern movement orElse channelsOf allKeys keyRows countsOf movementCounts movementLists movementMosts tooMany totalFault isFrame isZero rises neverFalls framesFault keyFine keysFault patternFine patternsFault movementFault nameNumbers keyRanges boneRow boneRows layoutOf ruled shaped checked outcome movementOutcome fitted movementAnswer laid movementTable
 worked = (refl, refl, refl)
 
 -- ---- the lists' mosts, and the total's range

@@ -22,11 +22,11 @@ fractions : (c : tie.Start) → length (part (now (c .args .word)) (c .args .fro
 fractions c = part-whole (now (c .args .word)) (c .args .from) (c .args .last) (c .pre .1 .0 .1)
 
 -- what the two values are, and that together they are small
-small : (c : tie.After-scale) → c .before .before .decimal .result * 1000000 + c .before .decimal2 .result * c .scale .result ≡ millionths (part (now (c .before .before .before .before .before .before .args .word)) (c .before .before .before .before .before .before .args .n .start) (c .before .before .before .before .before .before .args .n .end)) (part (now (c .before .before .before .before .before .before .args .word)) (c .before .before .before .before .before .before .args .from) (c .before .before .before .before .before .before .args .last))
+small : (c : tie.After-power) → c .before .before .decimal .result * 1000000 + c .before .decimal2 .result * c .power .result ≡ millionths (part (now (c .before .before .before .before .before .before .args .word)) (c .before .before .before .before .before .before .args .n .start) (c .before .before .before .before .before .before .args .n .end)) (part (now (c .before .before .before .before .before .before .args .word)) (c .before .before .before .before .before .before .args .from) (c .before .before .before .before .before .before .args .last))
 unfolding millionths
-small c = let b = c .before .before .before .before .before .before in rw (c .before .before .decimal .ensures, c .before .decimal2 .ensures, c .scale .ensures, fractions b)
+small c = let b = c .before .before .before .before .before .before in rw (c .before .before .decimal .ensures, c .before .decimal2 .ensures, c .power .ensures, fractions b)
 
-below : (c : tie.After-scale) → c .before .before .decimal .result * 1000000 + c .before .decimal2 .result * c .scale .result < 10 ^ 13
+below : (c : tie.After-power) → c .before .before .decimal .result * 1000000 + c .before .decimal2 .result * c .power .result < 10 ^ 13
 below c =
     let b = c .before .before .before .before .before .before in
     rw (small c) (millionths-below _ _ (b .pre .1 .1 .0) (b .pre .1 .1 .1) (rw (wholes b) (c .before .before .before .before .if1 .left)) (rw (fractions b) (c .before .before .before .if2 .left)))
@@ -57,11 +57,14 @@ mul-with-sign c =
     let h = decimal-below _ 7 (b .pre .1 .1 .0) (rw (wholes b) (c .before .before .before .if1 .left)) in
     omega (arith, rw (← c .before .decimal .ensures) at h)
 
-sub-scale : tie.Need-sub-scale
-sub-scale c = search needs
+sub-power : tie.Need-sub-power
+sub-power c = search needs
 
-scale-requires : tie.Need-scale-requires
-scale-requires c κs = search needs
+sub-power-2 : tie.Need-sub-power-2
+sub-power-2 c = search needs
+
+power-requires : tie.Need-power-requires
+power-requires c κs = search needs
 
 mul-with-sign-2 : tie.Need-mul-with-sign-2
 mul-with-sign-2 c = let h = below c in record { fits = omega arith }
@@ -76,7 +79,7 @@ returns-3 : tie.Need-returns-3
 unfolding numberNamed
 returns-3 c =
     let b = c .before .before .before .before .before .before .before in
-    let h : c .before .before .before .decimal .result * 1000000 + c .before .before .decimal2 .result * c .before .scale .result < 2 ^ 63 = omega (arith, below (c .before)) in
+    let h : c .before .before .before .decimal .result * 1000000 + c .before .before .decimal2 .result * c .before .power .result < 2 ^ 63 = omega (arith, below (c .before)) in
     rw (c .with-sign .ensures, signed-back _ _ h, small (c .before))
     (sym (float-value _ _ _ (rw (wholes b) (c .before .before .before .before .before .if1 .left)) (rw (fractions b) (c .before .before .before .before .if2 .left))))
 
@@ -91,8 +94,9 @@ float-of-spec =
     decimal-requires
     decimal-requires-2
     mul-with-sign
-    sub-scale
-    scale-requires
+    sub-power
+    sub-power-2
+    power-requires
     mul-with-sign-2
     add-with-sign
     with-sign-requires

@@ -1,13 +1,13 @@
--- `scale` is the power of ten at each count.
+-- `power` is the power of ten at each exponent.
 use mathlib.Core.Path.{_≡_}
 use Prim.Native.Nat.{ℕ, _≤_, _<_, zero-le}
 use native.Mathlib.Nat.{le-antisymm}
 use native.Mathlib.Omega.{arith}
-use Rattle.text_numbers.proofs.number.scale.Statement.{statement}
-use Rattle.text_numbers.proofs.number.scale.Tie as tie
+use Rattle.text_numbers.proofs.number.power.Statement.{statement}
+use Rattle.text_numbers.proofs.number.power.Tie as tie
 
 past : (n k : ℕ) → k ≤ n → (n ≡ k → ⊥) → k < n
-past n k h e = omega arith
+past d k h e = omega arith
 
 returns : tie.Need-returns
 returns c = rw (c .match .keys1)
@@ -30,9 +30,9 @@ returns-6 c = rw (c .match .keys6)
 returns-7 : tie.Need-returns-7
 returns-7 c =
     let r = c .match .rest in
-    let n = c .before .args .n in
-    rw (le-antisymm (c .before .pre) (past n 5 (past n 4 (past n 3 (past n 2 (past n 1 (past n 0 zero-le (r .0 .0 .0 .0 .0 .1)) (r .0 .0 .0 .0 .1)) (r .0 .0 .0 .1)) (r .0 .0 .1)) (r .0 .1)) (r .1)))
+    let d = c .before .args .d in
+    rw (le-antisymm (c .before .pre) (past d 5 (past d 4 (past d 3 (past d 2 (past d 1 (past d 0 zero-le (r .0 .0 .0 .0 .0 .1)) (r .0 .0 .0 .0 .1)) (r .0 .0 .0 .1)) (r .0 .0 .1)) (r .0 .1)) (r .1)))
 
-pub scale-spec : {M : Type 1} → statement M
-scale-spec =
+pub power-spec : {M : Type 1} → statement M
+power-spec =
     tie.close (tie.spec returns returns-2 returns-3 returns-4 returns-5 returns-6 returns-7)
