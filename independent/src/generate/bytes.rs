@@ -13,7 +13,7 @@ pub fn damage(rng: &mut Rng, text: &mut Vec<u8>) {
         0 | 1 => text[at] ^= 1 << rng.below(8),
         2 => text[at] = rng.byte(),
         3 => text.insert(at, rng.byte()),
-        4 => text.insert(at, *rng.pick(b"()\"; 0a.-\n\r\t")),
+        4 => text.insert(at, *rng.pick(b"()\"; 0ae.-\n\r\t")),
         5 => text.insert(at, *rng.pick(&[0, 8, 11, 12, 14, 31, 127, 128, 255])),
         6 => text.truncate(at),
         7 => {

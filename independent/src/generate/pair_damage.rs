@@ -203,14 +203,16 @@ fn head(rng: &mut Rng, pair: &[u8]) -> Vec<u8> {
 
 /// Past the input's end, or another place in it than the figure's end.
 fn wrong_length(rng: &mut Rng, figure: usize, rest: usize) -> usize {
-    match rng.below(6) {
+    match rng.below(8) {
         0 => rest + *rng.pick(&[1, 1, 2, 9, 10, 70_000]),
-        1 => *rng.pick(&[99_999_999, 65_536, 65_537, 131_074, 131_075, 200_000]),
+        1 => *rng.pick(&[99_999_999, 65_537, 131_074, 131_075, 200_000]),
+        // Often, so that a few hundred pairs meet it.
+        2 | 3 => limits::TEXT_BYTES,
         // The figure is cut, and its end stands before the movement.
-        2 => figure - 1 - rng.below(9),
+        4 => figure - 1 - rng.below(9),
         // The movement's first bytes stand in the figure.
-        3 => figure + 1 + rng.below(9),
-        4 => *rng.pick(&[0, 1, 4, rest - 1, rest]),
+        5 => figure + 1 + rng.below(9),
+        6 => *rng.pick(&[0, 1, 4, rest - 1, rest]),
         _ => rng.below(rest + 1),
     }
 }

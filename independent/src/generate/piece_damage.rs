@@ -1,5 +1,6 @@
 //! Damage token by token and number by number.
 
+use super::number;
 use super::piece::{Piece, PieceKind};
 use super::rng::Rng;
 
@@ -281,6 +282,93 @@ pub fn damage_number(rng: &mut Rng, pieces: &mut [Piece]) {
         &BAD_FLOATS
     };
     piece.bytes = rng.pick(bad).as_bytes().to_vec();
+}
+
+/// Exponents of other digits (6), of none and of another form (5).
+const BAD_EXPONENTS: [&str; 18] = [
+    "e7",
+    "e-7",
+    "e9",
+    "e10",
+    "e-12",
+    "e00",
+    "e-06",
+    "e12345678901234567890",
+    "e",
+    "e-",
+    "e+1",
+    "e+0",
+    "E1",
+    "E-2",
+    "e1.0",
+    "e--1",
+    "e1e1",
+    "e1x",
+];
+
+/// Words that are refused for a value that is too great or no whole number of
+/// millionths (6), for a digit or a count of digits (6), or for a part that is
+/// missing or another (5). Where it is a digit, the value would qualify.
+const EXPONENT_WORDS: [&str; 28] = [
+    "9999999.999999e1",
+    "-9999999e6",
+    "1000000e1",
+    "-1000000.0e1",
+    "10e6",
+    "-10.000001e6",
+    "-9999999.999999e-1",
+    "0.000001e-1",
+    "0.1e-6",
+    "-0.5e-6",
+    "0e7",
+    "-0.1e7",
+    "10e-7",
+    "0.01e8",
+    "0e10",
+    "1e00",
+    "12345678e-1",
+    "00000000e6",
+    "0.1234567e1",
+    "-0.0000000e-6",
+    "12345678e",
+    "0.1234567e-",
+    "1.e3",
+    "-.5e1",
+    "e3",
+    "-e-3",
+    "1E0",
+    "1e+0",
+];
+
+/// Gives a number an exponent, or another than it has. Of ten numbers eight
+/// are decimals, one is an INT and one the version.
+pub fn damage_exponent(rng: &mut Rng, pieces: &mut [Piece]) {
+    let kind = match rng.below(10) {
+        0 => PieceKind::Int,
+        1 => PieceKind::Version,
+        _ => PieceKind::Float,
+    };
+    let of_kind = |piece: &&mut Piece| piece.kind == kind;
+    let mut numbers: Vec<&mut Piece> = pieces.iter_mut().filter(of_kind).collect();
+    if numbers.is_empty() {
+        return;
+    }
+    let at = rng.below(numbers.len());
+    let bytes = &mut numbers[at].bytes;
+    if kind == PieceKind::Float && rng.once_in(3) {
+        *bytes = rng.pick(&EXPONENT_WORDS).as_bytes().to_vec();
+        return;
+    }
+    // With one of the form the value may be too great, no whole number of
+    // millionths, or just another.
+    let exponent = if rng.coin() {
+        rng.pick(&BAD_EXPONENTS).to_string()
+    } else {
+        number::any_exponent(rng)
+    };
+    let end = bytes.iter().position(|&byte| byte == b'e');
+    bytes.truncate(end.unwrap_or(bytes.len()));
+    bytes.extend(exponent.into_bytes());
 }
 
 const VERSIONS: [&str; 12] = [

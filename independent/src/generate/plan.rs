@@ -13,6 +13,7 @@ enum Damage {
     Lists,
     Tokens,
     Number,
+    Exponent,
     Version,
     String,
     Bytes,
@@ -31,14 +32,16 @@ fn plan(rng: &mut Rng) -> Vec<Damage> {
     plan
 }
 
+/// One kind of damage: eight in a hundred are to an exponent.
 fn one(rng: &mut Rng) -> Damage {
     match rng.below(100) {
-        0..=35 => Damage::Lists,
-        36..=60 => Damage::Tokens,
-        61..=72 => Damage::Number,
-        73..=75 => Damage::Version,
-        76..=81 => Damage::String,
-        82..=94 => Damage::Bytes,
+        0..=34 => Damage::Lists,
+        35..=55 => Damage::Tokens,
+        56..=67 => Damage::Number,
+        68..=75 => Damage::Exponent,
+        76..=78 => Damage::Version,
+        79..=84 => Damage::String,
+        85..=94 => Damage::Bytes,
         95 => Damage::UnendedString,
         96..=98 => Damage::FirstLine,
         _ => Damage::Length,
@@ -134,6 +137,7 @@ fn damaged(
         match damage {
             Damage::Tokens => piece_damage::damage(rng, &mut pieces),
             Damage::Number => piece_damage::damage_number(rng, &mut pieces),
+            Damage::Exponent => piece_damage::damage_exponent(rng, &mut pieces),
             Damage::Version => piece_damage::damage_version(rng, &mut pieces),
             Damage::String => piece_damage::damage_string(rng, &mut pieces),
             _ => {}
