@@ -223,6 +223,11 @@ fraction-below fs e h =
     let six : length fs + (6 - length fs) ≡ 6 = omega arith in
     lt-of-lt-of-le scaled (rw (← pow-add 10 (length fs) (6 - length fs), six) (omega arith))
 
+-- from the two values and what a digit after the point is worth
+pub millionths-made : (ds fs : List ℕ) (u p : ℕ) {w k : ℕ} → u ≡ decimal ds → p ≡ decimal fs → w ≡ 10 ^ (6 - k) → length fs ≡ k → u * 1000000 + p * w ≡ millionths ds fs
+unfolding millionths
+millionths-made ds fs u p e f g h = rw (e, f, g, ← h)
+
 pub millionths-below : (ds fs : List ℕ) → allDigits ds ≡ true → allDigits fs ≡ true → length ds ≤ 7 → length fs ≤ 6 → millionths ds fs < 10 ^ 13
 unfolding millionths
 millionths-below ds fs d f h k = let w = decimal-below ds 7 d h in let r = fraction-below fs f k in omega arith

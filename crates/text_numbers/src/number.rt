@@ -25,7 +25,7 @@ pub fn int(word: &[u8]) -> Parsed
     whole(word, 10, 2147483647, 2147483648)
 }
 
-// A word as a FLOAT, in millionths.
+// A word as a FLOAT, in millionths: a sign, digits, a fraction or none, an exponent or none.
 pub fn float(word: &[u8]) -> Parsed
     ensures { λ r. ⌜ numberNamed r ≡ numberOf FLOAT (now (word .entry)) ⌝ }
 {
@@ -121,25 +121,20 @@ fn fraction_at(word: &[u8], end: usize) -> Fraction
     requires { ⌜ end ≤ length (now word) ⌝ }
     ensures { λ r. ⌜ Fractional (now (word .entry)) end r ⌝ }
 {
+    let none = Fraction {
+        from: end,
+        last: end,
+    };
     if word.len() <= end {
-        return Fraction {
-            from: end,
-            last: end,
-        };
+        return none;
     }
     if word[end] != 46 {
-        return Fraction {
-            from: end,
-            last: end,
-        };
+        return none;
     }
     let from = end + 1;
     let last = run_end(word, from, Run::Digits);
     if last == from {
-        return Fraction {
-            from: end,
-            last: end,
-        };
+        return none;
     }
     Fraction { from, last }
 }
@@ -179,7 +174,7 @@ fn times_power(n: Parsed, exponent: Parsed) -> Parsed
         Parsed::Beyond => match exponent {
             Parsed::Malformed => Parsed::Malformed,
             Parsed::Beyond => Parsed::Beyond,
-            Parsed::Value(e) => Parsed::Beyond,
+            Parsed::Value(_) => Parsed::Beyond,
         },
         Parsed::Value(z) => match exponent {
             Parsed::Malformed => Parsed::Malformed,

@@ -5,10 +5,10 @@ use native.Mathlib.Omega.{arith}
 use denote.Ref.{now}
 use lib.ListN.{length}
 use Rattle.text_runs.specs.Runs.{part}
-use Rattle.text_numbers.specs.Numbers.{millionths, decimal}
+use Rattle.text_numbers.specs.Numbers.{millionths}
 use Rattle.text_numbers.specs.Internal.Answers.{numberNamed}
 use Rattle.text_runs.proofs.Parts.{part-whole}
-use Rattle.text_numbers.proofs.Numerals.{float-whole-long, float-fraction-long, float-value, decimal-below, millionths-below}
+use Rattle.text_numbers.proofs.Numerals.{float-whole-long, float-fraction-long, float-value, decimal-below, millionths-made, millionths-below}
 use Rattle.text_numbers.proofs.Signed.{signed-back}
 use borrow.Author.Needs.{needs}
 use Rattle.text_numbers.proofs.number.float_of.Statement.{statement}
@@ -23,8 +23,7 @@ fractions c = part-whole (now (c .args .word)) (c .args .from) (c .args .last) (
 
 -- what the two values are, and that together they are small
 small : (c : tie.After-power) → c .before .before .decimal .result * 1000000 + c .before .decimal2 .result * c .power .result ≡ millionths (part (now (c .before .before .before .before .before .before .args .word)) (c .before .before .before .before .before .before .args .n .start) (c .before .before .before .before .before .before .args .n .end)) (part (now (c .before .before .before .before .before .before .args .word)) (c .before .before .before .before .before .before .args .from) (c .before .before .before .before .before .before .args .last))
-unfolding millionths
-small c = let b = c .before .before .before .before .before .before in rw (c .before .before .decimal .ensures, c .before .decimal2 .ensures, c .power .ensures, fractions b)
+small c = millionths-made _ _ _ _ (c .before .before .decimal .ensures) (c .before .decimal2 .ensures) (c .power .ensures) (fractions (c .before .before .before .before .before .before))
 
 below : (c : tie.After-power) → c .before .before .decimal .result * 1000000 + c .before .decimal2 .result * c .power .result < 10 ^ 13
 below c =
@@ -46,10 +45,10 @@ unfolding numberNamed
 returns-2 c = let b = c .before .before .before in sym (float-fraction-long _ _ _ (rw (wholes b) (c .before .if1 .left)) (rw (fractions b) (c .if2 .taken)))
 
 decimal-requires : tie.Need-decimal-requires
-decimal-requires c κs = search needs
+decimal-requires c κs = let p = c .before .before .before .pre in (p .0, (omega (arith, c .before .if1 .left), p .1 .1 .0))
 
 decimal-requires-2 : tie.Need-decimal-requires-2
-decimal-requires-2 c κs = search needs
+decimal-requires-2 c κs = let p = c .before .before .before .before .pre in (p .1 .0, (omega (arith, c .before .if2 .left), p .1 .1 .1))
 
 mul-with-sign : tie.Need-mul-with-sign
 mul-with-sign c =

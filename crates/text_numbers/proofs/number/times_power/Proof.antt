@@ -21,11 +21,11 @@ unfolding numberNamed within
 bounded n most z e h = leb-true _ _ (sym (ap (λ (n : Parsed). within most (numberNamed n)) e) ∙ h)
 
 -- the number and the exponent fit their bits
-number-fits : (c : tie.After-known-told2) → SFits w64 (c .before .n .given .0 .0)
-number-fits c = record { sfits = c .known-told2 .given .0 .1 }
+number-fits : (c : tie.After-known-told) → SFits w64 (c .before .n .given .0 .0)
+number-fits c = record { sfits = c .known-told .given .0 .1 }
 
-exponent-fits : (c : tie.After-known-told3) → SFits w64 (c .before .exponent2 .given .0 .0)
-exponent-fits c = record { sfits = c .known-told3 .given .0 .1 }
+exponent-fits : (c : tie.After-known-told2) → SFits w64 (c .before .exponent .given .0 .0)
+exponent-fits c = record { sfits = c .known-told2 .given .0 .1 }
 
 enum-told : tie.Need-enum-told
 enum-told c = search needs
@@ -39,26 +39,26 @@ enum-told-3 c = search needs
 enum-told-4 : tie.Need-enum-told-4
 enum-told-4 c = search needs
 
-enum-known-exponent : tie.Need-enum-known-exponent
-enum-known-exponent c = search needs
+enum-told-5 : tie.Need-enum-told-5
+enum-told-5 c = search needs
 
 enum-known-n : tie.Need-enum-known-n
 enum-known-n c = search needs
 
-enum-told-5 : tie.Need-enum-told-5
-enum-told-5 c = search needs
-
 enum-told-6 : tie.Need-enum-told-6
 enum-told-6 c = search needs
 
-enum-known-exponent-2 : tie.Need-enum-known-exponent-2
-enum-known-exponent-2 c = search needs
+enum-told-7 : tie.Need-enum-told-7
+enum-told-7 c = search needs
+
+enum-known-exponent : tie.Need-enum-known-exponent
+enum-known-exponent c = search needs
 
 raise-requires : tie.Need-raise-requires
 raise-requires c κs =
     let k = c .before .before .before in
     let p = k .before .before .before .pre in
-    rw (toZ-ofZ (number-fits k), toZ-ofZ (exponent-fits c)) (bounded _ _ _ (k .before .n .given .1) (p .0), bounded _ _ _ (c .before .exponent2 .given .1) (p .1))
+    rw (toZ-ofZ (number-fits k), toZ-ofZ (exponent-fits c)) (bounded _ _ _ (k .before .n .given .1) (p .0), bounded _ _ _ (c .before .exponent .given .1) (p .1))
 
 returns : tie.Need-returns
 unfolding numberNamed timesPower
@@ -74,21 +74,21 @@ returns-3 c = rw (c .before .before .enum-told2 .given .1, c .enum-told4 .given 
 
 returns-4 : tie.Need-returns-4
 unfolding numberNamed timesPower
-returns-4 c = rw (c .before .before .before .enum-told2 .given .1, c .before .exponent .given .1)
+returns-4 c = rw (c .before .before .enum-told2 .given .1, c .enum-told5 .given .1)
 
 returns-5 : tie.Need-returns-5
 unfolding numberNamed timesPower
-returns-5 c = rw (c .before .before .before .n .given .1, c .enum-told5 .given .1)
+returns-5 c = rw (c .before .before .before .n .given .1, c .enum-told6 .given .1)
 
 returns-6 : tie.Need-returns-6
 unfolding numberNamed timesPower
-returns-6 c = rw (c .before .before .before .n .given .1, c .enum-told6 .given .1)
+returns-6 c = rw (c .before .before .before .n .given .1, c .enum-told7 .given .1)
 
 returns-7 : tie.Need-returns-7
 unfolding numberNamed timesPower
 returns-7 c =
     let k = c .before .before .before .before in
-    rw (k .before .n .given .1, c .before .before .exponent2 .given .1) (rw (toZ-ofZ (number-fits k), toZ-ofZ (exponent-fits (c .before))) at (c .raise .ensures))
+    rw (k .before .n .given .1, c .before .before .exponent .given .1) (rw (toZ-ofZ (number-fits k), toZ-ofZ (exponent-fits (c .before))) at (c .raise .ensures))
 
 pub times-power-spec : {M : Type 1} → statement M
 times-power-spec =
@@ -98,11 +98,11 @@ times-power-spec =
     enum-told-2
     enum-told-3
     enum-told-4
-    enum-known-exponent
-    enum-known-n
     enum-told-5
+    enum-known-n
     enum-told-6
-    enum-known-exponent-2
+    enum-told-7
+    enum-known-exponent
     raise-requires
     returns
     returns-2
