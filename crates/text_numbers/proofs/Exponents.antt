@@ -4,7 +4,7 @@ use mathlib.Core.Logic.{_↔_, _⊎_, inl, inr}
 use mathlib.Core.List.{List, [], _∷_, _++_}
 use mathlib.Core.Bool.{Bool, true, false, cond, _&&_, _||_, and-false, true≢false, false≢true}
 use Prim.Native.Nat.{ℕ, zero, suc, _+_, _-_, _*_, _/_, _%_, _^_, _≤_, _<_}
-use native.Mathlib.Nat.{zero-mul, zero-div, mul-mod-left, mul-div-cancel, div-mul-cancel, dvd-of-mod-eq-zero, pow-le-pow-right}
+use native.Mathlib.Nat.{zero-mul, zero-div, mul-mod-left, mul-div-cancel, div-mul-cancel, dvd-of-mod-eq-zero}
 use native.Mathlib.Omega.{arith}
 use borrow.Author.Tests.{leb-true, le-leb, eqb-true, eqb-false, eq-eqb, ne-eqb}
 use lib.Dec.{leb, eqb}
@@ -12,11 +12,11 @@ use lib.ListN.{length, drop}
 use lib.IntN.{ℤ, pos, negsuc, negℤ, natAbs, _*ℤ_}
 use Rattle.text_bytes.specs.Bytes.{between, isDigit}
 use Rattle.text_runs.specs.Runs.{run}
-use Rattle.text_numbers.specs.Numbers.{Number, value, beyond, wrong, Form, INT, FLOAT, decimalFrom, decimal, signed, notEmpty, allDigits, wholeOf, floatOf, numberFrom, afterDigits, unsigned, negative, unsignedPart, fixedOf, inForm, exponentOf, inRange, over, raised, timesPower, inMantissa, mantissa, withExponent, numberOf}
+use Rattle.text_numbers.specs.Numbers.{Number, value, beyond, wrong, FLOAT, decimalFrom, decimal, signed, notEmpty, allDigits, wholeOf, numberFrom, afterDigits, unsigned, negative, unsignedPart, fixedOf, inForm, exponentOf, inRange, over, raised, timesPower, mantissa, withExponent, numberOf}
 use Rattle.text_numbers.specs.Exponents.{hasExponent, minus, Power, Times, Makes}
 use Rattle.text_numbers.proofs.Numerals.{and-true, digit-range, chosen, beyond-no, wrong-no, unsigned-yes, unsigned-no}
 use Rattle.text_numbers.proofs.Reading.{tail, before-e, at-e, mantissa-ne, mantissa-eq, after-yes, after-no}
-use Rattle.text_numbers.proofs.Raised.{in-range}
+use Rattle.text_numbers.proofs.Raised.{in-range, power-some}
 
 -- ---- a word without an `e` means what it did
 
@@ -109,9 +109,6 @@ exponent-new word e = go (notEmpty (run isDigit (unsignedPart word))) refl
 
 -- ---- raising and lowering are exact
 
-power-some : (d : ℕ) → 0 < 10 ^ d
-power-some d = pow-le-pow-right {n = 10} (omega arith) {i = 0} {j = d} (omega arith)
-
 -- a magnitude with a minus sign
 natAbs-neg : (n : ℕ) → natAbs (negℤ (pos n)) ≡ n
 natAbs-neg zero = refl
@@ -151,7 +148,7 @@ lowered z v p false k h = absurd (beyond-no v h)
 pub raised-exact : (z e v : ℤ) → raised z e ≡ value v ↔ (Times z e v × (inForm FLOAT v ≡ true))
 unfolding raised Times
 raised-exact z (pos d) v = (λ h. let r = in-range (z *ℤ pos (10 ^ d)) v h in (sym (r .1), r .0), λ h. rw (← h .0) (range-back v (h .1)))
-raised-exact z (negsuc d) v = (lowered z v (10 ^ suc d) (eqb (natAbs z % 10 ^ suc d) 0) refl, λ h. rw (← h .0) (lowered-back v (10 ^ suc d) (power-some (suc d)) (h .1)))
+raised-exact z (negsuc d) v = (lowered z v (10 ^ suc d) (eqb (natAbs z % 10 ^ suc d) 0) refl, λ h. rw (← h .0) (lowered-back v (10 ^ suc d) (power-some (10 ^ suc d) (suc d) refl) (h .1)))
 
 -- ---- the values and the other words
 

@@ -12,8 +12,8 @@ use Rattle.text_runs.specs.Runs.{run, part}
 use Rattle.text_runs.proofs.Runs.{run-take, run-within}
 use Rattle.text_runs.proofs.Parts.{part-none}
 use Rattle.text_numbers.specs.Numbers.{notEmpty}
-use Rattle.text_numbers.specs.Internal.Answers.{Fractional, fractionOf, afterFraction}
-use Rattle.text_numbers.proofs.Numerals.{notEmpty-some, notEmpty-none}
+use Rattle.text_numbers.specs.Internal.Answers.{Fractional, fractionOf}
+use Rattle.text_numbers.proofs.Numerals.{notEmpty-some}
 use Rattle.text_numbers.proofs.Reading.{fraction-point, fraction-none, after-some, after-none}
 
 -- where there is none, it is the empty part at the offset

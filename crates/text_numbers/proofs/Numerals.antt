@@ -5,7 +5,7 @@ use mathlib.Core.Bool.{Bool, true, false, cond, _&&_, and-false, false≢true}
 use Prim.Native.Nat.{ℕ, zero, suc, _+_, _-_, _*_, _^_, _≤_, _<_}
 use native.Mathlib.Nat.{add-sub-cancel-left, one-mul, mul-assoc, pow-zero, pow-succ', mul-le-mul-right, mul-lt-mul-of-pos-right, pow-le-pow-right, lt-of-lt-of-le}
 use native.Mathlib.Omega.{arith}
-use borrow.Author.Tests.{leb-true, leb-false, le-leb, lt-leb, eq-eqb, ne-eqb}
+use borrow.Author.Tests.{leb-true, leb-false, le-leb, lt-leb}
 use lib.Pow.{pow-add}
 use lib.Dec.{leb, eqb}
 use lib.ListN.{length, take, drop, getD, length-drop, drop-of-length-le}
@@ -14,7 +14,6 @@ use lib.IntN.{ℤ}
 use Rattle.text_bytes.specs.Bytes.{between, isDigit}
 use Rattle.text_runs.specs.Runs.{run, part}
 use Rattle.text_runs.proofs.Runs.{run-yes, run-no, run-take, run-length, run-within}
-use Rattle.text_runs.proofs.Parts.{part-none}
 use Rattle.text_numbers.specs.Numbers.{Number, value, beyond, wrong, Form, INT, FLOAT, decimalFrom, decimal, allDigits, notEmpty, signed, intMost, wholeOf, intOf, millionths, floatOf, numberFrom, afterDigits, unsigned, negative, unsignedPart, fixedOf, numberOf, inForm}
 use Rattle.text_numbers.specs.Internal.Answers.{wholeIn}
 

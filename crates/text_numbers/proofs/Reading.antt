@@ -1,7 +1,7 @@
 -- A FLOAT read from left to right is the definition: its digits and its fraction stand before the first `e`, by induction on the bytes up to there.
 use mathlib.Core.Path.{_≡_, refl, ap, sym, _∙_}
 use mathlib.Core.List.{List, [], _∷_, cons-ne-nil}
-use mathlib.Core.Bool.{Bool, true, false, not, cond, _&&_, and-false}
+use mathlib.Core.Bool.{Bool, true, false, cond, _&&_, and-false}
 use Prim.Native.Nat.{ℕ, suc, _+_, _-_, _<_, _≤_}
 use native.Mathlib.Numerals.{add-one}
 use native.Mathlib.Omega.{arith}
@@ -12,7 +12,7 @@ use lib.Seq.{drop-cons, take-all}
 use Rattle.text_bytes.specs.Bytes.{isDigit}
 use Rattle.text_runs.specs.Runs.{run, part}
 use Rattle.text_runs.proofs.Runs.{run-yes, run-no}
-use Rattle.text_numbers.specs.Numbers.{Number, value, beyond, wrong, FLOAT, notEmpty, allDigits, floatOf, numberFrom, afterDigits, unsigned, negative, unsignedPart, fixedOf, exponentOf, timesPower, inMantissa, mantissa, withExponent, numberOf}
+use Rattle.text_numbers.specs.Numbers.{Number, wrong, FLOAT, notEmpty, allDigits, floatOf, numberFrom, afterDigits, unsigned, negative, unsignedPart, fixedOf, exponentOf, timesPower, inMantissa, mantissa, withExponent, numberOf}
 use Rattle.text_numbers.specs.Internal.Answers.{fractionOf, afterFraction, endsIn}
 use Rattle.text_numbers.proofs.Numerals.{unsigned-yes, unsigned-no, digit-range, digits-run, digits-short, notEmpty-some, notEmpty-none, run-all, lead-digits, lead-after}
 

@@ -1,6 +1,5 @@
 -- `int` is a whole number of at most ten digits.
 use mathlib.Core.Path.{sym, _∙_}
-use native.Mathlib.Omega.{arith}
 use Rattle.text_numbers.proofs.Numerals.{int-whole}
 use borrow.Author.Needs.{needs}
 use Rattle.text_numbers.proofs.number.int.Statement.{statement}
