@@ -10,7 +10,7 @@ use lib.ListN.{length, set}
 use mir.Syntax.{w64}
 use mir.Val.{SFits, toZ, ofZ}
 use Rattle.text_bytes.specs.Bytes.{bytes, inWord}
-use Rattle.text_numbers.specs.Numbers.{INT, FLOAT}
+use Rattle.text_numerals.specs.Numbers.{INT, FLOAT}
 use Rattle.text_tokens.specs.Tokens.{lexAt}
 use Rattle.parse_cursor.specs.declared.cursor.Cursor.{Cursor}
 use Rattle.parse_spec.specs.Readers.{Got, Reader, _>>=_, _>>_, pure, closed, close-bracket, number, numbers, many, string, absent}

@@ -9,7 +9,7 @@ use mir.Facts.{toZ-ofZ}
 use Rattle.signed.proofs.Signed.{bits-pos}
 use lib.IntN.{ℤ, pos, negsuc}
 use lib.ListN.{length}
-use Rattle.text_numbers.specs.Numbers.{INT}
+use Rattle.text_numerals.specs.Numbers.{INT}
 use Rattle.text_bytes.specs.Bytes.{bytes, inWord}
 use Rattle.text_tokens.specs.Tokens.{Lexeme}
 use Rattle.parse_cursor.specs.declared.cursor.Cursor.{Cursor}

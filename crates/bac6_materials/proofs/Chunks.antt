@@ -8,7 +8,7 @@ use Prim.Native.String.{String}
 use native.Mathlib.Omega.{arith}
 use lib.IntN.{ℤ, pos}
 use lib.ListN.{length, set, replicate}
-use Rattle.text_numbers.specs.Numbers.{INT, FLOAT}
+use Rattle.text_numerals.specs.Numbers.{INT, FLOAT}
 use Rattle.text_bytes.specs.Bytes.{bytes, inWord}
 use Rattle.text_runs.specs.Runs.{same}
 use Rattle.text_tokens.specs.Tokens.{Lexeme}

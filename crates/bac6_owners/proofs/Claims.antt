@@ -12,7 +12,7 @@ use lib.Dec.{ltb, eqb}
 use lib.ListN.{length, take, drop, getD, set, replicate, length-set, length-take, length-append, length-replicate, getD-replicate, List·getD-append, take-append-drop}
 use lib.Seq.{getD-set-same, getD-set-other, drop-set-lt, getD-take, ext-getD, drop-at}
 use lib.IntN.{ℤ, pos, negsuc, natAbs}
-use Rattle.text_numbers.proofs.Numerals.{and-true}
+use Rattle.text_numerals.proofs.Numerals.{and-true}
 use Rattle.refusal.specs.Faults.{Fault, clear, fault}
 use Rattle.bac6_text.specs.Figure.{Bone}
 use Rattle.bac6_text.specs.Rules.{entriesFine, verticesFault, ownerFrom, ownerOf}

@@ -8,7 +8,7 @@ use native.Mathlib.Omega.{arith}
 use lib.IntN.{ℤ}
 use lib.ListN.{length, take, drop}
 use Rattle.text_bytes.specs.Bytes.{bytes}
-use Rattle.text_numbers.specs.Numbers.{Form}
+use Rattle.text_numerals.specs.Numbers.{Form}
 use Rattle.text_tokens.specs.Tokens.{Lexeme}
 use Rattle.parse_cursor.specs.declared.cursor.Cursor.{Cursor}
 use Rattle.parse_spec.specs.Readers.{Got, got, refused, Reader, after, _>>=_, _>>_, pure, optional, starts, many, row}

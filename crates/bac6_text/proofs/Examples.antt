@@ -6,7 +6,7 @@ use lib.IntN.{ℤ, pos, negsuc}
 use lib.ListN.{replicate}
 use Rattle.text_bytes.specs.Bytes.{bytes, isBlank, between, isLetter, classOf, inLine, inString, inWord, isDigit, isContent}
 use Rattle.text_runs.specs.Runs.{run, part, same}
-use Rattle.text_numbers.specs.Numbers.{refusalOf, decimalFrom, decimal, signed, notEmpty, allDigits, intMost, wholeOf, intOf, millionths, floatOf, numberFrom, afterDigits, unsigned, negative, unsignedPart, fixedOf, inMantissa, mantissa, withExponent, numberOf, inForm}
+use Rattle.text_numerals.specs.Numbers.{refusalOf, decimalFrom, decimal, signed, notEmpty, allDigits, intMost, wholeOf, intOf, millionths, floatOf, numberFrom, afterDigits, unsigned, negative, unsignedPart, fixedOf, inMantissa, mantissa, withExponent, numberOf, inForm}
 use Rattle.text_tokens.specs.Tokens.{lexeme, tokens, lexAt, lex, first, bytesOf, widthOf, isKeyword}
 use Rattle.text_check.specs.Faults.{faultIn, markOf, blankOrEnd, begins, marked, textFault}
 use Rattle.parse_spec.specs.Readers.{after, _>>=_, _>>_, pure, stop, tokenOf, rest, take-if, open-bracket, close-bracket, wordOf, keyword, text-end, openedOf, opened, closed, numberIn, numberAt, number, numbers, versionAt, version, absent, nameAt, string, oneFrom, oneOf, starts, optional, trailing, manyIn, many, many⁺, cells, rowOf, row, headOf, head}

@@ -8,7 +8,7 @@ use Prim.Native.String.{String}
 use lib.IntN.{ℤ, pos}
 use lib.ListN.{length, getD, length-map}
 use Rattle.text_bytes.specs.Internal.Every.{Every}
-use Rattle.text_numbers.specs.Numbers.{Form, INT, FLOAT}
+use Rattle.text_numerals.specs.Numbers.{Form, INT, FLOAT}
 use Rattle.text_tokens.specs.Tokens.{Lexeme}
 use Rattle.text_bytes.proofs.Every.{every-as, every-append}
 use Rattle.parse_spec.specs.Readers.{Name, absent, _>>=_, pure, closed, number, numbers, optional, many, row}

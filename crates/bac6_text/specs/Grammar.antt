@@ -6,7 +6,7 @@ use Prim.Native.Nat.{ℕ, zero, suc}
 use Prim.Native.String.{String}
 use lib.IntN.{ℤ, pos}
 use lib.ListN.{getD}
-use Rattle.text_numbers.specs.Numbers.{INT, FLOAT}
+use Rattle.text_numerals.specs.Numbers.{INT, FLOAT}
 use Rattle.parse_spec.specs.Readers.{Reader, Name, absent, _>>=_, _>>_, pure, open-bracket, close-bracket, opened, closed, number, numbers, string, oneOf, optional, trailing, many, many⁺, row, head, text-end}
 unfoldable pub use Rattle.parse_spec.specs.Readers.{word, truth}
 use Rattle.parse_spec.specs.Fields.{Kind, kind, fields}

@@ -9,7 +9,7 @@ use native.Mathlib.Omega.{arith}
 use borrow.Author.Tests.{lt-ltb, le-leb}
 use lib.IntN.{ℤ, negsuc, natAbs}
 use lib.ListN.{length, length-append}
-use Rattle.text_numbers.specs.Numbers.{FLOAT}
+use Rattle.text_numerals.specs.Numbers.{FLOAT}
 use Rattle.refusal.specs.Faults.{clear, isClear}
 use Rattle.parse_spec.proofs.Given.{Every}
 use Rattle.bac6_text.specs.Figure.{Face, Figure}

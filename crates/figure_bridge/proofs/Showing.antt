@@ -8,7 +8,7 @@ use borrow.Author.Tests.{lt-ltb}
 use lib.IntN.{ℤ, pos}
 use lib.ListN.{length, getD}
 use Rattle.refusal.specs.Faults.{clear, isClear}
-use Rattle.text_numbers.proofs.Numerals.{and-true}
+use Rattle.text_numerals.proofs.Numerals.{and-true}
 use Rattle.parse_spec.proofs.Given.{Every}
 use Rattle.bac6_text.specs.Figure.{Bone, Face, Figure}
 use Rattle.bac6_text.specs.Rules.{facesOf, ownerOf, figureFault}

@@ -8,8 +8,8 @@ use native.Mathlib.Omega.{arith}
 use borrow.Author.Tests.{ltb-true, lt-ltb}
 use lib.IntN.{ℤ, pos, negsuc, natAbs}
 use lib.ListN.{length, getD}
-use Rattle.text_numbers.specs.Numbers.{FLOAT}
-use Rattle.text_numbers.proofs.Numerals.{and-true}
+use Rattle.text_numerals.specs.Numbers.{FLOAT}
+use Rattle.text_numerals.proofs.Numerals.{and-true}
 use Rattle.bac6_text.specs.Figure.{Bone}
 use Rattle.bac6_text.specs.Rules.{ownerFrom, ownerOf}
 use Rattle.refusal.specs.FirstBad.{all, firstBad}

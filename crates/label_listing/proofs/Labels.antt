@@ -11,7 +11,7 @@ use lib.IntN.{ℤ, pos, negsuc, natAbs}
 use lib.ListN.{length}
 use Rattle.text_runs.specs.Runs.{part}
 use Rattle.text_runs.proofs.Parts.{part-length}
-use Rattle.text_numbers.proofs.Numerals.{and-true}
+use Rattle.text_numerals.proofs.Numerals.{and-true}
 use Rattle.report_text.specs.Output.{output}
 use Rattle.report_lists.specs.Lists.{appendedEach, textOf}
 use Rattle.table_counts.specs.declared.counts.FigureCounts.{FigureCounts}

@@ -9,7 +9,7 @@ use borrow.Author.Tests.{leb-true, le-leb, lt-ltb}
 use lib.IntN.{ℤ, pos, negsuc, natAbs}
 use lib.ListN.{length, getD}
 use Rattle.refusal.specs.Faults.{clear, fault, isClear}
-use Rattle.text_numbers.specs.Numbers.{FLOAT, inForm}
+use Rattle.text_numerals.specs.Numbers.{FLOAT, inForm}
 use Rattle.parse_spec.proofs.Given.{Every}
 use Rattle.refusal.proofs.Rules.{or-first, or-second}
 use Rattle.table_references.specs.References.{isRow}

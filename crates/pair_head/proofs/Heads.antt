@@ -12,14 +12,14 @@ use lib.ListN.{length, take, drop, getD, length-take}
 use lib.Seq.{take-all, length-take-le}
 use Rattle.text_bytes.specs.Bytes.{isDigit}
 use Rattle.text_runs.specs.Runs.{run, part}
-use Rattle.text_numbers.specs.Numbers.{INT, value, beyond, wrong, numberOf, intOf, intMost, signed, allDigits, decimal, negative}
+use Rattle.text_numerals.specs.Numbers.{INT, value, beyond, wrong, numberOf, intOf, intMost, signed, allDigits, decimal, negative}
 use Rattle.text_numbers.specs.Internal.Answers.{numberNamed}
 use Rattle.text_runs.specs.Internal.Answers.{testNamed}
 use Rattle.text_runs.specs.declared.run.Run.the-variants.{Digits}
 use Rattle.text_numbers.specs.declared.number.Parsed.{Parsed}
 use Rattle.text_numbers.specs.declared.number.Parsed.the-variants.{Value, Beyond, Malformed}
 use Rattle.text_runs.proofs.Runs.{run-length, run-take}
-use Rattle.text_numbers.proofs.Numerals.{and-true, negative-first, digits-at, digit-range, digits-short, digits-run, unsigned-no, lead-int, int-value, decimal-below}
+use Rattle.text_numerals.proofs.Numerals.{and-true, negative-first, digits-at, digit-range, digits-short, digits-run, unsigned-no, lead-int, int-value, decimal-below}
 use Rattle.pair_head.specs.Division.{isHead, headOf}
 use Rattle.pair_head.specs.Answers.{lengthNamed}
 use Rattle.pair_head.specs.declared.division.Head.{Head}

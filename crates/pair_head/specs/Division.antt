@@ -5,7 +5,7 @@ use mathlib.Core.Option.{Option, none, some}
 use Prim.Native.Nat.{ℕ, _+_, _-_}
 use lib.Dec.{leb, eqb}
 use lib.ListN.{length, take, getD}
-use Rattle.text_numbers.specs.Numbers.{allDigits, decimal}
+use Rattle.text_numerals.specs.Numbers.{allDigits, decimal}
 
 unfoldable pub isHead : List ℕ → Bool
 isHead bs = eqb (length bs) 9 && allDigits (take 8 bs) && eqb (getD bs 8 0) 10

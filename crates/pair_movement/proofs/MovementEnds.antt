@@ -7,7 +7,7 @@ use Prim.Native.Nat.{ℕ, _<_}
 use lib.IntN.{ℤ}
 use lib.ListN.{length}
 use Rattle.refusal.specs.Faults.{clear, fault}
-use Rattle.text_numbers.proofs.Numerals.{and-true}
+use Rattle.text_numerals.proofs.Numerals.{and-true}
 use Rattle.text_check.specs.Internal.Strings.{StringAt}
 use Rattle.parse_spec.specs.Fields.{isSome}
 use Rattle.refusal.specs.Outcomes.{rejected, accepted}

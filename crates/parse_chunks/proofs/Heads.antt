@@ -10,7 +10,7 @@ use lib.ListN.{length, getD}
 use Rattle.text_tokens.specs.Tokens.{Token, Lexeme, lexeme, lexAt}
 use Rattle.text_tokens.specs.declared.token.Span.{Span}
 use Rattle.text_tokens.specs.Internal.Answers.{Next, lexemeOf}
-use Rattle.text_numbers.proofs.Numerals.{and-true}
+use Rattle.text_numerals.proofs.Numerals.{and-true}
 use Rattle.parse_cursor.specs.declared.cursor.Cursor.{Cursor}
 use Rattle.parse_spec.specs.Readers.{Got, got, Reader, after, _>>_, pure, stop, tokenOf, rest, take-if, open-bracket}
 use Rattle.text_kinds.specs.Kinds.{isOpening, isClosing}

@@ -6,7 +6,7 @@ use Prim.Native.Nat.{ℕ}
 use native.Mathlib.Omega.{arith}
 use lib.IntN.{ℤ}
 use Rattle.text_tokens.specs.Tokens.{lexeme, lexAt}
-use Rattle.text_numbers.specs.Numbers.{value, beyond, wrong, Form, refusalOf}
+use Rattle.text_numerals.specs.Numbers.{value, beyond, wrong, Form, refusalOf}
 use Rattle.text_tokens.specs.declared.token.Kind.{Kind}
 use Rattle.text_tokens.specs.declared.token.Kind.the-variants.{Opening, Closing, Quoted, Plain, Ending}
 use Rattle.text_tokens.specs.declared.token.Span.{Span}

@@ -9,7 +9,7 @@ use lib.Dec.{eqb}
 use lib.IntN.{ℤ}
 use lib.ListN.{length}
 use Rattle.text_tokens.specs.Tokens.{Lexeme, lexAt}
-use Rattle.text_numbers.specs.Numbers.{Form}
+use Rattle.text_numerals.specs.Numbers.{Form}
 use Rattle.parse_cursor.specs.declared.cursor.Cursor.{Cursor}
 use Rattle.parse_spec.specs.Readers.{Got, got, refused, Reader, after, _>>=_, pure, tokenOf, rest, manyIn, many, rowOf}
 use Rattle.text_kinds.specs.Kinds.{isClosing}

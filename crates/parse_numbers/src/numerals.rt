@@ -2,7 +2,7 @@
 ghost use mathlib.Core.Path.{_≡_};
 ghost use Rattle.text_tokens.specs.Internal.Answers.{lexemeOf};
 ghost use Rattle.text_numbers.specs.Internal.Answers.{numberNamed};
-ghost use Rattle.text_numbers.specs.Numbers.{numberOf};
+ghost use Rattle.text_numerals.specs.Numbers.{numberOf};
 ghost use Rattle.parse_spec.specs.Readers.{number as numberRead};
 ghost use Rattle.parse_cursor.specs.Internal.Cursors.{reads, from};
 ghost use Rattle.parse_numbers.specs.Internal.Answers.{formNamed};

@@ -7,7 +7,7 @@ use native.Mathlib.Numerals.{add-one}
 use lib.IntN.{ℤ}
 use lib.ListN.{length, set}
 use Rattle.text_tokens.specs.Tokens.{Lexeme}
-use Rattle.text_numbers.specs.Numbers.{Form, INT}
+use Rattle.text_numerals.specs.Numbers.{Form, INT}
 use Rattle.parse_cursor.specs.declared.cursor.Cursor.{Cursor}
 use Rattle.parse_spec.specs.Readers.{Got, got, after, _>>=_, _>>_, pure, number, numbers, cells, open-bracket, wordOf, rowOf, openedOf, closed}
 use Rattle.parse_cursor.specs.Internal.Cursors.{from, reads}

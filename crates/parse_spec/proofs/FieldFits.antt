@@ -8,7 +8,7 @@ use native.Mathlib.Omega.{arith}
 use lib.ListN.{length, getD}
 use Rattle.text_bytes.specs.Bytes.{bytes}
 use Rattle.text_tokens.specs.Tokens.{Lexeme, isKeyword}
-use Rattle.text_numbers.proofs.Numerals.{and-true}
+use Rattle.text_numerals.proofs.Numerals.{and-true}
 use Rattle.parse_spec.specs.Readers.{got, Reader, stop, tokenOf, rest}
 use Rattle.text_kinds.specs.Kinds.{isClosing}
 use Rattle.parse_spec.specs.Fields.{Kind, isSome, unread, complete, kindFrom, fieldsIn, fields}

@@ -10,7 +10,7 @@ use lib.ListN.{length}
 use Rattle.text_bytes.specs.Bytes.{bytes}
 use Rattle.text_runs.specs.Runs.{same}
 use Rattle.text_tokens.specs.Tokens.{Token, opening, closing, ending, quoted, plain, Lexeme, isKeyword}
-use Rattle.text_numbers.specs.Numbers.{Number, value, beyond, wrong, Form, INT, refusalOf}
+use Rattle.text_numerals.specs.Numbers.{Number, value, beyond, wrong, Form, INT, refusalOf}
 use Rattle.parse_spec.specs.Readers.{Got, got, refused, Reader, after, _>>=_, _>>_, pure, stop, tokenOf, rest, take-if, open-bracket, close-bracket, wordOf, keyword, text-end, openedOf, opened, closed, numberIn, numberAt, number, numbers, versionAt, version, Name, nameAt, string, oneFrom, oneOf, starts, optional, trailing, manyIn, many, many⁺, cells, rowOf, row, headOf, head}
 use Rattle.text_kinds.specs.Kinds.{isOpening, isClosing, isEnd}
 use Rattle.parse_spec.specs.Internal.Tokens.{tokenNumber}

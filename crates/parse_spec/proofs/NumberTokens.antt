@@ -2,7 +2,7 @@
 use mathlib.Core.Path.{_≡_, refl}
 use mathlib.Core.List.{List}
 use Rattle.text_tokens.specs.Tokens.{Token, opening, closing, ending, quoted, plain, Lexeme}
-use Rattle.text_numbers.specs.Numbers.{Form, refusalOf}
+use Rattle.text_numerals.specs.Numbers.{Form, refusalOf}
 use Rattle.parse_spec.specs.Readers.{numberAt, numberIn}
 use Rattle.parse_spec.specs.Internal.Tokens.{tokenNumber}
 

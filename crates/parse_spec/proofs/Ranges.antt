@@ -10,8 +10,8 @@ use lib.Seq.{drop-at}
 use lib.IntN.{ℤ}
 use Rattle.text_bytes.specs.Bytes.{bytes}
 use Rattle.text_tokens.specs.Tokens.{Token, opening, closing, ending, quoted, plain, Lexeme, isKeyword}
-use Rattle.text_numbers.specs.Numbers.{Number, value, beyond, wrong, Form, INT, numberOf, refusalOf, inForm}
-use Rattle.text_numbers.proofs.Raised.{number-range}
+use Rattle.text_numerals.specs.Numbers.{Number, value, beyond, wrong, Form, INT, numberOf, refusalOf, inForm}
+use Rattle.text_numerals.proofs.Raised.{number-range}
 use Rattle.parse_spec.specs.Readers.{Reader, tokenOf, numberIn, numberAt, number, numbers, cells, rowOf, row, oneFrom, oneOf, many⁺}
 use Rattle.parse_spec.proofs.Given.{GivesOn, LeavesOn, Every, pure-gives, stop-gives, next-gives, either-gives, bind-gives, then-gives, gives-as, closed-gives, opened-of-leaves, many-gives}
 

@@ -8,7 +8,7 @@ use lib.IntN.{ℤ, pos}
 use Rattle.text_bytes.specs.Bytes.{bytes}
 use Rattle.text_runs.specs.Runs.{same}
 use Rattle.text_tokens.specs.Tokens.{Token, opening, closing, ending, quoted, plain, Lexeme, isKeyword}
-use Rattle.text_numbers.specs.Numbers.{Number, value, beyond, wrong, Form, INT, numberOf, refusalOf}
+use Rattle.text_numerals.specs.Numbers.{Number, value, beyond, wrong, Form, INT, numberOf, refusalOf}
 use Rattle.text_kinds.specs.Kinds.{isClosing, isEnd, isOpening}
 
 -- what was read and the tokens left, or a refusal's number and offset

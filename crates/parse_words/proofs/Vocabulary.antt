@@ -17,7 +17,7 @@ use Rattle.text_tokens.specs.Tokens.{Token, opening, closing, ending, quoted, p
 use Rattle.text_tokens.specs.declared.token.Span.{Span}
 use Rattle.text_tokens.specs.Internal.Answers.{Next, lexemeOf}
 use Rattle.text_runs.proofs.Runs.{run-yes, run-no, run-take}
-use Rattle.text_numbers.proofs.Numerals.{and-true}
+use Rattle.text_numerals.proofs.Numerals.{and-true}
 use Rattle.parse_cursor.specs.declared.cursor.Cursor.{Cursor}
 use Rattle.parse_spec.specs.Readers.{got, after, _>>=_, pure, stop, tokenOf, rest, oneFrom, oneOf}
 use Rattle.text_kinds.specs.Internal.Kinds.{isPlain}

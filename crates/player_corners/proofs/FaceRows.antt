@@ -7,7 +7,7 @@ use native.Mathlib.Omega.{arith}
 use lib.IntN.{ℤ, pos, natAbs}
 use lib.ListN.{length, getD, take, drop, length-take, length-drop}
 use lib.Seq.{getD-take, getD-drop}
-use Rattle.text_numbers.proofs.Numerals.{and-true}
+use Rattle.text_numerals.proofs.Numerals.{and-true}
 use Rattle.table_references.specs.References.{isRow, isNone}
 use Rattle.table_references.specs.Index.{isIndex}
 use Rattle.table_counts.specs.declared.counts.FigureCounts.{FigureCounts}

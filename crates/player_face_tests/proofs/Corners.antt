@@ -12,7 +12,7 @@ use lib.Seq.{drop-cons}
 use mir.Syntax.{w64}
 use mir.Val.{SFits, toZ, ofZ}
 use mir.Facts.{toZ-ofZ}
-use Rattle.text_numbers.proofs.Numerals.{and-true}
+use Rattle.text_numerals.proofs.Numerals.{and-true}
 use Rattle.table_references.specs.References.{isRow, isNone, sameNumber}
 use Rattle.player_spec.specs.Lookups.{sizeFine, cornersFine, allNone}
 

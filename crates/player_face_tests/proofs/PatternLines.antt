@@ -12,7 +12,7 @@ use lib.Signed.{ltZ, leZ}
 use mir.Syntax.{w64}
 use mir.Val.{SFits, ofZ}
 use Rattle.table_references.specs.References.{isRow}
-use Rattle.text_numbers.proofs.Numerals.{and-true}
+use Rattle.text_numerals.proofs.Numerals.{and-true}
 use Rattle.signed.proofs.Signed.{from-zero}
 use Rattle.signed.proofs.Tests.{most-above}
 use Rattle.tra4_text.specs.Movement.{frameOf, groupOf}

@@ -13,7 +13,7 @@ use lib.Signed.{ltZ, leZ}
 use lib.ListN.{length, getD, take, drop, drop-of-length-le}
 use lib.Seq.{split-at, drop-cons}
 use Rattle.refusal.specs.Faults.{clear, fault}
-use Rattle.text_numbers.proofs.Numerals.{and-true}
+use Rattle.text_numerals.proofs.Numerals.{and-true}
 use Rattle.tra4_text.specs.Movement.{Key, Channel, frameOf}
 use Rattle.tra4_text.specs.Rules.{framesFault, keyFine, isFrame, isZero, rises}
 use Rattle.player_spec.specs.Fractions.{factor, lowest, whole}

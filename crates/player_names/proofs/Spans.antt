@@ -13,7 +13,7 @@ use lib.Seq.{getD-take, getD-drop}
 use lib.Signed.{ltZ}
 use mir.Syntax.{w64}
 use mir.Val.{Fits, SFits}
-use Rattle.text_numbers.proofs.Numerals.{and-true}
+use Rattle.text_numerals.proofs.Numerals.{and-true}
 use Rattle.table_counts.specs.declared.counts.MovementCounts.{MovementCounts}
 use Rattle.table_counts.specs.declared.counts.FigureCounts.{FigureCounts}
 use Rattle.table_figure.specs.Sections.{bonesBegin, holdsFigure}

@@ -21,7 +21,7 @@ use Rattle.player_spec.specs.Lookups.{onlyIf, isFloat, allFloat, isAsked
 use Rattle.table_counts.specs.declared.counts.MovementCounts.{MovementCounts}
 use Rattle.table_counts.specs.declared.counts.FigureCounts.{FigureCounts}
 use Rattle.table_counts.specs.Counts.{figureLists, figureMosts, movementLists, movementMosts}
-use Rattle.text_numbers.specs.Numbers.{inForm}
+use Rattle.text_numerals.specs.Numbers.{inForm}
 
 abbrev fraction : ℤ → ℕ → Fraction
 fraction n d = record { numerator = n; denominator = d }

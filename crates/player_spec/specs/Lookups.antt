@@ -20,7 +20,7 @@ use Rattle.table_movement.specs.Sections.{keysBegin, patternsBegin, holdsMoveme
 use Rattle.table_figure.specs.Sections.{pointsBegin, ownersBegin, uvsBegin, facesBegin, holdsFigure}
 use Rattle.table_columns.specs.Parts.{numberAt, numbersAt, rowsAt}
 use Rattle.table_columns.specs.Columns.{faceMaterial, faceSize, faceVertices, faceUvs, faceGroup, faceVertex, faceUv, valueOf, patternFlag}
-use Rattle.text_numbers.specs.Numbers.{FLOAT, inForm}
+use Rattle.text_numerals.specs.Numbers.{FLOAT, inForm}
 
 unfoldable pub onlyIf : {A : Type 0} → Bool → A → Option A
 onlyIf true a = some a

@@ -13,7 +13,7 @@ use mir.Facts.{toZ-ofZ}
 use Rattle.tra4_text.specs.Rules.{totalFault, isZero}
 use Rattle.refusal.specs.Faults.{isClear}
 use Rattle.player_spec.specs.Lookups.{isFloat, isAsked, isRange}
-use Rattle.text_numbers.specs.Numbers.{inForm}
+use Rattle.text_numerals.specs.Numbers.{inForm}
 
 -- ---- a number of at least one
 

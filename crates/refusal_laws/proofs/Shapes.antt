@@ -5,7 +5,7 @@ use Prim.Native.String.{String}
 use lib.IntN.{ℤ}
 use lib.ListN.{length}
 use Rattle.text_bytes.specs.Bytes.{bytes}
-use Rattle.text_numbers.specs.Numbers.{Form, INT, FLOAT}
+use Rattle.text_numerals.specs.Numbers.{Form, INT, FLOAT}
 use Rattle.parse_spec.specs.Readers.{Reader, _>>=_, pure, closed, number, numbers, optional, many, row, starts}
 use Rattle.parse_spec.specs.Fields.{kind}
 use Rattle.bac6_text.specs.Grammar as bac6

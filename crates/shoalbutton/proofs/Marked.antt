@@ -3,7 +3,7 @@ use mathlib.Core.Path.{_≡_, refl}
 use mathlib.Core.List.{map}
 use Rattle.text_bytes.specs.Bytes.{bytes, between, isDigit}
 use Rattle.text_runs.specs.Runs.{run}
-use Rattle.text_numbers.specs.Numbers.{decimalFrom, decimal, signed, notEmpty, allDigits, intMost, wholeOf, intOf, millionths, floatOf, numberFrom, afterDigits, unsigned, negative, unsignedPart, fixedOf, inMantissa, mantissa, withExponent, numberOf, refusalOf}
+use Rattle.text_numerals.specs.Numbers.{decimalFrom, decimal, signed, notEmpty, allDigits, intMost, wholeOf, intOf, millionths, floatOf, numberFrom, afterDigits, unsigned, negative, unsignedPart, fixedOf, inMantissa, mantissa, withExponent, numberOf, refusalOf}
 use Rattle.bac6_text.specs.Rules.{isSet, joined, thenIf, boneList, wholeList, placedFault, parentsIn, bonesFault}
 use Rattle.tra4_text.specs.Movement.{frameOf}
 use Rattle.player_spec.specs.Fractions.{factorIn, factor, signedAs, lowest, whole}

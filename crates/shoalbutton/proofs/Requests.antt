@@ -2,8 +2,8 @@
 use mathlib.Core.Path.{_≡_, refl}
 use mathlib.Core.List.{List}
 use Prim.Native.Nat.{ℕ}
-use Rattle.text_numbers.specs.Numbers.{INT, fixedOf, numberOf}
-use Rattle.text_numbers.proofs.Exponents.{exponent-taken, exponent-power, exponent-wrong, exponent-new, exponent-free}
+use Rattle.text_numerals.specs.Numbers.{INT, fixedOf, numberOf}
+use Rattle.text_numerals.proofs.Exponents.{exponent-taken, exponent-power, exponent-wrong, exponent-new, exponent-free}
 use Rattle.shoalbutton.specs.Requests.{Exponents}
 
 int-same : (word : List ℕ) → numberOf INT word ≡ fixedOf INT word

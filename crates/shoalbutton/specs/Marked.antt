@@ -4,7 +4,7 @@ use Prim.Native.Nat.{ℕ}
 use Prim.Native.String.{String}
 use lib.IntN.{ℤ, pos, negsuc}
 use Rattle.text_bytes.specs.Bytes.{bytes}
-use Rattle.text_numbers.specs.Numbers.{Number, value, beyond, wrong, Form, INT, FLOAT, numberOf, refusalOf}
+use Rattle.text_numerals.specs.Numbers.{Number, value, beyond, wrong, Form, INT, FLOAT, numberOf, refusalOf}
 use Rattle.refusal.specs.Faults.{Fault, clear, fault}
 use Rattle.bac6_text.specs.Rules.{Flags, bonesFault, wholeList, parentsIn}
 use Rattle.tra4_text.specs.Movement.{Channel}

@@ -5,8 +5,8 @@ use mathlib.Core.List.{List, _∷_, _++_}
 use mathlib.Core.Bool.{true, false}
 use Prim.Native.Nat.{ℕ}
 use lib.IntN.{ℤ}
-use Rattle.text_numbers.specs.Numbers.{value, wrong, INT, FLOAT, fixedOf, exponentOf, numberOf}
-use Rattle.text_numbers.specs.Exponents.{hasExponent, Power, Makes}
+use Rattle.text_numerals.specs.Numbers.{value, wrong, INT, FLOAT, fixedOf, exponentOf, numberOf}
+use Rattle.text_numerals.specs.Exponents.{hasExponent, Power, Makes}
 
 -- ---- (vii): "A FLOAT may now end in `e`, an optional `-` and one digit 0 to 6. It is accepted if the value is a whole number of millionths, at most 9,999,999,999,999 either way."
 

@@ -17,7 +17,7 @@ use Rattle.text_check.specs.Internal.Strings.{StringAt, Stands}
 use Rattle.text_check.specs.Faults.{outside, string, faultIn, Format, marked, textFault}
 use Rattle.refusal.specs.Faults.{clear}
 use Rattle.text_runs.proofs.Runs.{run-yes, run-no, run-take}
-use Rattle.text_numbers.proofs.Numerals.{and-true, between-true}
+use Rattle.text_numerals.proofs.Numerals.{and-true, between-true}
 use Rattle.text_check.proofs.Scanning.{comment-end}
 use Rattle.refusal.proofs.Faults.{fault-not-clear}
 

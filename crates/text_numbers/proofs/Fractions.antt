@@ -11,10 +11,11 @@ use Rattle.text_bytes.specs.Bytes.{isDigit}
 use Rattle.text_runs.specs.Runs.{run, part}
 use Rattle.text_runs.proofs.Runs.{run-take, run-within}
 use Rattle.text_runs.proofs.Parts.{part-none}
-use Rattle.text_numbers.specs.Numbers.{notEmpty}
-use Rattle.text_numbers.specs.Internal.Answers.{Fractional, fractionOf}
-use Rattle.text_numbers.proofs.Numerals.{notEmpty-some}
-use Rattle.text_numbers.proofs.Reading.{fraction-point, fraction-none, after-some, after-none}
+use Rattle.text_numerals.specs.Numbers.{notEmpty}
+use Rattle.text_numbers.specs.Internal.Answers.{Fractional}
+use Rattle.text_numerals.specs.Internal.Parts.{fractionOf}
+use Rattle.text_numerals.proofs.Numerals.{notEmpty-some}
+use Rattle.text_numerals.proofs.Reading.{fraction-point, fraction-none, after-some, after-none}
 
 -- where there is none, it is the empty part at the offset
 pub no-fraction : (word : List ℕ) (at : ℕ) → at ≤ length word → fractionOf (drop at word) ≡ [] → Fractional word at record { from = at; last = at }

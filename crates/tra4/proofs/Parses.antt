@@ -6,7 +6,7 @@ use Prim.Native.Nat.{ℕ, _≤_}
 use lib.IntN.{ℤ}
 use lib.ListN.{length}
 use Rattle.refusal.specs.Outcomes.{rejected, ruled}
-use Rattle.text_numbers.specs.Numbers.{INT}
+use Rattle.text_numerals.specs.Numbers.{INT}
 use Rattle.text_tokens.specs.Tokens.{Lexeme, lex, lexAt}
 use Rattle.parse_cursor.specs.declared.cursor.Cursor.{Cursor}
 use Rattle.parse_spec.specs.Readers.{Name, absent, Got, got, refused, Reader, after, _>>=_, _>>_, pure, head, opened, closed, string, number, optional, trailing, many, close-bracket, text-end}

@@ -9,7 +9,7 @@ use lib.Dec.{leb}
 use lib.IntN.{ℤ}
 use lib.ListN.{length}
 use Rattle.text_bytes.specs.Bytes.{bytes}
-use Rattle.text_numbers.specs.Numbers.{FLOAT}
+use Rattle.text_numerals.specs.Numbers.{FLOAT}
 use Rattle.text_tokens.specs.Tokens.{Lexeme}
 use Rattle.parse_cursor.specs.declared.cursor.Cursor.{Cursor}
 use Rattle.parse_spec.specs.Readers.{Got, got, Reader, after, _>>=_, _>>_, pure, opened, openedOf, absent}

@@ -7,7 +7,7 @@ use native.Mathlib.Numerals.{add-one}
 use lib.IntN.{ℤ, pos}
 use lib.ListN.{length, set}
 use Rattle.text_bytes.specs.Bytes.{bytes}
-use Rattle.text_numbers.specs.Numbers.{FLOAT}
+use Rattle.text_numerals.specs.Numbers.{FLOAT}
 use Rattle.text_tokens.specs.Tokens.{lexAt}
 use Rattle.parse_cursor.specs.declared.cursor.Cursor.{Cursor}
 use Rattle.parse_spec.specs.Readers.{_>>=_, many⁺}

@@ -7,7 +7,7 @@ use native.Mathlib.Nat.{zero-add}
 use lib.IntN.{ℤ, pos}
 use lib.ListN.{length}
 use Rattle.text_bytes.specs.Bytes.{bytes, inWord}
-use Rattle.text_numbers.specs.Numbers.{INT}
+use Rattle.text_numerals.specs.Numbers.{INT}
 use Rattle.text_tokens.specs.Tokens.{Lexeme}
 use Rattle.parse_cursor.specs.declared.cursor.Cursor.{Cursor}
 use Rattle.parse_spec.specs.Readers.{Got, got, Reader, after, _>>=_, _>>_, pure, open-bracket, close-bracket, wordOf, openedOf, opened, closed, numbers, trailing, many}

@@ -8,7 +8,7 @@ use lib.IntN.{ℤ, pos, negsuc}
 use Rattle.text_bytes.specs.Bytes.{bytes, isBlank, between, isLetter, classOf, inLine, inString, isDigit, isContent}
 use Rattle.text_runs.specs.Runs.{run, same}
 use Rattle.text_tokens.specs.Tokens.{lexeme, tokens, lex, isKeyword}
-use Rattle.text_numbers.specs.Numbers.{decimalFrom, decimal, signed, notEmpty, allDigits, intMost, wholeOf, intOf, millionths, floatOf, numberFrom, afterDigits, unsigned, negative, unsignedPart, fixedOf, inMantissa, mantissa, withExponent, numberOf, refusalOf}
+use Rattle.text_numerals.specs.Numbers.{decimalFrom, decimal, signed, notEmpty, allDigits, intMost, wholeOf, intOf, millionths, floatOf, numberFrom, afterDigits, unsigned, negative, unsignedPart, fixedOf, inMantissa, mantissa, withExponent, numberOf, refusalOf}
 use Rattle.text_check.specs.Faults.{faultIn, markOf, blankOrEnd, begins, marked, textFault}
 use Rattle.refusal.specs.Faults.{clear, fault}
 use Rattle.parse_spec.specs.Readers.{rowOf, cells, after, _>>=_, _>>_, pure, stop, tokenOf, rest, take-if, open-bracket, close-bracket, wordOf, text-end, openedOf, opened, closed, numberIn, numberAt, number, numbers, versionAt, version, absent, nameAt, string, oneFrom, oneOf, starts, optional, trailing, manyIn, many, many⁺, headOf, head}

@@ -11,7 +11,7 @@ use lib.Seq.{getD-at}
 use lib.IntN.{ℤ, pos}
 use Rattle.text_bytes.specs.Bytes.{bytes}
 use Rattle.text_bytes.specs.Internal.Every.{Every}
-use Rattle.text_numbers.specs.Numbers.{INT, FLOAT}
+use Rattle.text_numerals.specs.Numbers.{INT, FLOAT}
 use Rattle.text_tokens.specs.Tokens.{Lexeme}
 use Rattle.text_bytes.proofs.Every.{every-as}
 use Rattle.parse_spec.specs.Readers.{Name, absent, Reader, pure, starts, many⁺}

@@ -6,7 +6,7 @@ use Prim.Native.Nat.{ℕ, zero, suc}
 use Prim.Native.String.{String}
 use lib.ListN.{length}
 use Rattle.text_bytes.specs.Bytes.{bytes}
-use Rattle.text_numbers.specs.Numbers.{INT, FLOAT}
+use Rattle.text_numerals.specs.Numbers.{INT, FLOAT}
 use Rattle.parse_spec.specs.Readers.{Reader, got, absent, _>>=_, _>>_, pure, rest, close-bracket, opened, closed, number, numbers, string, starts, optional, trailing, many, many⁺, head, text-end, rowOf}
 unfoldable pub use Rattle.parse_spec.specs.Readers.{word, truth}
 use Rattle.parse_spec.specs.Fields.{Kind, kind, fields}

@@ -3,7 +3,7 @@ use mathlib.Core.List.{List}
 use mathlib.Core.Bool.{Bool}
 use Prim.Native.Nat.{ℕ}
 use lib.IntN.{ℤ}
-use Rattle.text_numbers.specs.Numbers.{INT}
+use Rattle.text_numerals.specs.Numbers.{INT}
 use Rattle.parse_spec.specs.Readers.{Reader, _>>=_, _>>_, pure, number, many}
 use Rattle.bac6_text.specs.Grammar.{bone}
 use Rattle.bac6_owners.specs.Internal.Claims.{claimed}

@@ -2,7 +2,7 @@
 use mathlib.Core.List.{List, [], _∷_}
 use Prim.Native.Nat.{ℕ}
 use lib.IntN.{ℤ}
-use Rattle.text_numbers.specs.Numbers.{INT}
+use Rattle.text_numerals.specs.Numbers.{INT}
 use Rattle.parse_spec.specs.Readers.{Reader, _>>=_, _>>_, pure, open-bracket, close-bracket, keyword, closed, number, numbers, oneOf, rowOf}
 use Rattle.table_rows.specs.Internal.Overlay.{overlayAt}
 use Rattle.bac6_text.specs.Figure.{Face}

@@ -4,7 +4,7 @@ use mathlib.Core.Bool.{Bool, true, false}
 use Prim.Native.Nat.{ℕ, _+_, _*_, min}
 use lib.IntN.{ℤ}
 use lib.ListN.{length}
-use Rattle.text_numbers.specs.Numbers.{Form}
+use Rattle.text_numerals.specs.Numbers.{Form}
 use Rattle.parse_spec.specs.Readers.{Reader, _>>=_, pure, many, rowOf}
 use Rattle.parse_spec.specs.Internal.Branches.{startOf}
 use Rattle.table_rows.specs.Flat.{flat}

@@ -3,7 +3,7 @@ use mathlib.Core.List.{List}
 use Prim.Native.Nat.{ℕ}
 use lib.IntN.{ℤ}
 use lib.ListN.{length}
-use Rattle.text_numbers.specs.Numbers.{Form}
+use Rattle.text_numerals.specs.Numbers.{Form}
 use Rattle.parse_spec.specs.Readers.{Reader, _>>=_, pure, rowOf, many, many⁺}
 use Rattle.table_rows.specs.Internal.Overlay.{overlayAt}
 use Rattle.table_rows.specs.Flat.{flat}

@@ -2,7 +2,7 @@
 use mathlib.Core.List.{List}
 use Prim.Native.Nat.{ℕ}
 use lib.IntN.{ℤ}
-use Rattle.text_numbers.specs.Numbers.{Form}
+use Rattle.text_numerals.specs.Numbers.{Form}
 use Rattle.parse_spec.specs.Readers.{Reader, _>>=_, _>>_, pure, numbers, cells, wordOf, closed, rowOf}
 use Rattle.table_rows.specs.Internal.Overlay.{overlayAt}
 

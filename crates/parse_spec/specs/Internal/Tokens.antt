@@ -1,6 +1,6 @@
 -- What a token is where a number is wanted.
 use Rattle.text_tokens.specs.Tokens.{Token, opening, closing, ending, quoted, plain}
-use Rattle.text_numbers.specs.Numbers.{Number, wrong, Form, numberOf}
+use Rattle.text_numerals.specs.Numbers.{Number, wrong, Form, numberOf}
 
 -- what a token is where a number is wanted
 unfoldable pub tokenNumber : Form → Token → Number

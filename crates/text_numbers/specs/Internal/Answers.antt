@@ -1,18 +1,16 @@
 -- What a read number and the parts of a word are in the definitions' terms.
 use mathlib.Core.Path.{_≡_}
-use mathlib.Core.List.{List, [], _∷_}
-use mathlib.Core.Bool.{Bool, true, false, cond, _&&_}
-use Prim.Native.Nat.{ℕ, suc, _+_, _≤_}
-use lib.Dec.{leb, eqb}
+use mathlib.Core.List.{List}
+use Prim.Native.Nat.{ℕ, _+_, _≤_}
 use lib.ListN.{length, drop}
-use lib.IntN.{natAbs}
 use Rattle.text_numbers.specs.declared.number.Parsed.{Parsed}
 use Rattle.text_numbers.specs.declared.number.Parsed.the-variants.{Value, Beyond, Malformed}
 use Rattle.text_numbers.specs.declared.number.Leading.{Leading}
 use Rattle.text_numbers.specs.declared.number.Fraction.{Fraction}
 use Rattle.text_bytes.specs.Bytes.{isDigit}
 use Rattle.text_runs.specs.Runs.{run, part}
-use Rattle.text_numbers.specs.Numbers.{Number, value, beyond, wrong, notEmpty, allDigits, wholeOf, negative, unsignedPart, exponentOf, timesPower}
+use Rattle.text_numerals.specs.Numbers.{Number, value, beyond, wrong, negative, unsignedPart}
+use Rattle.text_numerals.specs.Internal.Parts.{fractionOf, afterFraction}
 
 unfoldable pub numberNamed : Parsed → Number
 numberNamed (Value z) = value z
@@ -26,31 +24,8 @@ pub record Leads (word : List ℕ) (r : Leading) : Type 0 where
   pub within : r .start ≤ length word
   pub ends : r .end ≡ r .start + length (run isDigit (drop (r .start) word))
 
--- an optional minus sign and digits alone, so many at most, of a value up to `most`, and up to `least` with the sign
-unfoldable pub wholeIn : ℕ → ℕ → ℕ → List ℕ → Number
-wholeIn digits most least word = cond (notEmpty (unsignedPart word) && allDigits (unsignedPart word)) (wholeOf digits (cond (negative word) least most) (negative word) (unsignedPart word)) wrong
-
--- the digits of a fraction that bytes begin with, and what stands after it: a point without digits is none
-unfoldable pub fractionOf : List ℕ → List ℕ
-fractionOf [] = []
-fractionOf (b ∷ bs) = elim (eqb b 46) [ true ↦ run isDigit bs | false ↦ [] ]
-
-unfoldable pub afterFraction : List ℕ → List ℕ
-afterFraction bs = elim (notEmpty (fractionOf bs)) [ true ↦ drop (suc (length (fractionOf bs))) bs | false ↦ bs ]
-
 pub record Fractional (word : List ℕ) (end : ℕ) (r : Fraction) : Type 0 where
   pub order : r .from ≤ r .last
   pub within : r .last ≤ length word
   pub digits : part word (r .from) (r .last) ≡ fractionOf (drop end word)
   pub after : drop (r .last) word ≡ afterFraction (drop end word)
-
--- a number and the bytes after it: none, or an exponent
-unfoldable pub endsIn : Number → List ℕ → Number
-endsIn n [] = n
-endsIn n (b ∷ bs) = cond (eqb b 101) (timesPower n (exponentOf bs)) wrong
-
--- a value at most so far from zero; a refusal is within any bound
-unfoldable pub within : ℕ → Number → Bool
-within most (value z) = leb (natAbs z) most
-within most beyond = true
-within most wrong = true

@@ -2,7 +2,7 @@
 use mathlib.Core.List.{List}
 use Prim.Native.Nat.{ℕ}
 use lib.IntN.{ℤ}
-use Rattle.text_numbers.specs.Numbers.{INT}
+use Rattle.text_numerals.specs.Numbers.{INT}
 use Rattle.parse_spec.specs.Readers.{Reader, _>>=_, _>>_, pure, head, opened, closed, number, close-bracket, text-end}
 use Rattle.parse_spec.specs.Internal.Places.{optionalName}
 use Rattle.tra4_bones.specs.Internal.Into.{bonesInto}

@@ -4,7 +4,7 @@ use Prim.Native.Nat.{ℕ}
 use lib.IntN.{ℤ}
 use lib.ListN.{length}
 use Rattle.text_bytes.specs.Bytes.{bytes}
-use Rattle.text_numbers.specs.Numbers.{INT}
+use Rattle.text_numerals.specs.Numbers.{INT}
 use Rattle.parse_spec.specs.Readers.{Reader, _>>=_, _>>_, pure, wordOf, closed, numbers, trailing, many}
 use Rattle.table_rows.specs.Flat.{flat}
 use Rattle.table_rows.specs.Internal.Overlay.{overlayAt}

@@ -1,7 +1,7 @@
 -- `read_front` is the front of a figure: its sections one after the other.
 use mathlib.Core.Path.{refl, _∙_}
 use Rattle.text_bytes.specs.Bytes.{bytes}
-use Rattle.text_numbers.specs.Numbers.{INT, FLOAT}
+use Rattle.text_numerals.specs.Numbers.{INT, FLOAT}
 use Rattle.parse_numbers.specs.Internal.Answers.{formNamed}
 use Rattle.parse_cursor.specs.Internal.Cursors.{reads}
 use Rattle.parse_spec.specs.Readers.{head, opened}

@@ -2,7 +2,7 @@
 use mathlib.Core.Path.{refl, _∙_}
 use denote.Ref.{now}
 use Rattle.text_bytes.specs.Bytes.{bytes}
-use Rattle.text_numbers.specs.Numbers.{FLOAT}
+use Rattle.text_numerals.specs.Numbers.{FLOAT}
 use Rattle.parse_numbers.specs.Internal.Answers.{formNamed}
 use Rattle.parse_cursor.specs.Internal.Cursors.{reads}
 use Rattle.parse_cursor.proofs.Counts.{whole-text}

@@ -1,7 +1,7 @@
 -- `token_number` is the definition at each kind.
 use mathlib.Core.Path.{ap, _∙_}
 use Rattle.text_tokens.specs.Tokens.{lexeme}
-use Rattle.text_numbers.specs.Numbers.{numberOf}
+use Rattle.text_numerals.specs.Numbers.{numberOf}
 use Rattle.text_tokens.specs.Internal.Answers.{lexemeOf, tokenOf, heldBytes}
 use Rattle.text_numbers.specs.Internal.Answers.{numberNamed}
 use Rattle.parse_spec.specs.Internal.Tokens.{tokenNumber}

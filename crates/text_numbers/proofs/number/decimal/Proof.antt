@@ -6,9 +6,9 @@ use borrow.Author.Needs.{needs}
 use denote.Ref.{now}
 use lib.ListN.{length, getD}
 use Rattle.text_runs.specs.Runs.{part}
-use Rattle.text_numbers.specs.Numbers.{decimal, decimalFrom}
+use Rattle.text_numerals.specs.Numbers.{decimal, decimalFrom}
 use Rattle.text_runs.proofs.Parts.{part-none, part-length, part-at, part-prefix, part-snoc, part-whole}
-use Rattle.text_numbers.proofs.Numerals.{digit-range, digits-at, digits-take, decimal-below, decimal-snoc}
+use Rattle.text_numerals.proofs.Numerals.{digit-range, digits-at, digits-take, decimal-below, decimal-snoc}
 use Rattle.text_numbers.proofs.number.decimal.Statement.{statement}
 use Rattle.text_numbers.proofs.number.decimal.Tie as tie
 

@@ -6,11 +6,12 @@ use native.Mathlib.Omega.{arith}
 use denote.Ref.{now}
 use lib.ListN.{drop}
 use Rattle.text_runs.specs.Runs.{part}
-use Rattle.text_numbers.specs.Numbers.{FLOAT, allDigits, numberOf, exponentOf, timesPower}
-use Rattle.text_numbers.specs.Internal.Answers.{numberNamed, within, endsIn}
-use Rattle.text_numbers.proofs.Numerals.{lead-order, lead-within, lead-all}
-use Rattle.text_numbers.proofs.Reading.{lead-none, lead-float, fraction-all, ends-end, ends-other, ends-exponent, rest-after}
-use Rattle.text_numbers.proofs.Raised.{float-within, exponent-whole, exponent-within}
+use Rattle.text_numerals.specs.Numbers.{FLOAT, allDigits, numberOf, exponentOf, timesPower}
+use Rattle.text_numbers.specs.Internal.Answers.{numberNamed}
+use Rattle.text_numerals.specs.Internal.Parts.{within, endsIn}
+use Rattle.text_numerals.proofs.Numerals.{lead-order, lead-within, lead-all}
+use Rattle.text_numerals.proofs.Reading.{lead-none, lead-float, fraction-all, ends-end, ends-other, ends-exponent, rest-after}
+use Rattle.text_numerals.proofs.Raised.{float-within, exponent-whole, exponent-within}
 use borrow.Author.Needs.{needs}
 use Rattle.text_numbers.proofs.number.float.Statement.{statement}
 use Rattle.text_numbers.proofs.number.float.Tie as tie

@@ -5,10 +5,10 @@ use native.Mathlib.Omega.{arith}
 use denote.Ref.{now}
 use lib.ListN.{length}
 use Rattle.text_runs.specs.Runs.{part}
-use Rattle.text_numbers.specs.Numbers.{millionths}
+use Rattle.text_numerals.specs.Numbers.{millionths}
 use Rattle.text_numbers.specs.Internal.Answers.{numberNamed}
 use Rattle.text_runs.proofs.Parts.{part-whole}
-use Rattle.text_numbers.proofs.Numerals.{float-whole-long, float-fraction-long, float-value, decimal-below, millionths-made, millionths-below}
+use Rattle.text_numerals.proofs.Numerals.{float-whole-long, float-fraction-long, float-value, decimal-below, millionths-made, millionths-below}
 use Rattle.text_numbers.proofs.Signed.{signed-back}
 use borrow.Author.Needs.{needs}
 use Rattle.text_numbers.proofs.number.float_of.Statement.{statement}

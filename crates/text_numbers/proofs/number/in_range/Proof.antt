@@ -2,7 +2,7 @@
 use mathlib.Core.Path.{sym}
 use native.Mathlib.Omega.{arith}
 use Rattle.text_numbers.specs.Internal.Answers.{numberNamed}
-use Rattle.text_numbers.proofs.Raised.{range-near, range-far}
+use Rattle.text_numerals.proofs.Raised.{range-near, range-far}
 use Rattle.text_numbers.proofs.Signed.{signed-back}
 use Rattle.text_numbers.proofs.number.in_range.Statement.{statement}
 use Rattle.text_numbers.proofs.number.in_range.Tie as tie

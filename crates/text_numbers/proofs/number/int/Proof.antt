@@ -1,6 +1,6 @@
 -- `int` is a whole number of at most ten digits.
 use mathlib.Core.Path.{sym, _∙_}
-use Rattle.text_numbers.proofs.Numerals.{int-whole}
+use Rattle.text_numerals.proofs.Numerals.{int-whole}
 use borrow.Author.Needs.{needs}
 use Rattle.text_numbers.proofs.number.int.Statement.{statement}
 use Rattle.text_numbers.proofs.number.int.Tie as tie

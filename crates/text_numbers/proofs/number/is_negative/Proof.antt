@@ -1,6 +1,6 @@
 -- `is_negative` is the definition, by whether there is a first byte.
 use mathlib.Core.Path.{sym}
-use Rattle.text_numbers.proofs.Numerals.{negative-none, negative-first}
+use Rattle.text_numerals.proofs.Numerals.{negative-none, negative-first}
 use borrow.Author.Needs.{needs}
 use Rattle.text_numbers.proofs.number.is_negative.Statement.{statement}
 use Rattle.text_numbers.proofs.number.is_negative.Tie as tie

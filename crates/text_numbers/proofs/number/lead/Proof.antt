@@ -2,7 +2,7 @@
 use mathlib.Core.Path.{sym, _∙_}
 use native.Mathlib.Omega.{arith}
 use Rattle.text_runs.specs.Internal.Answers.{testNamed}
-use Rattle.text_numbers.proofs.Numerals.{unsigned-yes, unsigned-no, negative-some}
+use Rattle.text_numerals.proofs.Numerals.{unsigned-yes, unsigned-no, negative-some}
 use borrow.Author.Needs.{needs}
 use Rattle.text_numbers.proofs.number.lead.Statement.{statement}
 use Rattle.text_numbers.proofs.number.lead.Tie as tie

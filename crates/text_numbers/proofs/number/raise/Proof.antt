@@ -8,7 +8,7 @@ use mir.Syntax.{w64}
 use mir.Val.{SFits, toZ, ofZ}
 use mir.Facts.{toZ-ofZ}
 use Rattle.text_numbers.specs.Internal.Answers.{numberNamed}
-use Rattle.text_numbers.proofs.Raised.{raised-up, raised-down, raised-part, power-some, product-below}
+use Rattle.text_numerals.proofs.Raised.{raised-up, raised-down, raised-part, power-some, product-below}
 use borrow.Author.Needs.{needs}
 use Rattle.text_numbers.proofs.number.raise.Statement.{statement}
 use Rattle.text_numbers.proofs.number.raise.Tie as tie

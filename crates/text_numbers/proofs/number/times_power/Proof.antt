@@ -9,8 +9,9 @@ use mir.Val.{SFits}
 use mir.Facts.{toZ-ofZ}
 use Rattle.text_numbers.specs.declared.number.Parsed.{Parsed}
 use Rattle.text_numbers.specs.declared.number.Parsed.the-variants.{Value}
-use Rattle.text_numbers.specs.Numbers.{timesPower}
-use Rattle.text_numbers.specs.Internal.Answers.{numberNamed, within}
+use Rattle.text_numerals.specs.Numbers.{timesPower}
+use Rattle.text_numbers.specs.Internal.Answers.{numberNamed}
+use Rattle.text_numerals.specs.Internal.Parts.{within}
 use borrow.Author.Needs.{needs}
 use Rattle.text_numbers.proofs.number.times_power.Statement.{statement}
 use Rattle.text_numbers.proofs.number.times_power.Tie as tie

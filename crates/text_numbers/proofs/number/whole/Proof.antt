@@ -7,10 +7,11 @@ use native.Mathlib.Nat.{lt-of-le-of-lt}
 use denote.Ref.{now}
 use lib.ListN.{length}
 use Rattle.text_runs.specs.Runs.{part}
-use Rattle.text_numbers.specs.Numbers.{wholeOf}
-use Rattle.text_numbers.specs.Internal.Answers.{numberNamed, wholeIn}
+use Rattle.text_numerals.specs.Numbers.{wholeOf}
+use Rattle.text_numbers.specs.Internal.Answers.{numberNamed}
+use Rattle.text_numerals.specs.Internal.Parts.{wholeIn}
 use Rattle.text_runs.proofs.Parts.{part-whole}
-use Rattle.text_numbers.proofs.Numerals.{lead-order, lead-within, lead-all, whole-none, whole-more, whole-all, whole-long, whole-large, whole-value}
+use Rattle.text_numerals.proofs.Numerals.{lead-order, lead-within, lead-all, whole-none, whole-more, whole-all, whole-long, whole-large, whole-value}
 use Rattle.text_numbers.proofs.Signed.{signed-back}
 use borrow.Author.Needs.{needs}
 use Rattle.text_numbers.proofs.number.whole.Statement.{statement}

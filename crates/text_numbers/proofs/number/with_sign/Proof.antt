@@ -1,6 +1,6 @@
 -- `with_sign` is the definition, by the laws of signed numbers.
 use lib.IntN.{pos}
-use Rattle.text_numbers.specs.Numbers.{signed}
+use Rattle.text_numerals.specs.Numbers.{signed}
 use Rattle.signed.proofs.Signed.{neg-fits, zero-minus, bits-pos, bits-neg}
 use borrow.Author.Needs.{needs}
 use Rattle.text_numbers.proofs.number.with_sign.Statement.{statement}

@@ -12,9 +12,9 @@ use lib.Seq.{drop-cons, take-all}
 use Rattle.text_bytes.specs.Bytes.{isDigit}
 use Rattle.text_runs.specs.Runs.{run, part}
 use Rattle.text_runs.proofs.Runs.{run-yes, run-no}
-use Rattle.text_numbers.specs.Numbers.{Number, wrong, FLOAT, notEmpty, allDigits, floatOf, numberFrom, afterDigits, unsigned, negative, unsignedPart, fixedOf, exponentOf, timesPower, inMantissa, mantissa, withExponent, numberOf}
-use Rattle.text_numbers.specs.Internal.Answers.{fractionOf, afterFraction, endsIn}
-use Rattle.text_numbers.proofs.Numerals.{unsigned-yes, unsigned-no, digit-range, digits-run, digits-short, notEmpty-some, notEmpty-none, run-all, lead-digits, lead-after}
+use Rattle.text_numerals.specs.Numbers.{Number, wrong, FLOAT, notEmpty, allDigits, floatOf, numberFrom, afterDigits, unsigned, negative, unsignedPart, fixedOf, exponentOf, timesPower, inMantissa, mantissa, withExponent, numberOf}
+use Rattle.text_numerals.specs.Internal.Parts.{fractionOf, afterFraction, endsIn}
+use Rattle.text_numerals.proofs.Numerals.{unsigned-yes, unsigned-no, digit-range, digits-run, digits-short, notEmpty-some, notEmpty-none, run-all, lead-digits, lead-after}
 
 -- what stands from the first `e` on
 unfoldable pub tail : List ℕ → List ℕ

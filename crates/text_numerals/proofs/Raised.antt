@@ -11,9 +11,9 @@ use lib.ListN.{length, drop}
 use lib.IntN.{ℤ, pos, negsuc, natAbs, _*ℤ_, pos-ne-negsuc}
 use lib.Signed.{ltZ}
 use Rattle.signed.proofs.Signed.{below-zero, from-zero}
-use Rattle.text_numbers.specs.Numbers.{Number, value, beyond, wrong, Form, INT, FLOAT, decimal, signed, notEmpty, allDigits, wholeOf, millionths, floatOf, negative, unsignedPart, fixedOf, inForm, exponentOf, inRange, over, raised, timesPower, mantissa, withExponent, numberOf}
-use Rattle.text_numbers.specs.Internal.Answers.{wholeIn, within}
-use Rattle.text_numbers.proofs.Numerals.{and-true, millionths-below, signed-float, chosen, beyond-no, wrong-no, fixed-range}
+use Rattle.text_numerals.specs.Numbers.{Number, value, beyond, wrong, Form, INT, FLOAT, decimal, signed, notEmpty, allDigits, wholeOf, millionths, floatOf, negative, unsignedPart, fixedOf, inForm, exponentOf, inRange, over, raised, timesPower, mantissa, withExponent, numberOf}
+use Rattle.text_numerals.specs.Internal.Parts.{wholeIn, within}
+use Rattle.text_numerals.proofs.Numerals.{and-true, millionths-below, signed-float, chosen, beyond-no, wrong-no, fixed-range}
 
 -- ---- signs and magnitudes
 

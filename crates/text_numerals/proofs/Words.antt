@@ -5,7 +5,7 @@ use Prim.Native.String.{String}
 use lib.IntN.{pos, negsuc}
 use Rattle.text_bytes.specs.Bytes.{bytes, between, isDigit}
 use Rattle.text_runs.specs.Runs.{run}
-use Rattle.text_numbers.specs.Numbers.{Number, value, beyond, wrong, FLOAT, decimalFrom, decimal, signed, notEmpty, allDigits, wholeOf, millionths, floatOf, numberFrom, afterDigits, unsigned, negative, unsignedPart, fixedOf, inForm, exponentOf, inRange, over, raised, timesPower, inMantissa, mantissa, withExponent, numberOf}
+use Rattle.text_numerals.specs.Numbers.{Number, value, beyond, wrong, FLOAT, decimalFrom, decimal, signed, notEmpty, allDigits, wholeOf, millionths, floatOf, numberFrom, afterDigits, unsigned, negative, unsignedPart, fixedOf, inForm, exponentOf, inRange, over, raised, timesPower, inMantissa, mantissa, withExponent, numberOf}
 
 abbrev pub words : List (String × Number)
 words =

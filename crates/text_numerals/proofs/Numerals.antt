@@ -14,8 +14,8 @@ use lib.IntN.{ℤ}
 use Rattle.text_bytes.specs.Bytes.{between, isDigit}
 use Rattle.text_runs.specs.Runs.{run, part}
 use Rattle.text_runs.proofs.Runs.{run-yes, run-no, run-take, run-length, run-within}
-use Rattle.text_numbers.specs.Numbers.{Number, value, beyond, wrong, Form, INT, FLOAT, decimalFrom, decimal, allDigits, notEmpty, signed, intMost, wholeOf, intOf, millionths, floatOf, numberFrom, afterDigits, unsigned, negative, unsignedPart, fixedOf, numberOf, inForm}
-use Rattle.text_numbers.specs.Internal.Answers.{wholeIn}
+use Rattle.text_numerals.specs.Numbers.{Number, value, beyond, wrong, Form, INT, FLOAT, decimalFrom, decimal, allDigits, notEmpty, signed, intMost, wholeOf, intOf, millionths, floatOf, numberFrom, afterDigits, unsigned, negative, unsignedPart, fixedOf, numberOf, inForm}
+use Rattle.text_numerals.specs.Internal.Parts.{wholeIn}
 
 pub negative-none : (word : List ℕ) → length word ≡ 0 → negative word ≡ false
 unfolding negative

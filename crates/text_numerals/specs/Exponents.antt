@@ -5,7 +5,7 @@ use mathlib.Core.Bool.{Bool, true, false, _||_}
 use Prim.Native.Nat.{ℕ, suc, _+_, _^_, _≤_}
 use lib.Dec.{eqb}
 use lib.IntN.{ℤ, pos, negsuc, _*ℤ_}
-use Rattle.text_numbers.specs.Numbers.{value, FLOAT, signed, fixedOf, inForm, exponentOf}
+use Rattle.text_numerals.specs.Numbers.{value, FLOAT, signed, fixedOf, inForm, exponentOf}
 
 -- an `e` stands in a word
 unfoldable pub hasExponent : List ℕ → Bool

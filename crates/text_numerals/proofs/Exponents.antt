@@ -12,11 +12,11 @@ use lib.ListN.{length, drop}
 use lib.IntN.{ℤ, pos, negsuc, negℤ, natAbs, _*ℤ_}
 use Rattle.text_bytes.specs.Bytes.{between, isDigit}
 use Rattle.text_runs.specs.Runs.{run}
-use Rattle.text_numbers.specs.Numbers.{Number, value, beyond, wrong, FLOAT, decimalFrom, decimal, signed, notEmpty, allDigits, wholeOf, numberFrom, afterDigits, unsigned, negative, unsignedPart, fixedOf, inForm, exponentOf, inRange, over, raised, timesPower, mantissa, withExponent, numberOf}
-use Rattle.text_numbers.specs.Exponents.{hasExponent, minus, Power, Times, Makes}
-use Rattle.text_numbers.proofs.Numerals.{and-true, digit-range, chosen, beyond-no, wrong-no, unsigned-yes, unsigned-no}
-use Rattle.text_numbers.proofs.Reading.{tail, before-e, at-e, mantissa-ne, mantissa-eq, after-yes, after-no}
-use Rattle.text_numbers.proofs.Raised.{in-range, power-some}
+use Rattle.text_numerals.specs.Numbers.{Number, value, beyond, wrong, FLOAT, decimalFrom, decimal, signed, notEmpty, allDigits, wholeOf, numberFrom, afterDigits, unsigned, negative, unsignedPart, fixedOf, inForm, exponentOf, inRange, over, raised, timesPower, mantissa, withExponent, numberOf}
+use Rattle.text_numerals.specs.Exponents.{hasExponent, minus, Power, Times, Makes}
+use Rattle.text_numerals.proofs.Numerals.{and-true, digit-range, chosen, beyond-no, wrong-no, unsigned-yes, unsigned-no}
+use Rattle.text_numerals.proofs.Reading.{tail, before-e, at-e, mantissa-ne, mantissa-eq, after-yes, after-no}
+use Rattle.text_numerals.proofs.Raised.{in-range, power-some}
 
 -- ---- a word without an `e` means what it did
 
