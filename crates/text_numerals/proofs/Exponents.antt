@@ -16,7 +16,7 @@ use Rattle.text_numerals.specs.Numbers.{Number, value, beyond, wrong, FL
 use Rattle.text_numerals.specs.Exponents.{hasExponent, minus, Power, Times, Makes}
 use Rattle.text_numerals.proofs.Numerals.{and-true, digit-range, chosen, beyond-no, wrong-no, unsigned-yes, unsigned-no}
 use Rattle.text_numerals.proofs.Reading.{tail, before-e, at-e, mantissa-ne, mantissa-eq, after-yes, after-no}
-use Rattle.text_numerals.proofs.Raised.{in-range, power-some}
+use Rattle.text_numerals.proofs.Raised.{in-range, power-some, product}
 
 -- ---- a word without an `e` means what it did
 
@@ -152,24 +152,6 @@ raised-exact z (negsuc d) v = (lowered z v (10 ^ suc d) (eqb (natAbs z % 10 ^ su
 
 -- ---- the values and the other words
 
--- a product with a value has two values
-record Product (n e : Number) (v : ℤ) : Type 0 where
-  number : ℤ
-  power : ℤ
-  before : n ≡ value number
-  after : e ≡ value power
-  made : raised number power ≡ value v
-
-product : (n e : Number) (v : ℤ) → timesPower n e ≡ value v → Product n e v
-unfolding timesPower
-product (value z) (value k) v h = record { number = z; power = k; before = refl; after = refl; made = h }
-product (value z) beyond v h = absurd (beyond-no v h)
-product (value z) wrong v h = absurd (wrong-no v h)
-product beyond (value k) v h = absurd (beyond-no v h)
-product beyond beyond v h = absurd (beyond-no v h)
-product beyond wrong v h = absurd (wrong-no v h)
-product wrong e v h = absurd (wrong-no v h)
-
 pub exponent-taken : (m x : List ℕ) (v : ℤ) → hasExponent m ≡ false → numberOf FLOAT (m ++ (101 ∷ x)) ≡ value v ↔ Makes m x v
 unfolding timesPower
 exponent-taken m x v n = (there, back)
@@ -264,7 +246,7 @@ power-there x e h = go (notEmpty (unsignedPart x) && allDigits (unsignedPart x))
     go true k h =
         let p = and-true (notEmpty (unsignedPart x)) (allDigits (unsignedPart x)) k in
         let w = whole-chosen (negative x) (unsignedPart x) e h in
-        record { sign = negative x; digit = decimal (unsignedPart x); most = w .1; written = sign-first x ∙ ap (_++_ (minus (negative x))) (one-digit (unsignedPart x) (p .0) (p .1) (w .0)); is = sym (w .2) }
+        record { sign = negative x; digit = decimal (unsignedPart x); most = omega (arith, w .1); written = sign-first x ∙ ap (_++_ (minus (negative x))) (one-digit (unsignedPart x) (p .0) (p .1) (w .0)); is = sym (w .2) }
     go false k h = absurd (wrong-no e h)
 
 digit-value : (d : ℕ) → d ≤ 6 → isDigit (48 + d) ≡ true

@@ -1,7 +1,7 @@
 -- Numbers times a power of ten: the code's signs and magnitudes are the definition's numbers, and each lies in its range.
-use mathlib.Core.Path.{_≡_, refl}
+use mathlib.Core.Path.{_≡_, refl, ap, sym, _∙_}
 use mathlib.Core.List.{List, [], _∷_}
-use mathlib.Core.Bool.{Bool, true, false, cond, _&&_}
+use mathlib.Core.Bool.{Bool, true, false, cond, _&&_, true≢false}
 use Prim.Native.Nat.{ℕ, zero, suc, _*_, _/_, _%_, _^_, _≤_, _<_}
 use native.Mathlib.Nat.{pow-le-pow-right, mul-le-mul}
 use native.Mathlib.Omega.{arith}
@@ -13,7 +13,7 @@ use lib.Signed.{ltZ}
 use Rattle.signed.proofs.Signed.{below-zero, from-zero}
 use Rattle.text_numerals.specs.Numbers.{Number, value, beyond, wrong, Form, INT, FLOAT, decimal, signed, notEmpty, allDigits, wholeOf, millionths, floatOf, negative, unsignedPart, fixedOf, inForm, exponentOf, inRange, over, raised, timesPower, mantissa, withExponent, numberOf}
 use Rattle.text_numerals.specs.Internal.Parts.{wholeIn, within}
-use Rattle.text_numerals.proofs.Numerals.{and-true, millionths-below, signed-float, chosen, beyond-no, wrong-no, fixed-range}
+use Rattle.text_numerals.proofs.Numerals.{and-true, millionths-below, signed-float, chosen, beyond-no, fixed-range}
 
 -- ---- signs and magnitudes
 
@@ -134,15 +134,35 @@ raised-range z (negsuc d) v h = go (eqb (natAbs z % 10 ^ suc d) 0) h
     go true h = in-range _ v h .0
     go false h = absurd (beyond-no v h)
 
+-- a product with a value has two values
+pub record Product (n e : Number) (v : ℤ) : Type 0 where
+  pub number : ℤ
+  pub power : ℤ
+  pub before : n ≡ value number
+  pub after : e ≡ value power
+  pub made : raised number power ≡ value v
+
+isValue : Number → Bool
+isValue (value z) = true
+isValue beyond = false
+isValue wrong = false
+
+no-value : (n : Number) (v : ℤ) → isValue n ≡ false → n ≡ value v → ⊥
+unfolding isValue
+no-value n v e h = true≢false (sym (ap isValue h) ∙ e)
+
+pub product : (n e : Number) (v : ℤ) → timesPower n e ≡ value v → Product n e v
+unfolding timesPower isValue
+product (value z) (value k) v h = record { number = z; power = k; before = refl; after = refl; made = h }
+product (value z) beyond v h = absurd (no-value (timesPower (value z) beyond) v refl h)
+product (value z) wrong v h = absurd (no-value (timesPower (value z) wrong) v refl h)
+product beyond (value k) v h = absurd (no-value (timesPower beyond (value k)) v refl h)
+product beyond beyond v h = absurd (no-value (timesPower beyond beyond) v refl h)
+product beyond wrong v h = absurd (no-value (timesPower beyond wrong) v refl h)
+product wrong e v h = absurd (no-value (timesPower wrong e) v refl h)
+
 times-range : (n e : Number) (v : ℤ) → timesPower n e ≡ value v → inForm FLOAT v ≡ true
-unfolding timesPower
-times-range (value z) (value e) v h = raised-range z e v h
-times-range (value z) beyond v h = absurd (beyond-no v h)
-times-range (value z) wrong v h = absurd (wrong-no v h)
-times-range beyond (value e) v h = absurd (beyond-no v h)
-times-range beyond beyond v h = absurd (beyond-no v h)
-times-range beyond wrong v h = absurd (wrong-no v h)
-times-range wrong e v h = absurd (wrong-no v h)
+times-range n e v h = let p = product n e v h in raised-range (p .number) (p .power) v (p .made)
 
 with-range : (n : Number) (rest : List ℕ) (z : ℤ) → (n ≡ value z → inForm FLOAT z ≡ true) → withExponent n rest ≡ value z → inForm FLOAT z ≡ true
 unfolding withExponent
