@@ -15,7 +15,7 @@ use Rattle.text_runs.specs.Runs.{run}
 use Rattle.text_numerals.specs.Numbers.{Number, value, beyond, wrong, FLOAT, decimalFrom, decimal, signed, notEmpty, allDigits, wholeOf, numberFrom, afterDigits, unsigned, negative, unsignedPart, fixedOf, inForm, exponentOf, inRange, over, raised, timesPower, mantissa, withExponent, numberOf}
 use Rattle.text_numerals.specs.Exponents.{hasExponent, minus, Power, Times, Makes}
 use Rattle.text_numerals.proofs.Numerals.{and-true, digit-range, chosen, beyond-no, wrong-no, unsigned-yes, unsigned-no}
-use Rattle.text_numerals.proofs.Reading.{tail, before-e, at-e, mantissa-ne, mantissa-eq, after-yes, after-no}
+use Rattle.text_numerals.proofs.Reading.{tail, before-e, at-e, mantissa-ne, mantissa-eq, digit-not-e, byte-not-e, after-yes, after-no}
 use Rattle.text_numerals.proofs.Raised.{in-range, power-some, product}
 
 -- ---- a word without an `e` means what it did
@@ -66,11 +66,8 @@ has-unsigned [] e = absurd (false≢true e)
 has-unsigned (b ∷ bs) e = go (eqb b 45) refl
   where
     go : (v : Bool) → eqb b 45 ≡ v → hasExponent (unsignedPart (b ∷ bs)) ≡ true
-    go true k = rw (unsigned-yes (b ∷ bs) k) (rw (ne-eqb b 101 (λ q. let r = eqb-true b 45 k in omega arith)) at e)
+    go true k = rw (unsigned-yes (b ∷ bs) k) (rw (ne-eqb b 101 (byte-not-e b 45 k refl)) at e)
     go false k = rw (unsigned-no (b ∷ bs) k) e
-
-digit-not-e : (b : ℕ) → isDigit b ≡ true → eqb b 101 ≡ false
-digit-not-e b e = ne-eqb b 101 (λ q. let r = digit-range b e in omega arith)
 
 has-after : (bs : List ℕ) → hasExponent bs ≡ true → hasExponent (afterDigits bs) ≡ true
 unfolding hasExponent
@@ -78,7 +75,7 @@ has-after [] e = absurd (false≢true e)
 has-after (b ∷ bs) e = go (isDigit b) refl (has-after bs)
   where
     go : (v : Bool) → isDigit b ≡ v → (hasExponent bs ≡ true → hasExponent (afterDigits bs) ≡ true) → hasExponent (afterDigits (b ∷ bs)) ≡ true
-    go true k h = rw (after-yes b bs k) (h (rw (digit-not-e b k) at e))
+    go true k h = rw (after-yes b bs k) (h (rw (ne-eqb b 101 (digit-not-e b k)) at e))
     go false k h = rw (after-no b bs k) e
 
 not-digits : (bs : List ℕ) → hasExponent bs ≡ true → allDigits bs ≡ false
@@ -87,7 +84,7 @@ not-digits [] e = absurd (false≢true e)
 not-digits (b ∷ bs) e = go (isDigit b) refl (not-digits bs)
   where
     go : (v : Bool) → isDigit b ≡ v → (hasExponent bs ≡ true → allDigits bs ≡ false) → (isDigit b && allDigits bs) ≡ false
-    go true k h = rw k (h (rw (digit-not-e b k) at e))
+    go true k h = rw k (h (rw (ne-eqb b 101 (digit-not-e b k)) at e))
     go false k h = rw k
 
 from-wrong : (s : Bool) (ds bs : List ℕ) → hasExponent bs ≡ true → numberFrom FLOAT s ds bs ≡ wrong
@@ -96,7 +93,7 @@ from-wrong s ds [] e = absurd (false≢true e)
 from-wrong s ds (b ∷ bs) e = go (eqb b 46) refl
   where
     go : (v : Bool) → eqb b 46 ≡ v → numberFrom FLOAT s ds (b ∷ bs) ≡ wrong
-    go true k = rw (not-digits bs (rw (ne-eqb b 101 (λ q. let r = eqb-true b 46 k in omega arith)) at e), and-false (eqb b 46 && notEmpty bs))
+    go true k = rw (not-digits bs (rw (ne-eqb b 101 (byte-not-e b 46 k refl)) at e), and-false (eqb b 46 && notEmpty bs))
     go false k = rw k
 
 pub exponent-new : (word : List ℕ) → hasExponent word ≡ true → fixedOf FLOAT word ≡ wrong

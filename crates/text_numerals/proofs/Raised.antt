@@ -93,21 +93,21 @@ exponent-within word =
 
 -- by the sign of the exponent, of a magnitude and a power
 module _ (z e : ℤ) (n p : ℕ) (size : n ≡ natAbs z) (q : p ≡ 10 ^ natAbs e) where
-  pub raised-up : (s : Bool) → ltZ z (pos 0) ≡ s → ltZ e (pos 0) ≡ false → inRange (signed s (n * p)) ≡ raised z e
+  pub raised-up : (s : Bool) → s ≡ ltZ z (pos 0) → false ≡ ltZ e (pos 0) → inRange (signed s (n * p)) ≡ raised z e
   unfolding raised
-  raised-up s h k = rw (size, signed-times z p s h, q, from-zero e k)
+  raised-up s h k = rw (size, signed-times z p s (sym h), q, from-zero e (sym k))
 
-  pub raised-down : (s : Bool) → ltZ z (pos 0) ≡ s → ltZ e (pos 0) ≡ true → n % p ≡ 0 → inRange (signed s (n / p)) ≡ raised z e
+  pub raised-down : (s : Bool) → s ≡ ltZ z (pos 0) → true ≡ ltZ e (pos 0) → n % p ≡ 0 → inRange (signed s (n / p)) ≡ raised z e
   unfolding raised
-  raised-down s h k m = go e q k
+  raised-down s h k m = go e q (sym k)
     where
       go : (e : ℤ) → p ≡ 10 ^ natAbs e → ltZ e (pos 0) ≡ true → inRange (signed s (n / p)) ≡ raised z e
       go (pos d) q k = absurd (pos-ne-negsuc d _ (below-zero (pos d) k))
-      go (negsuc d) q k = rw (← q, ← size, eq-eqb _ _ m, size, signed-over z p s h)
+      go (negsuc d) q k = rw (← q, ← size, eq-eqb _ _ m, size, signed-over z p s (sym h))
 
-  pub raised-part : ltZ e (pos 0) ≡ true → (n % p ≡ 0 → ⊥) → raised z e ≡ beyond
+  pub raised-part : true ≡ ltZ e (pos 0) → (n % p ≡ 0 → ⊥) → raised z e ≡ beyond
   unfolding raised
-  raised-part k m = go e q k
+  raised-part k m = go e q (sym k)
     where
       go : (e : ℤ) → p ≡ 10 ^ natAbs e → ltZ e (pos 0) ≡ true → raised z e ≡ beyond
       go (pos d) q k = absurd (pos-ne-negsuc d _ (below-zero (pos d) k))

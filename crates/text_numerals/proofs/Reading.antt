@@ -40,6 +40,13 @@ pub mantissa-eq : (b : ℕ) → b ≡ 101 → inMantissa b ≡ false
 unfolding inMantissa
 mantissa-eq b h = rw (eq-eqb b 101 h)
 
+-- bytes that are no `e`: a digit, and one that is another byte
+pub digit-not-e : (b : ℕ) → isDigit b ≡ true → b ≡ 101 → ⊥
+digit-not-e b e q = let r = digit-range b e in omega arith
+
+pub byte-not-e : (b c : ℕ) → eqb b c ≡ true → eqb c 101 ≡ false → b ≡ 101 → ⊥
+byte-not-e b c e f q = eqb-false c 101 f (sym (eqb-true b c e) ∙ q)
+
 -- ---- the digits that bytes begin with stand before the first `e`
 
 pub after-yes : (b : ℕ) (bs : List ℕ) → isDigit b ≡ true → afterDigits (b ∷ bs) ≡ afterDigits bs
@@ -62,7 +69,7 @@ digits-before (b ∷ bs) = go (isDigit b) refl (inMantissa b) refl (digits-befor
   where
     go : (v : Bool) → isDigit b ≡ v → (w : Bool) → inMantissa b ≡ w → Digits bs → Digits (b ∷ bs)
     go true e w _ h =
-        let m = before-e b bs (mantissa-ne b (λ q. let r = digit-range b e in omega arith)) in
+        let m = before-e b bs (mantissa-ne b (digit-not-e b e)) in
         record {
           same = rw (m .0, run-yes isDigit b (mantissa bs) e, run-yes isDigit b bs e, h .same);
           after = rw (m .0, after-yes b (mantissa bs) e, after-yes b bs e) (h .after);
@@ -97,7 +104,7 @@ sign-before (b ∷ bs) = go (eqb b 45) refl (inMantissa b) refl
   where
     go : (v : Bool) → eqb b 45 ≡ v → (w : Bool) → inMantissa b ≡ w → Sign (b ∷ bs)
     go true e w _ =
-        let m = before-e b bs (mantissa-ne b (λ q. let r = eqb-true b 45 e in omega arith)) in
+        let m = before-e b bs (mantissa-ne b (byte-not-e b 45 e refl)) in
         let p = unsigned-yes (b ∷ bs) e in
         record { same = rw (m .0); after = ap unsignedPart (m .0) ∙ unsigned-yes (b ∷ mantissa bs) e ∙ ap mantissa (sym p); left = m .1 ∙ ap tail (sym p) }
     go false e true k =
@@ -208,11 +215,11 @@ module _ (s : Bool) (ds : List ℕ) where
           rw (n, a, f)
       point false n e =
           let a = after-none (b ∷ bs) (ap notEmpty (fraction-point b bs e) ∙ n) in
-          rw (n, a, ne-eqb b 101 (λ q. let r = eqb-true b 46 e in omega arith))
+          rw (n, a, ne-eqb b 101 (byte-not-e b 46 e refl))
 
       go : (v : Bool) → eqb b 46 ≡ v → (w : Bool) → eqb b 101 ≡ w → withExponent (numberFrom FLOAT s ds (mantissa (b ∷ bs))) (tail (b ∷ bs)) ≡ endsIn (floatOf s ds (fractionOf (b ∷ bs))) (afterFraction (b ∷ bs))
       go true e w _ =
-          let m = before-e b bs (mantissa-ne b (λ q. let r = eqb-true b 46 e in omega arith)) in
+          let m = before-e b bs (mantissa-ne b (byte-not-e b 46 e refl)) in
           rw (m .0, m .1, e) (point-ends bs ∙ point (notEmpty (run isDigit bs)) refl e)
       go false e true k =
           let f = fraction-none b bs e in

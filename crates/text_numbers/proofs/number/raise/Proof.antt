@@ -4,9 +4,8 @@ use mathlib.Core.Bool.{Bool}
 use Prim.Native.Nat.{ℕ, _^_}
 use lib.IntN.{ℤ, pos, natAbs}
 use lib.Signed.{ltZ}
-use mir.Syntax.{w64}
-use mir.Val.{SFits, toZ, ofZ}
 use mir.Facts.{toZ-ofZ}
+use Rattle.signed.proofs.Tests.{tested}
 use Rattle.text_numbers.specs.Internal.Answers.{numberNamed}
 use Rattle.text_numerals.proofs.Raised.{raised-up, raised-down, raised-part, power-some, product-below}
 use borrow.Author.Needs.{needs}
@@ -20,9 +19,8 @@ size c = c .magnitude .ensures ∙ ap natAbs (toZ-ofZ (c .before .fits .z))
 power : (c : tie.After-power) → c .power .result ≡ 10 ^ natAbs (c .before .before .before .args .e)
 power c = c .power .ensures ∙ ap (λ (d : ℕ). 10 ^ d) (c .before .magnitude2 .ensures ∙ ap natAbs (toZ-ofZ (c .before .before .before .fits .e)))
 
--- what a test on a number's bits says of the number
-tested : {z : ℤ} {s : Bool} → SFits w64 z → ltZ (toZ w64 (ofZ w64 z)) (pos 0) ≡ s → ltZ z (pos 0) ≡ s
-tested f e = ap (λ (y : ℤ). ltZ y (pos 0)) (sym (toZ-ofZ f)) ∙ e
+abbrev below : ℤ → Bool
+below z = ltZ z (pos 0)
 
 magnitude-requires : tie.Need-magnitude-requires
 magnitude-requires c κs = search needs
@@ -41,7 +39,7 @@ unfolding numberNamed
 returns c =
     let p = c .before .before in
     let a = p .before .before .before in
-    sym (raised-part (a .args .z) (a .args .e) _ _ (size (p .before .before)) (power p) (tested (a .fits .e) (c .before .if1 .taken)) (c .if2 .taken))
+    sym (raised-part (a .args .z) (a .args .e) _ _ (size (p .before .before)) (power p) (tested below (a .args .e) (a .fits .e) (sym (c .before .if1 .taken))) (c .if2 .taken))
 
 div-in-range : tie.Need-div-in-range
 div-in-range c = power-some _ _ (power (c .before .before))
@@ -53,7 +51,7 @@ returns-2 : tie.Need-returns-2
 returns-2 c =
     let p = c .before .before .before in
     let a = p .before .before .before in
-    c .in-range .ensures ∙ raised-down (a .args .z) (a .args .e) _ _ (size (p .before .before)) (power p) _ (tested (a .fits .z) refl) (tested (a .fits .e) (c .before .before .if1 .taken)) (c .before .if2 .left)
+    c .in-range .ensures ∙ raised-down (a .args .z) (a .args .e) _ _ (size (p .before .before)) (power p) _ (tested below (a .args .z) (a .fits .z) refl) (tested below (a .args .e) (a .fits .e) (sym (c .before .before .if1 .taken))) (c .before .if2 .left)
 
 mul-in-range : tie.Need-mul-in-range
 mul-in-range c =
@@ -68,7 +66,7 @@ returns-3 : tie.Need-returns-3
 returns-3 c =
     let p = c .before .before in
     let a = p .before .before .before in
-    c .in-range2 .ensures ∙ raised-up (a .args .z) (a .args .e) _ _ (size (p .before .before)) (power p) _ (tested (a .fits .z) refl) (tested (a .fits .e) (c .before .if1 .left))
+    c .in-range2 .ensures ∙ raised-up (a .args .z) (a .args .e) _ _ (size (p .before .before)) (power p) _ (tested below (a .args .z) (a .fits .z) refl) (tested below (a .args .e) (a .fits .e) (sym (c .before .if1 .left)))
 
 pub raise-spec : {M : Type 1} → statement M
 raise-spec =
