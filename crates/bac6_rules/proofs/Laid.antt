@@ -22,7 +22,7 @@ use Rattle.bac6_text.proofs.Parents.{whole-length}
 use Rattle.bac6_face_rules.specs.Internal.Rows.{faceRowFine}
 use Rattle.table_columns.specs.Parts.{rowsOf}
 use Rattle.bac6_bone_rules.specs.Internal.Bones.{rowFlags, flagsIn, parentsFrom, withParents, Settled}
-use Rattle.bac6_text.proofs.FirstBad.{bad-passed, bad-found}
+use Rattle.table_columns.proofs.FirstBad.{bad-passed, bad-found}
 use Rattle.table_columns.proofs.Rows.{rows-more}
 use Rattle.bac6_face_rules.proofs.Faces.{face-row-fine}
 use Rattle.bac6_bone_rules.proofs.Whole.{settled-clear}

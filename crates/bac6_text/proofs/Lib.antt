@@ -1,6 +1,5 @@
 -- Laws that belong to no one function.
 pub mod Examples
-pub mod FirstBad
 pub mod Names
 pub mod Parents
 pub mod Rows

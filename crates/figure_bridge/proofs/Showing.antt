@@ -28,7 +28,8 @@ use Rattle.table_references.specs.Index.{isIndex}
 use Rattle.player_spec.specs.Lookups.{onlyIf, isAsked, sizeFine, cornersFine, faceAt, ownerAt, ownersFine, ownedCorners, patternRows, linesFine, patternsFine, canShow, groupFlag, shownIn}
 use Rattle.pair_text.specs.Rules.{groupsFault}
 use Rattle.figure_bridge.specs.Rows.{groupedFaceOf, hasNoGroup}
-use Rattle.figure_bridge.proofs.Tests.{owner-known, first-bad-clear}
+use Rattle.figure_bridge.proofs.Tests.{owner-known}
+use Rattle.refusal.proofs.FirstBad.{first-bad-clear}
 use Rattle.figure_bridge.proofs.Parts.{counts}
 use Rattle.figure_bridge.proofs.Grouped.{groupNumber, group-known}
 use Rattle.figure_bridge.proofs.FaceRows.{row-size, row-vertices, row-group, filled, vertex-corners, size-fine, vertices-fine}

@@ -1,7 +1,7 @@
 -- What the tests of rows and ranges say of a number: a row is a natural number below the count, FLOAT's form is FLOAT's range, and an owner is a bone's row or -1.
 use mathlib.Core.Path.{_≡_, refl}
 use mathlib.Core.List.{List, [], _∷_}
-use mathlib.Core.Bool.{Bool, true, false, _&&_, _||_, false≢true}
+use mathlib.Core.Bool.{Bool, true, false, _||_, false≢true}
 use mathlib.Core.Logic.{_⊎_, inl, inr}
 use Prim.Native.Nat.{ℕ, zero, suc, _+_, _<_, _≤_}
 use native.Mathlib.Omega.{arith}
@@ -12,11 +12,10 @@ use Rattle.text_numerals.specs.Numbers.{FLOAT}
 use Rattle.text_numerals.proofs.Numerals.{and-true}
 use Rattle.bac6_text.specs.Figure.{Bone}
 use Rattle.bac6_text.specs.Rules.{ownerFrom, ownerOf}
-use Rattle.refusal.specs.FirstBad.{all, firstBad}
+use Rattle.refusal.specs.FirstBad.{all}
 use Rattle.table_references.specs.References.{isRow, isNone, member}
 use Rattle.parse_spec.proofs.Ranges.{AllIn}
 use Rattle.table_references.specs.Index.{isIndex}
-use Rattle.refusal.specs.Faults.{isClear}
 use Rattle.player_spec.specs.Lookups.{allFloat}
 use Rattle.movement_bridge.proofs.Faultless.{float-in-form}
 
@@ -67,13 +66,3 @@ owner-known bs z = owner-from (length bs) 0 z bs (omega arith)
 pub or-yes : (b : Bool) → (b || true) ≡ true
 or-yes true = refl
 or-yes false = refl
-
--- the first row at fault is none exactly where all rows pass
-pub first-bad-clear : {A : Type 0} (n : ℕ) (t : A → Bool) (row : ℕ) (l : List A) → isClear (firstBad n t row l) ≡ all t l
-unfolding firstBad all isClear
-first-bad-clear n t row [] = refl
-first-bad-clear n t row (a ∷ l) = go (t a) refl (first-bad-clear n t (suc row) l)
-  where
-    go : (v : Bool) → t a ≡ v → isClear (firstBad n t (suc row) l) ≡ all t l → isClear (firstBad n t row (a ∷ l)) ≡ (t a && all t l)
-    go true e ih = rw (e, firstBad) ih
-    go false e ih = rw (e, firstBad)

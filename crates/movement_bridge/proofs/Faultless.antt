@@ -5,8 +5,8 @@ use mathlib.Core.Bool.{Bool, true, false}
 use mathlib.Core.Option.{Option, none, some}
 use Prim.Native.Nat.{ℕ, zero, suc, _+_, _≤_, _<_}
 use native.Mathlib.Omega.{arith}
-use borrow.Author.Tests.{leb-true, le-leb, lt-ltb}
-use lib.IntN.{ℤ, pos, negsuc, natAbs}
+use borrow.Author.Tests.{le-leb, lt-ltb}
+use lib.IntN.{ℤ, pos, natAbs}
 use lib.ListN.{length, getD}
 use Rattle.refusal.specs.Faults.{clear, fault, isClear}
 use Rattle.text_numerals.specs.Numbers.{FLOAT, inForm}
@@ -14,26 +14,26 @@ use Rattle.parse_spec.proofs.Given.{Every}
 use Rattle.refusal.proofs.Rules.{or-first, or-second}
 use Rattle.table_references.specs.References.{isRow}
 use Rattle.tra4_text.specs.Movement.{Key, Channel, Pattern, frameOf}
-use Rattle.tra4_text.specs.Rules.{totalFault, framesFault, keyFine, keysFault}
+use Rattle.tra4_text.specs.Rules.{totalFault, channelFault, keyFine, keysFault}
 use Rattle.tra4_text.proofs.Whole.{FloatValue, Flagged}
 use Rattle.player_spec.specs.Lookups.{isFloat, isAsked, isRange, valuesFine}
 
 -- ---- frames
 
 -- the row that counting begins at does not matter where there is no fault
-pub any-row : (n : ℕ) (fine : Option ℤ → List ℤ → Bool) (before : Option ℤ) (i j : ℕ) (rs : List (List ℤ)) → framesFault n fine before i rs ≡ clear → framesFault n fine before j rs ≡ clear
-unfolding framesFault
-any-row n fine before i j [] e = refl
-any-row n fine before i j (r ∷ rs) e = go (fine before r) refl (any-row n fine (some (frameOf r)) (suc i) (suc j) rs)
+any-row : (total : ℤ) (before : Option ℤ) (i j : ℕ) (ks : List Key) → channelFault total before i ks ≡ clear → channelFault total before j ks ≡ clear
+unfolding channelFault
+any-row total before i j [] e = refl
+any-row total before i j (k ∷ ks) e = go (keyFine total before k) refl (any-row total (some (frameOf k)) (suc i) (suc j) ks)
   where
-    go : (v : Bool) → fine before r ≡ v → (framesFault n fine (some (frameOf r)) (suc i) rs ≡ clear → framesFault n fine (some (frameOf r)) (suc j) rs ≡ clear) → framesFault n fine before j (r ∷ rs) ≡ clear
-    go true o ih = rw (o, framesFault) (ih (rw (o, framesFault) at e))
-    go false o ih = let f : fault n i ≡ clear = rw (o, framesFault) at e in let z : _≡_ {A = ℕ} 0 1 = cc in absurd (omega (arith, z))
+    go : (v : Bool) → keyFine total before k ≡ v → (channelFault total (some (frameOf k)) (suc i) ks ≡ clear → channelFault total (some (frameOf k)) (suc j) ks ≡ clear) → channelFault total before j (k ∷ ks) ≡ clear
+    go true o ih = rw (o, channelFault) (ih (rw (o, channelFault) at e))
+    go false o ih = let f : fault 15 i ≡ clear = rw (o, channelFault) at e in let z : _≡_ {A = ℕ} 0 1 = cc in absurd (omega (arith, z))
 
 -- one of the channels
-pub one-clear : (total : ℤ) (row : ℕ) (a : List Channel) (c : Channel) (b : List Channel) → keysFault total row (a ++ (c ∷ b)) ≡ clear → framesFault 15 (keyFine total) none 0 c ≡ clear
+pub one-clear : (total : ℤ) (row : ℕ) (a : List Channel) (c : Channel) (b : List Channel) → keysFault total row (a ++ (c ∷ b)) ≡ clear → channelFault total none 0 c ≡ clear
 unfolding keysFault
-one-clear total row [] c b e = any-row 15 (keyFine total) none row 0 c (or-first _ _ e)
+one-clear total row [] c b e = any-row total none row 0 c (or-first _ _ e)
 one-clear total row (x ∷ a) c b e = one-clear total (row + length x) a c b (or-second _ _ e)
 
 -- a frame below a sound total

@@ -13,12 +13,11 @@ use Rattle.text_bytes.proofs.Every.{every-append, every-first, every-last}
 use Rattle.refusal.specs.Outcomes.{accepted}
 use Rattle.parse_spec.proofs.Given.{Every}
 use Rattle.tra4_text.specs.Movement.{Key, Channel, Bone, Movement}
-use Rattle.tra4_text.specs.Rules.{allKeys, channelsOf, keyRows, framesFault, keyFine, keysFault, movementFault, movementCounts}
+use Rattle.tra4_text.specs.Rules.{allKeys, channelsOf, keyRows, channelFault, keysFault, movementFault, movementCounts}
 use Rattle.tra4_text.specs.Layout.{layoutOf}
 use Rattle.tra4_text.specs.Answer.{movementAnswer, movementTable}
 use Rattle.tra4_text.proofs.Whole.{WholeChannel, WholeBone, WholeMovement, wide-keys}
 use Rattle.tra4_text.proofs.Layouts.{keys-append, keys-wide}
-use Rattle.tra4.specs.Answers.{answerOf}
 use Rattle.table_counts.specs.declared.counts.MovementCounts.{MovementCounts}
 use Rattle.player_spec.specs.Samples.{sampleOf}
 use Rattle.table_movement.specs.Sections.{keysBegin, holdsMovement}
@@ -49,7 +48,7 @@ module _ (a : List Channel) (c : Channel) (b : List Channel) where
 
 -- ---- Sample, from what its tests say
 
-sample-is : (n : MovementCounts) (t : List ℤ) (bone channel at first : ℕ) (total : ℤ) (c : Channel) → holdsMovement n t ≡ true → bone < n .bones → channel < 10 → numberAt t 0 ≡ total → isAsked total at ≡ true → numberAt t (pairAt n t bone channel) ≡ pos first → numberAt t (pairAt n t bone channel + 1) ≡ pos (length c) → isRange (n .keys) (pos first) (pos (length c)) ≡ true → rowsAt 2 t (keysBegin n + first * 2) (length c) ≡ c → framesFault 15 (keyFine total) none 0 c ≡ clear → valuesFine c ≡ true → sampleIn n t bone channel at ≡ some (sampleOf c at)
+sample-is : (n : MovementCounts) (t : List ℤ) (bone channel at first : ℕ) (total : ℤ) (c : Channel) → holdsMovement n t ≡ true → bone < n .bones → channel < 10 → numberAt t 0 ≡ total → isAsked total at ≡ true → numberAt t (pairAt n t bone channel) ≡ pos first → numberAt t (pairAt n t bone channel + 1) ≡ pos (length c) → isRange (n .keys) (pos first) (pos (length c)) ≡ true → rowsAt 2 t (keysBegin n + first * 2) (length c) ≡ c → channelFault total none 0 c ≡ clear → valuesFine c ≡ true → sampleIn n t bone channel at ≡ some (sampleOf c at)
 unfolding sampleIn canSample channelKeys onlyIf isClear
 sample-is n t bone channel at first total c held row known is asked f l range rows frames values = rw (held, lt-ltb _ _ row, lt-ltb _ _ known, is, asked, f, l, range, rows, frames, values)
 
@@ -78,7 +77,7 @@ module _ (m : Movement) (w : WholeMovement m) (clean : movementFault m ≡ clear
       let b : length (allKeys (channelsOf (m .bones))) ≡ length (allKeys (s .before ++ (c ∷ s .behind))) = ap (λ (cs : List Channel). length (allKeys cs)) (s .splits) in
       range-within (length (allKeys (channelsOf (m .bones)))) (length (allKeys (s .before))) (length c) (whole-one .some-key) (omega arith)
 
-  keys-sound : framesFault 15 (keyFine (m .totalFrames)) none 0 c ≡ clear
+  keys-sound : channelFault (m .totalFrames) none 0 c ≡ clear
   keys-sound = one-clear (m .totalFrames) 0 (s .before) c (s .behind) (subst (λ (cs : List Channel). keysFault (m .totalFrames) 0 cs ≡ clear) (s .splits) (keys-clear m clean))
 
   first-row : f ≡ pos (length (allKeys (s .before)))
@@ -105,7 +104,7 @@ sample-from-text text table m e bone channel at h k l =
 -- ---- every channel of a text that is taken has keys, whose frames are sound
 
 module _ (text : List ℕ) (table : List ℤ) (m : Movement) (e : movementAnswer text (length table) ≡ accepted m) (bone channel : ℕ) (h : bone < length (m .bones)) (k : channel < 10) where
-  pub channel-sound : framesFault 15 (keyFine (m .totalFrames)) none 0 (channelOf m bone channel) ≡ clear
+  pub channel-sound : channelFault (m .totalFrames) none 0 (channelOf m bone channel) ≡ clear
   unfolding channelOf
   channel-sound =
       let w = whole-read text table m e in

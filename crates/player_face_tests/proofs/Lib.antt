@@ -1,4 +1,3 @@
 -- Laws that belong to no one function.
 pub mod Corners
 pub mod Owners
-pub mod PatternLines

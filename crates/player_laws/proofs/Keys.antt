@@ -15,7 +15,7 @@ use lib.Seq.{split-at, drop-cons}
 use Rattle.refusal.specs.Faults.{clear, fault}
 use Rattle.text_numerals.proofs.Numerals.{and-true}
 use Rattle.tra4_text.specs.Movement.{Key, Channel, frameOf}
-use Rattle.tra4_text.specs.Rules.{framesFault, keyFine, isFrame, isZero, rises}
+use Rattle.tra4_text.specs.Rules.{channelFault, keyFine, isFrame, isZero, rises}
 use Rattle.player_spec.specs.Fractions.{factor, lowest, whole}
 use Rattle.player_spec.specs.Samples.{keyFrame, keyValue, line, sampleFrom, sampleOf}
 use Rattle.player_samples.proofs.Factors.{lowest-coprime}
@@ -33,19 +33,19 @@ rises-natural (pos a) (pos b) h k e = ltb-true a b e
 rises-natural (pos a) (negsuc b) h k e = absurd (false≢true k)
 rises-natural (negsuc a) b h k e = absurd (false≢true h)
 
-step : (total : ℤ) (before : Option ℤ) (i : ℕ) (n : Key) (ks : List Key) → framesFault 15 (keyFine total) before i (n ∷ ks) ≡ clear → (keyFine total before n ≡ true) × (framesFault 15 (keyFine total) (some (frameOf n)) (suc i) ks ≡ clear)
-unfolding framesFault
+step : (total : ℤ) (before : Option ℤ) (i : ℕ) (n : Key) (ks : List Key) → channelFault total before i (n ∷ ks) ≡ clear → (keyFine total before n ≡ true) × (channelFault total (some (frameOf n)) (suc i) ks ≡ clear)
+unfolding channelFault
 step total before i n ks e = go (keyFine total before n) refl
   where
-    go : (v : Bool) → keyFine total before n ≡ v → (keyFine total before n ≡ true) × (framesFault 15 (keyFine total) (some (frameOf n)) (suc i) ks ≡ clear)
-    go true o = (o, rw (o, framesFault) at e)
-    go false o = absurd (faulty 15 i (rw (o, framesFault) at e))
+    go : (v : Bool) → keyFine total before n ≡ v → (keyFine total before n ≡ true) × (channelFault total (some (frameOf n)) (suc i) ks ≡ clear)
+    go true o = (o, rw (o, channelFault) at e)
+    go false o = absurd (faulty 15 i (rw (o, channelFault) at e))
 
 fine-frame : (total : ℤ) (before : Option ℤ) (n : Key) → keyFine total before n ≡ true → (leZ (pos 0) (frameOf n) ≡ true) × (rises before (frameOf n) ≡ true)
 unfolding keyFine isFrame
 fine-frame total before n e = let p = and-true _ _ e in (and-true _ _ (p .0) .0, p .1)
 
-rise-after : (total : ℤ) (k : Key) (i : ℕ) (ks : List Key) → leZ (pos 0) (frameOf k) ≡ true → framesFault 15 (keyFine total) (some (frameOf k)) i ks ≡ clear → Rising k ks
+rise-after : (total : ℤ) (k : Key) (i : ℕ) (ks : List Key) → leZ (pos 0) (frameOf k) ≡ true → channelFault total (some (frameOf k)) i ks ≡ clear → Rising k ks
 unfolding rises keyFrame
 rise-after total k i [] h e = tt
 rise-after total k i (n ∷ ks) h e =
@@ -53,7 +53,7 @@ rise-after total k i (n ∷ ks) h e =
     let f = fine-frame total (some (frameOf k)) n (s .0) in
     (rises-natural (frameOf k) (frameOf n) h (f .0) (f .1), rise-after total n (suc i) ks (f .0) (s .1))
 
-pub frames-rise : (total : ℤ) (k : Key) (ks : List Key) → framesFault 15 (keyFine total) none 0 (k ∷ ks) ≡ clear → Rising k ks
+pub frames-rise : (total : ℤ) (k : Key) (ks : List Key) → channelFault total none 0 (k ∷ ks) ≡ clear → Rising k ks
 frames-rise total k ks e = let s = step total none 0 k ks e in rise-after total k 1 ks (fine-frame total none k (s .0) .0) (s .1)
 
 zero-natural : (z : ℤ) → isZero z ≡ true → natAbs z ≡ 0
@@ -61,24 +61,24 @@ unfolding isZero
 zero-natural (pos n) e = eqb-true n 0 e
 zero-natural (negsuc n) e = absurd (false≢true e)
 
-pub frames-begin : (total : ℤ) (k : Key) (ks : List Key) → framesFault 15 (keyFine total) none 0 (k ∷ ks) ≡ clear → keyFrame k ≡ 0
+pub frames-begin : (total : ℤ) (k : Key) (ks : List Key) → channelFault total none 0 (k ∷ ks) ≡ clear → keyFrame k ≡ 0
 unfolding rises keyFrame
 frames-begin total k ks e = zero-natural (frameOf k) (fine-frame total none k (step total none 0 k ks e .0) .1)
 
 -- ---- a channel split at its keys
 
-module _ (total : ℤ) (c before after : List Key) (sound : framesFault 15 (keyFine total) none 0 c ≡ clear) where
+module _ (total : ℤ) (c before after : List Key) (sound : channelFault total none 0 c ≡ clear) where
   pub on-key : (k : Key) → c ≡ before ++ (k ∷ after) → sampleOf c (keyFrame k) ≡ whole (keyValue k)
-  on-key k e = rw e (go before (subst (λ (x : List Key). framesFault 15 (keyFine total) none 0 x ≡ clear) e sound))
+  on-key k e = rw e (go before (subst (λ (x : List Key). channelFault total none 0 x ≡ clear) e sound))
     where
-      go : (b : List Key) → framesFault 15 (keyFine total) none 0 (b ++ (k ∷ after)) ≡ clear → sampleOf (b ++ (k ∷ after)) (keyFrame k) ≡ whole (keyValue k)
+      go : (b : List Key) → channelFault total none 0 (b ++ (k ∷ after)) ≡ clear → sampleOf (b ++ (k ∷ after)) (keyFrame k) ≡ whole (keyValue k)
       go [] s = sample-first k after (frames-rise total k after s)
       go (j ∷ b) s = sample-later j b k after (frames-rise total j (b ++ (k ∷ after)) s)
 
   pub on-line : (k n : Key) (at : ℕ) → c ≡ before ++ (k ∷ n ∷ after) → keyFrame k ≤ at → at < keyFrame n → sampleOf c at ≡ line k n at
-  on-line k n at e h l = rw e (go before (subst (λ (x : List Key). framesFault 15 (keyFine total) none 0 x ≡ clear) e sound))
+  on-line k n at e h l = rw e (go before (subst (λ (x : List Key). channelFault total none 0 x ≡ clear) e sound))
     where
-      go : (b : List Key) → framesFault 15 (keyFine total) none 0 (b ++ (k ∷ n ∷ after)) ≡ clear → sampleOf (b ++ (k ∷ n ∷ after)) at ≡ line k n at
+      go : (b : List Key) → channelFault total none 0 (b ++ (k ∷ n ∷ after)) ≡ clear → sampleOf (b ++ (k ∷ n ∷ after)) at ≡ line k n at
       go [] s = sample-between-first k n after at l
       go (j ∷ b) s = sample-between j b k n after at (frames-rise total j (b ++ (k ∷ n ∷ after)) s) h l
 
@@ -86,9 +86,9 @@ module _ (total : ℤ) (c before after : List Key) (sound : framesFault 15 (keyF
   between-keys k n at e h l = rw (on-line k n at e h l) (line-between k n at h l)
 
   pub past-last : (k : Key) (at : ℕ) → c ≡ before ++ (k ∷ []) → keyFrame k ≤ at → sampleOf c at ≡ whole (keyValue k)
-  past-last k at e h = rw e (go before (subst (λ (x : List Key). framesFault 15 (keyFine total) none 0 x ≡ clear) e sound))
+  past-last k at e h = rw e (go before (subst (λ (x : List Key). channelFault total none 0 x ≡ clear) e sound))
     where
-      go : (b : List Key) → framesFault 15 (keyFine total) none 0 (b ++ (k ∷ [])) ≡ clear → sampleOf (b ++ (k ∷ [])) at ≡ whole (keyValue k)
+      go : (b : List Key) → channelFault total none 0 (b ++ (k ∷ [])) ≡ clear → sampleOf (b ++ (k ∷ [])) at ≡ whole (keyValue k)
       go [] s = sample-alone k at
       go (j ∷ b) s = sample-past j b k at (frames-rise total j (b ++ (k ∷ [])) s) h
 
@@ -114,14 +114,14 @@ from-lowest k (n ∷ ks) at r h = go (leb (keyFrame n) at) refl (from-lowest n k
     go true e ih = rw (e, sampleFrom) (ih (leb-true _ _ e))
     go false e ih = rw (e, sampleFrom) (lowest-lowest _ _ (omega (arith, r .0)))
 
-pub sample-lowest : (total : ℤ) (c : List Key) (at : ℕ) → framesFault 15 (keyFine total) none 0 c ≡ clear → LowestTerms (sampleOf c at)
+pub sample-lowest : (total : ℤ) (c : List Key) (at : ℕ) → channelFault total none 0 c ≡ clear → LowestTerms (sampleOf c at)
 unfolding sampleOf
 sample-lowest total [] at e = whole-lowest (pos 0)
 sample-lowest total (k ∷ ks) at e = from-lowest k ks at (frames-rise total k ks e) (omega (arith, frames-begin total k ks e))
 
 -- ---- by key row
 
-module _ (total : ℤ) (c : Channel) (sound : framesFault 15 (keyFine total) none 0 c ≡ clear) (i : ℕ) where
+module _ (total : ℤ) (c : Channel) (sound : channelFault total none 0 c ≡ clear) (i : ℕ) where
   -- on a key the sample is its value
   pub on-key-at : i < length c → sampleOf c (keyFrame (keyAt c i)) ≡ whole (keyValue (keyAt c i))
   unfolding keyAt

@@ -1,4 +1,5 @@
--- Theorems on exact samples.
+-- Theorems on exact samples, and on the order of pattern lines.
 pub mod Samples
 pub mod Between
 pub mod Keys
+pub mod Exchanged

@@ -8,7 +8,7 @@ use borrow.Author.Tests.{ltb-true, ltb-false, le-leb, lt-leb}
 use lib.Dec.{ltb}
 use lib.IntN.{ℤ}
 use Rattle.tra4_text.specs.Movement.{Key, frameOf}
-use Rattle.tra4_text.specs.Rules.{framesFault, keyFine}
+use Rattle.tra4_text.specs.Rules.{channelFault, keyFine}
 use Rattle.player_spec.specs.Fractions.{Fraction}
 use Rattle.player_spec.specs.Samples.{keyFrame, keyValue, sampleFrom, sampleOf}
 use Rattle.refusal.specs.Faults.{isClear}
@@ -17,16 +17,16 @@ use Rattle.player_samples.specs.Internal.Pass.{mayFollow, decided, orLas
 
 -- keys without a fault
 abbrev sound : ℤ → Option ℤ → ℕ → List Key → Bool
-sound total before row ks = isClear (framesFault 15 (keyFine total) before row ks) && valuesFine ks
+sound total before row ks = isClear (channelFault total before row ks) && valuesFine ks
 
 -- the first is tested, and then the others
 sound-more : (total : ℤ) (before : Option ℤ) (row : ℕ) (n : Key) (ks : List Key) → keyFine total before n ≡ true → isFloat (keyValue n) ≡ true → sound total before row (n ∷ ks) ≡ sound total (some (frameOf n)) (suc row) ks
-unfolding framesFault valuesFine keyValue
-sound-more total before row n ks e f = rw (e, f, framesFault)
+unfolding channelFault valuesFine keyValue
+sound-more total before row n ks e f = rw (e, f, channelFault)
 
 sound-late : (total : ℤ) (before : Option ℤ) (row : ℕ) (n : Key) (ks : List Key) → keyFine total before n ≡ false → sound total before row (n ∷ ks) ≡ false
-unfolding framesFault isClear
-sound-late total before row n ks e = rw (e, framesFault)
+unfolding channelFault isClear
+sound-late total before row n ks e = rw (e, channelFault)
 
 both-false : (a : Bool) → (a && false) ≡ false
 both-false true = refl
@@ -34,7 +34,7 @@ both-false false = refl
 
 sound-wide : (total : ℤ) (before : Option ℤ) (row : ℕ) (n : Key) (ks : List Key) → isFloat (keyValue n) ≡ false → sound total before row (n ∷ ks) ≡ false
 unfolding valuesFine keyValue
-sound-wide total before row n ks e = rw e (both-false (isClear (framesFault 15 (keyFine total) before row (n ∷ ks))))
+sound-wide total before row n ks e = rw e (both-false (isClear (channelFault total before row (n ∷ ks))))
 
 -- what is known, as a sample
 known : Option Fraction → Key → List Key → ℕ → Fraction
@@ -56,7 +56,7 @@ known-more none k n ks at = go (ltb at (keyFrame n)) refl
     go false e = rw (e, decided, le-leb (keyFrame n) at (ltb-false at (keyFrame n) e), sampleFrom)
 
 pass-sound : (total : ℤ) (at row : ℕ) (k : Key) (d : Option Fraction) (ks : List Key) → passFrom total at k d ks ≡ onlyIf (sound total (some (frameOf k)) row ks) (known d k ks at)
-unfolding passFrom onlyIf framesFault isClear valuesFine
+unfolding passFrom onlyIf channelFault isClear valuesFine
 pass-sound total at row k d [] = ap some (known-last d k at)
 pass-sound total at row k d (n ∷ ks) = go (keyFine total (some (frameOf k)) n) (isFloat (keyValue n)) refl refl (pass-sound total at (suc row) n (decided d k n at) ks)
   where
@@ -65,7 +65,7 @@ pass-sound total at row k d (n ∷ ks) = go (keyFine total (some (frameOf k)) n)
     go true false e f ih = unfold mayFollow in (rw (e, f, passFrom, sound-wide total (some (frameOf k)) row n ks f))
     go false v e f ih = unfold mayFollow in (rw (e, passFrom, sound-late total (some (frameOf k)) row n ks e))
 
-pub pass-is : (total : ℤ) (at : ℕ) (k : Key) (ks : List Key) → passOver total at (k ∷ ks) ≡ onlyIf (isClear (framesFault 15 (keyFine total) none 0 (k ∷ ks)) && valuesFine (k ∷ ks)) (sampleOf (k ∷ ks) at)
+pub pass-is : (total : ℤ) (at : ℕ) (k : Key) (ks : List Key) → passOver total at (k ∷ ks) ≡ onlyIf (isClear (channelFault total none 0 (k ∷ ks)) && valuesFine (k ∷ ks)) (sampleOf (k ∷ ks) at)
 unfolding passOver sampleOf onlyIf
 pass-is total at k ks = go (keyFine total none k) (isFloat (keyValue k)) refl refl
   where

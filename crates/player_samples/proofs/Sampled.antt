@@ -8,7 +8,7 @@ use native.Mathlib.Omega.{arith}
 use borrow.Author.Tests.{lt-ltb, le-ltb, leb-true}
 use lib.IntN.{ℤ, pos, negsuc, natAbs}
 use lib.ListN.{take, drop, length-take, length-drop}
-use Rattle.tra4_text.specs.Rules.{framesFault, keyFine}
+use Rattle.tra4_text.specs.Rules.{channelFault}
 use Rattle.player_samples.specs.declared.pass.Pass.{Pass}
 use Rattle.table_counts.specs.declared.counts.MovementCounts.{MovementCounts}
 use Rattle.player_spec.specs.Fractions.{Fraction, whole}
@@ -33,7 +33,7 @@ range-facts n (pos f) (pos (suc c)) h = (refl, refl, omega arith, leb-true (f + 
 range-facts n (pos f) (negsuc c) h = absurd (false≢true h)
 range-facts n (negsuc f) c h = absurd (false≢true h)
 
-pass-rows : (total : ℤ) (at : ℕ) (table : List ℤ) (i c : ℕ) → 0 < c → passOver total at (rowsAt 2 table i c) ≡ onlyIf (isClear (framesFault 15 (keyFine total) none 0 (rowsAt 2 table i c)) && valuesFine (rowsAt 2 table i c)) (sampleOf (rowsAt 2 table i c) at)
+pass-rows : (total : ℤ) (at : ℕ) (table : List ℤ) (i c : ℕ) → 0 < c → passOver total at (rowsAt 2 table i c) ≡ onlyIf (isClear (channelFault total none 0 (rowsAt 2 table i c)) && valuesFine (rowsAt 2 table i c)) (sampleOf (rowsAt 2 table i c) at)
 unfolding rowsAt
 pass-rows total at table i zero h = absurd (omega arith)
 pass-rows total at table i (suc c) h = pass-is total at _ _

@@ -19,7 +19,8 @@ use Rattle.player_spec.specs.Lookups.{isFloat}
 use Rattle.player_samples.specs.Internal.Pass.{mayFollow, orLast, passFrom, passOver}
 use Rattle.player_samples.specs.Internal.Passing.{keyOf, knownAs, stateOf, ifFine, thenFrom, finished, KeyRows}
 use Rattle.table_columns.proofs.Parts.{two-at}
-use Rattle.player_tests.proofs.Numbers.{zero-is, float-size}
+use Rattle.tra4_text.proofs.Zero.{zero-is}
+use Rattle.player_tests.proofs.Numbers.{float-size}
 
 -- ---- the rows left
 

@@ -1,5 +1,4 @@
 -- Laws that belong to no one function.
-pub mod FlagRows
-pub mod Flagged
+pub mod LentRows
 pub mod OwnedCorners
 pub mod ShownTests

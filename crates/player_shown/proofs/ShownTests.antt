@@ -13,23 +13,36 @@ use Rattle.tra4_text.specs.Rules.{patternsFault}
 use Rattle.table_references.specs.Index.{isIndex}
 use Rattle.table_counts.specs.declared.counts.MovementCounts.{MovementCounts}
 use Rattle.table_counts.specs.declared.counts.FigureCounts.{FigureCounts}
-use Rattle.player_shown.specs.declared.flags.Visibility.{Visibility}
-use Rattle.player_shown.specs.declared.flags.Visibility.the-variants as flags
-use Rattle.player_spec.specs.Faces.{lastFlag}
+use Rattle.player_shown.specs.declared.visibility.Visibility.{Visibility}
+use Rattle.player_shown.specs.declared.visibility.Visibility.the-variants as answers
+use Rattle.player_spec.specs.Deciding.{Line, deciding, stateBy}
 use Rattle.refusal.specs.Faults.{isClear}
 use Rattle.table_movement.specs.Sections.{holdsMovement}
 use Rattle.table_figure.specs.Sections.{holdsFigure}
 use Rattle.table_columns.specs.Parts.{numberAt}
 use Rattle.player_spec.specs.Lookups.{onlyIf, isAsked, sizeFine, cornersFine, linesFine, faceAt, ownersFine, ownedCorners, patternRows, patternsFine, canShow, groupFlag, shownIn}
-use Rattle.player_shown.specs.Internal.Rows.{rowOwned, rowShown, bothShown}
+use Rattle.player_shown.specs.Internal.Rows.{rowOwned, rowShown, stateOf, bothShown}
+use Rattle.player_patterns.specs.Answers.{rowAndFlag, decidedIn}
 use Rattle.player_spec.specs.Answers.{numbered}
 use Rattle.player_shown.specs.Answers.{showed, visible}
 
 pub showed-is : (v : Visibility) → showed v ≡ numbered (visible v)
 unfolding showed numbered visible
-showed-is flags.Refused = refl
-showed-is flags.Shown = refl
-showed-is flags.Hidden = refl
+showed-is answers.Refused = refl
+showed-is answers.Shown = refl
+showed-is answers.Hidden = refl
+
+-- ---- a group's state
+
+state-by : (v : Bool) (best : Option Line) → stateOf (onlyIf v (rowAndFlag best)) ≡ onlyIf v (stateBy best)
+unfolding stateOf onlyIf rowAndFlag stateBy
+state-by true none = refl
+state-by true (some l) = refl
+state-by false best = refl
+
+pub state-is : (total : ℤ) (groups g at : ℕ) (ps : List Pattern) → stateOf (decidedIn total groups g at ps) ≡ onlyIf (isClear (patternsFault total ps) && linesFine groups ps) (stateBy (deciding g at ps))
+unfolding decidedIn
+state-is total groups g at ps = state-by (isClear (patternsFault total ps) && linesFine groups ps) (deciding g at ps)
 
 -- ---- both
 
@@ -76,14 +89,14 @@ module _ (n : FigureCounts) (table row : List ℤ) (ps : List Pattern) (total : 
       rw h
       (unsettled (sizeFine size && cornersFine (n .points) (natAbs size) vertices && ownersFine n table (natAbs size) vertices)
       (isNone group || (isClear (patternsFault total ps) && linesFine (n .groups) ps))
-      (ownedCorners n table (natAbs size) vertices && (isNone group || lastFlag (natAbs group) at false ps)))
+      (ownedCorners n table (natAbs size) vertices && (isNone group || stateBy (deciding (natAbs group) at ps))))
 
   module _ (known : isIndex (n .groups) group ≡ true) where
     pub of-polygons : isNone group ≡ true → rowOwned n table row ≡ answer
     unfolding rowShown rowOwned
     of-polygons h = rw (known, h) (lone _ _)
 
-    pub in-group : isNone group ≡ false → bothShown (rowOwned n table row) (onlyIf (isClear (patternsFault total ps) && linesFine (n .groups) ps) (lastFlag (natAbs group) at false ps)) ≡ answer
+    pub in-group : isNone group ≡ false → bothShown (rowOwned n table row) (onlyIf (isClear (patternsFault total ps) && linesFine (n .groups) ps) (stateBy (deciding (natAbs group) at ps))) ≡ answer
     unfolding rowShown rowOwned
     in-group h = rw (known, h) (joined _ _ _ _)
 

@@ -2,16 +2,16 @@
 use mathlib.Core.Option.{Option, none, some}
 use mathlib.Core.Bool.{Bool, true, false}
 use Prim.Native.Nat.{ℕ}
-use Rattle.player_shown.specs.declared.flags.Visibility.{Visibility}
-use Rattle.player_shown.specs.declared.flags.Visibility.the-variants as flags
+use Rattle.player_shown.specs.declared.visibility.Visibility.{Visibility}
+use Rattle.player_shown.specs.declared.visibility.Visibility.the-variants as answers
 
 unfoldable pub showed : Visibility → ℕ × ℕ × ℕ × Option Bool
-showed flags.Refused = (21, 0, 0, none)
-showed flags.Shown = (0, 0, 0, some true)
-showed flags.Hidden = (0, 0, 0, some false)
+showed answers.Refused = (21, 0, 0, none)
+showed answers.Shown = (0, 0, 0, some true)
+showed answers.Hidden = (0, 0, 0, some false)
 
 -- the same without number, place and file, within the code
 unfoldable pub visible : Visibility → Option Bool
-visible flags.Refused = none
-visible flags.Shown = some true
-visible flags.Hidden = some false
+visible answers.Refused = none
+visible answers.Shown = some true
+visible answers.Hidden = some false

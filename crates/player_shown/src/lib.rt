@@ -1,7 +1,7 @@
 // Whether a face is shown at a frame.
-mod flags;
 mod owning;
 mod showing;
+mod visibility;
 
-pub use flags::Visibility;
 pub use showing::shown;
+pub use visibility::Visibility;

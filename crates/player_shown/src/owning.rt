@@ -6,7 +6,7 @@ ghost use Rattle.table_columns.specs.Columns.{faceVertices};
 ghost use Rattle.table_figure.specs.Internal.Found.{Found};
 ghost use Rattle.player_shown.specs.Internal.Rows.{ownedIn, rowOwned};
 ghost use Rattle.player_shown.specs.Answers.{visible};
-use crate::flags::Visibility;
+use crate::visibility::Visibility;
 use player_face_tests::corners_fine;
 use player_face_tests::size_fine;
 use table_columns::FACE_SIZE;

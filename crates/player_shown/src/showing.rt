@@ -1,16 +1,18 @@
 // Whether a face is shown at a frame.
 ghost use mathlib.Core.Path.{_≡_};
-ghost use Prim.Native.Nat.{_*_, _≤_};
+ghost use Prim.Native.Nat.{_/_};
 ghost use lib.ListN.{length};
 ghost use Rattle.table_columns.specs.Parts.{rowsAt};
 ghost use Rattle.table_figure.specs.Internal.Found.{Found};
 ghost use Rattle.player_spec.specs.Lookups.{shownIn};
 ghost use Rattle.player_spec.specs.Answers.{numbered};
-ghost use Rattle.player_shown.specs.Internal.Rows.{rowShown, bothShown};
+ghost use Rattle.player_shown.specs.Internal.Rows.{rowShown};
 ghost use Rattle.player_shown.specs.Answers.{showed, visible};
-use crate::flags::Visibility;
-use crate::flags::group_flag;
 use crate::owning::row_owned;
+use crate::visibility::Visibility;
+use crate::visibility::both;
+use crate::visibility::state;
+use player_patterns::deciding_line;
 use player_tests::is_asked;
 use table_columns::FACE_GROUP;
 use table_counts::FACE_WIDTH;
@@ -23,20 +25,6 @@ use table_movement::movement_in;
 use table_references::is_index;
 use table_references::is_none;
 
-fn both(a: Visibility, b: Visibility) -> Visibility
-    ensures { λ r. ⌜ visible r ≡ bothShown (visible a) (visible b) ⌝ }
-{
-    match a {
-        Visibility::Refused => Visibility::Refused,
-        Visibility::Shown => b,
-        Visibility::Hidden => match b {
-            Visibility::Refused => Visibility::Refused,
-            Visibility::Shown => Visibility::Hidden,
-            Visibility::Hidden => Visibility::Hidden,
-        },
-    }
-}
-
 // By a face's row and the pattern lines, in rows of three numbers.
 fn row_shown(
     table: &[i64],
@@ -44,12 +32,11 @@ fn row_shown(
     s: FigureSections,
     row: &[i64],
     patterns: &[i64],
-    count: usize,
     total: i64,
     at: usize,
 ) -> Visibility
-    requires { ⌜ Found n (now table) s × (length (now row) ≡ 11) × (length (now patterns) ≡ count * 3) × (count ≤ 256) ⌝ }
-    ensures { λ r. ⌜ visible r ≡ rowShown n (now (table .entry)) (now (row .entry)) (rowsAt 3 (now (patterns .entry)) 0 count) total at ⌝ }
+    requires { ⌜ Found n (now table) s × (length (now row) ≡ 11) ⌝ }
+    ensures { λ r. ⌜ visible r ≡ rowShown n (now (table .entry)) (now (row .entry)) (rowsAt 3 (now (patterns .entry)) 0 (length (now (patterns .entry)) / 3)) total at ⌝ }
 {
     let group = row[FACE_GROUP];
     if !is_index(n.groups, group) {
@@ -59,8 +46,8 @@ fn row_shown(
     if is_none(group) {
         return corners;
     }
-    let flag = group_flag(patterns, count, total, n.groups, group as usize, at);
-    both(corners, flag)
+    let line = deciding_line(patterns, total, n.groups, group as usize, at);
+    both(corners, state(line))
 }
 
 // Whether a face is shown at a frame, in any tables with any counts.
@@ -98,7 +85,6 @@ pub fn shown(
         s,
         &table[base..base + FACE_WIDTH],
         &moves[from..from + count * PATTERN_WIDTH],
-        count,
         total,
         at,
     )

@@ -1,19 +1,22 @@
 -- Lookups on small tables, by computation.
 use mathlib.Core.Path.{_≡_, refl}
-use mathlib.Core.List.{List, [], _∷_, map}
-use mathlib.Core.Option.{none, some}
-use mathlib.Core.Bool.{true, false}
+use mathlib.Core.List.{List, [], _∷_, _++_, map}
+use mathlib.Core.Option.{Option, none, some}
+use mathlib.Core.Bool.{Bool, true, false}
 use Prim.Native.Nat.{ℕ}
 use lib.IntN.{ℤ, pos, negsuc}
-use Rattle.refusal.specs.Rules.{tooMany}
+use lib.ListN.{replicate}
+use Rattle.refusal.specs.FirstBad.{firstBad}
+use Rattle.refusal.specs.Rules.{orElse, tooMany}
 use Rattle.tra4_text.specs.Rules as tra4
-use Rattle.tra4_text.specs.Movement.{frameOf, groupOf}
+use Rattle.tra4_text.specs.Movement.{Pattern, frameOf, groupOf}
 use Rattle.table_references.specs.References.{isRow, isNone, sameNumber}
 use Rattle.table_references.specs.Index.{isIndex}
 use Rattle.player_spec.specs.Fractions.{Fraction, factorIn, factor, signedAs, lowest, whole}
 use Rattle.player_spec.specs.Samples.{keyFrame, keyValue, line, sampleFrom, sampleOf}
-use Rattle.player_spec.specs.Faces.{inGroup, inGroups, groupedFaces, allOwned, applies, flagOf, lastFlag, groupShown, shownOf, rowAt, uvAt, cornerOf}
-use Rattle.refusal.specs.Faults.{isClear}
+use Rattle.player_spec.specs.Deciding.{Line, lineFrame, applies, flagOf, notAfter, better, decidingFrom, deciding, stateBy}
+use Rattle.player_spec.specs.Faces.{inGroup, inGroups, groupedFaces, allOwned, groupShown, shownOf, rowAt, uvAt, cornerOf}
+use Rattle.refusal.specs.Faults.{clear, fault, isClear}
 use Rattle.table_movement.specs.Sections.{fewInMovement, keysBegin, patternsBegin, movementEnd, holdsMovement}
 use Rattle.table_figure.specs.Sections.{fewInFigure, groupsBegin, pointsBegin, bonesBegin, ownersBegin, uvsBegin, facesBegin, figureEnd, holdsFigure}
 use Rattle.table_columns.specs.Parts.{numberAt, numbersAt, rowsAt}
@@ -68,18 +71,49 @@ moveCounts = record { bones = 1; keys = 11; patterns = 0 }
 
 -- frames 0 to 5 of roll: on a key, between two, on the last, past it, and none
 pub roll-example : map (λ (at : ℕ). sampleIn moveCounts moves 0 9 at) (0 ∷ 1 ∷ 2 ∷ 4 ∷ 5 ∷ []) ≡ some (fraction (pos 1500000) 1) ∷ some (fraction (pos 1499999) 2) ∷ some (fraction (negsuc 0) 1) ∷ some (fraction (negsuc 0) 1) ∷ none ∷ []
-unfolding inForm tooMany movementLists figureLists fewInMovement fewInFigure groupsBegin figureMosts isRow isNone sameNumber movementMosts tra4.totalFault tra4.isFrame tra4.isZero tra4.rises tra4.neverFalls tra4.framesFault tra4.keyFine tra4.patternFine tra4.patternsFault frameOf groupOf factorIn factor signedAs lowest whole keyFrame keyValue line sampleFrom sampleOf inGroup inGroups groupedFaces allOwned applies flagOf lastFlag groupShown shownOf rowAt uvAt cornerOf numberAt numbersAt rowsAt isClear keysBegin patternsBegin movementEnd holdsMovement pointsBegin ownersBegin bonesBegin uvsBegin facesBegin figureEnd holdsFigure onlyIf isFloat allFloat isIndex isAsked isRange valuesFine pairAt channelKeys canSample sampleIn sizeFine cornersFine allNone faceAt ownerAt faceSound pointAt uvRow uvFine uvIn canCorner cornerIn ownersFine ownedCorners patternRows linesFine patternsFine canShow groupFlag shownIn
+unfolding inForm tooMany movementLists figureLists fewInMovement fewInFigure groupsBegin figureMosts isRow isNone sameNumber movementMosts tra4.totalFault tra4.isFrame tra4.isZero tra4.rises tra4.keyFine tra4.channelFault tra4.hasStart tra4.startFault tra4.patternFine tra4.patternsFault orElse firstBad frameOf groupOf factorIn factor signedAs lowest whole keyFrame keyValue line sampleFrom sampleOf inGroup inGroups groupedFaces allOwned lineFrame applies flagOf notAfter better decidingFrom deciding stateBy groupShown shownOf rowAt uvAt cornerOf numberAt numbersAt rowsAt isClear keysBegin patternsBegin movementEnd holdsMovement pointsBegin ownersBegin bonesBegin uvsBegin facesBegin figureEnd holdsFigure onlyIf isFloat allFloat isIndex isAsked isRange valuesFine pairAt channelKeys canSample sampleIn sizeFine cornersFine allNone faceAt ownerAt faceSound pointAt uvRow uvFine uvIn canCorner cornerIn ownersFine ownedCorners patternRows linesFine patternsFine canShow groupFlag shownIn
 roll-example = refl
 
 pub shown-example : map (λ (at : ℕ). shownIn figureCounts figure moveCounts moves 0 at) (0 ∷ 4 ∷ 5 ∷ []) ≡ some false ∷ some false ∷ none ∷ []
-unfolding inForm tooMany movementLists figureLists fewInMovement fewInFigure groupsBegin figureMosts isRow isNone sameNumber movementMosts tra4.totalFault tra4.isFrame tra4.isZero tra4.rises tra4.neverFalls tra4.framesFault tra4.keyFine tra4.patternFine tra4.patternsFault frameOf groupOf factorIn factor signedAs lowest whole keyFrame keyValue line sampleFrom sampleOf inGroup inGroups groupedFaces allOwned applies flagOf lastFlag groupShown shownOf rowAt uvAt cornerOf numberAt numbersAt rowsAt isClear keysBegin patternsBegin movementEnd holdsMovement pointsBegin ownersBegin bonesBegin uvsBegin facesBegin figureEnd holdsFigure onlyIf isFloat allFloat isIndex isAsked isRange valuesFine pairAt channelKeys canSample sampleIn sizeFine cornersFine allNone faceAt ownerAt faceSound pointAt uvRow uvFine uvIn canCorner cornerIn ownersFine ownedCorners patternRows linesFine patternsFine canShow groupFlag shownIn
+unfolding inForm tooMany movementLists figureLists fewInMovement fewInFigure groupsBegin figureMosts isRow isNone sameNumber movementMosts tra4.totalFault tra4.isFrame tra4.isZero tra4.rises tra4.keyFine tra4.channelFault tra4.hasStart tra4.startFault tra4.patternFine tra4.patternsFault orElse firstBad frameOf groupOf factorIn factor signedAs lowest whole keyFrame keyValue line sampleFrom sampleOf inGroup inGroups groupedFaces allOwned lineFrame applies flagOf notAfter better decidingFrom deciding stateBy groupShown shownOf rowAt uvAt cornerOf numberAt numbersAt rowsAt isClear keysBegin patternsBegin movementEnd holdsMovement pointsBegin ownersBegin bonesBegin uvsBegin facesBegin figureEnd holdsFigure onlyIf isFloat allFloat isIndex isAsked isRange valuesFine pairAt channelKeys canSample sampleIn sizeFine cornersFine allNone faceAt ownerAt faceSound pointAt uvRow uvFine uvIn canCorner cornerIn ownersFine ownedCorners patternRows linesFine patternsFine canShow groupFlag shownIn
 shown-example = refl
 
 pub corner-example : map (λ (k : ℕ). cornerIn figureCounts figure 0 k) (1 ∷ 2 ∷ 3 ∷ []) ≡ some (record { position = pos 1500000 ∷ pos 0 ∷ pos 0 ∷ []; owner = pos 0; uv = none; material = pos 0 }) ∷ some (record { position = pos 0 ∷ negsuc 0 ∷ pos 0 ∷ []; owner = negsuc 0; uv = none; material = pos 0 }) ∷ none ∷ []
-unfolding inForm tooMany movementLists figureLists fewInMovement fewInFigure groupsBegin figureMosts isRow isNone sameNumber movementMosts tra4.totalFault tra4.isFrame tra4.isZero tra4.rises tra4.neverFalls tra4.framesFault tra4.keyFine tra4.patternFine tra4.patternsFault frameOf groupOf factorIn factor signedAs lowest whole keyFrame keyValue line sampleFrom sampleOf inGroup inGroups groupedFaces allOwned applies flagOf lastFlag groupShown shownOf rowAt uvAt cornerOf numberAt numbersAt rowsAt isClear keysBegin patternsBegin movementEnd holdsMovement pointsBegin ownersBegin bonesBegin uvsBegin facesBegin figureEnd holdsFigure onlyIf isFloat allFloat isIndex isAsked isRange valuesFine pairAt channelKeys canSample sampleIn sizeFine cornersFine allNone faceAt ownerAt faceSound pointAt uvRow uvFine uvIn canCorner cornerIn ownersFine ownedCorners patternRows linesFine patternsFine canShow groupFlag shownIn
+unfolding inForm tooMany movementLists figureLists fewInMovement fewInFigure groupsBegin figureMosts isRow isNone sameNumber movementMosts tra4.totalFault tra4.isFrame tra4.isZero tra4.rises tra4.keyFine tra4.channelFault tra4.hasStart tra4.startFault tra4.patternFine tra4.patternsFault orElse firstBad frameOf groupOf factorIn factor signedAs lowest whole keyFrame keyValue line sampleFrom sampleOf inGroup inGroups groupedFaces allOwned lineFrame applies flagOf notAfter better decidingFrom deciding stateBy groupShown shownOf rowAt uvAt cornerOf numberAt numbersAt rowsAt isClear keysBegin patternsBegin movementEnd holdsMovement pointsBegin ownersBegin bonesBegin uvsBegin facesBegin figureEnd holdsFigure onlyIf isFloat allFloat isIndex isAsked isRange valuesFine pairAt channelKeys canSample sampleIn sizeFine cornersFine allNone faceAt ownerAt faceSound pointAt uvRow uvFine uvIn canCorner cornerIn ownersFine ownedCorners patternRows linesFine patternsFine canShow groupFlag shownIn
 corner-example = refl
 
--- of a group's lines up to a frame the last counts
-pub flag-example : map (λ (at : ℕ). lastFlag 0 at false ((pos 0 ∷ pos 0 ∷ pos 1 ∷ []) ∷ (pos 2 ∷ pos 1 ∷ pos 1 ∷ []) ∷ (pos 3 ∷ pos 0 ∷ pos 0 ∷ []) ∷ [])) (0 ∷ 2 ∷ 3 ∷ []) ≡ true ∷ true ∷ false ∷ []
-unfolding lastFlag applies flagOf frameOf groupOf
-flag-example = refl
+-- ---- the deciding line, with lines as frame, group and flag
+
+abbrev lines : List (ℕ × ℕ × ℕ) → List Pattern
+lines = map (λ l. pos (l .0) ∷ pos (l .1) ∷ pos (l .2) ∷ [])
+
+abbrev row : Option Line → Option ℕ
+row none = none
+row (some l) = some (l .0)
+
+-- of a group's lines not after a frame the one of greatest frame, in whatever row; of two at one frame the later
+pub deciding-example :
+    (map (λ (at : ℕ). row (deciding 0 at (lines ((3, 0, 1) ∷ (0, 0, 0) ∷ (2, 1, 1) ∷ [])))) (0 ∷ 2 ∷ 3 ∷ 4 ∷ []) ≡ some 1 ∷ some 1 ∷ some 0 ∷ some 0 ∷ [])
+    × (map (λ (at : ℕ). row (deciding 0 at (lines ((2, 0, 1) ∷ (0, 0, 0) ∷ (2, 0, 0) ∷ [])))) (0 ∷ 1 ∷ 2 ∷ []) ≡ some 1 ∷ some 1 ∷ some 2 ∷ [])
+    × (map (λ (at : ℕ). row (deciding 1 at (lines ((0, 0, 1) ∷ (2, 1, 1) ∷ [])))) (0 ∷ 1 ∷ 2 ∷ []) ≡ none ∷ none ∷ some 1 ∷ [])
+unfolding lineFrame applies notAfter better decidingFrom deciding frameOf groupOf
+deciding-example = (refl, refl, refl)
+
+-- document 004's lists A and B: its example, and the same in another order
+abbrev listA : List Pattern
+listA = lines ((0, 0, 1) ∷ (10, 1, 1) ∷ (10, 0, 0) ∷ (15, 1, 0) ∷ [])
+
+abbrev listB : List Pattern
+listB = lines ((10, 1, 1) ∷ (10, 0, 0) ∷ (0, 0, 1) ∷ (15, 1, 0) ∷ [])
+
+abbrev states : ℕ → List Pattern → List Bool
+states g ps = map (λ (at : ℕ). stateBy (deciding g at ps)) (0 ∷ 1 ∷ 2 ∷ 3 ∷ 4 ∷ 5 ∷ 6 ∷ 7 ∷ 8 ∷ 9 ∷ 10 ∷ 11 ∷ 12 ∷ 13 ∷ 14 ∷ 15 ∷ [])
+
+pub order-example : (states 0 listA ≡ replicate 10 true ++ replicate 6 false) × (states 0 listB ≡ states 0 listA) × (states 1 listA ≡ replicate 10 false ++ replicate 5 true ++ (false ∷ [])) × (states 1 listB ≡ states 1 listA)
+unfolding lineFrame applies flagOf notAfter better decidingFrom deciding stateBy frameOf groupOf
+order-example = (refl, refl, refl, refl)
+
+-- and both keep rule 16, with any total above 15
+pub order-sound : map (λ (t : ℕ). tra4.patternsFault (pos t) listB) (16 ∷ 15 ∷ []) ≡ clear ∷ fault 16 3 ∷ []
+unfolding tra4.isFrame tra4.isZero tra4.hasStart tra4.startFault tra4.patternFine tra4.patternsFault orElse firstBad frameOf groupOf
+order-sound = refl

@@ -3,14 +3,13 @@ use mathlib.Core.List.{List, [], _∷_, _++_}
 use mathlib.Core.Bool.{Bool, true, false, _&&_}
 use mathlib.Core.Option.{Option, none, some}
 use Prim.Native.Nat.{ℕ, suc}
-use lib.Dec.{leb, eqb}
-use lib.IntN.{ℤ, pos, negsuc, natAbs}
+use lib.IntN.{ℤ, negsuc, natAbs}
 use lib.ListN.{getD}
 use Rattle.bac6_text.specs.Figure.{Bone, Face, Group, Figure}
 use Rattle.bac6_text.specs.Rules.{ownerOf}
 use Rattle.table_references.specs.References.{isNone}
-use Rattle.tra4_text.specs.Movement.{Pattern, frameOf, groupOf}
-use Rattle.table_columns.specs.Columns.{patternFlag}
+use Rattle.tra4_text.specs.Movement.{Pattern}
+use Rattle.player_spec.specs.Deciding.{deciding, stateBy}
 
 -- ---- faces with their groups, in row order: those of `Polygons` have none
 
@@ -32,21 +31,10 @@ unfoldable pub allOwned : List Bone → List ℤ → Bool
 allOwned bs [] = true
 allOwned bs (v ∷ vs) = elim (isNone (ownerOf bs v)) [ true ↦ false | false ↦ allOwned bs vs ]
 
--- a pattern line of a group, at or before a frame
-unfoldable pub applies : ℕ → ℕ → Pattern → Bool
-applies g at p = eqb (natAbs (groupOf p)) g && leb (natAbs (frameOf p)) at
-
-unfoldable pub flagOf : Pattern → Bool
-flagOf p = elim (eqb (natAbs (patternFlag p)) 0) [ true ↦ false | false ↦ true ]
-
--- the flag of the last such line, or what it was before
-unfoldable pub lastFlag : ℕ → ℕ → Bool → List Pattern → Bool
-lastFlag g at b [] = b
-lastFlag g at b (p ∷ ps) = elim (applies g at p) [ true ↦ lastFlag g at (flagOf p) ps | false ↦ lastFlag g at b ps ]
-
+-- a face of `Polygons`, or one whose group is shown at a frame
 unfoldable pub groupShown : Option ℕ → ℕ → List Pattern → Bool
 groupShown none at ps = true
-groupShown (some g) at ps = lastFlag g at false ps
+groupShown (some g) at ps = stateBy (deciding g at ps)
 
 unfoldable pub shownOf : List Bone → List Pattern → Face × Option ℕ → ℕ → Bool
 shownOf bs ps f at = allOwned bs (f .0 .vertices) && groupShown (f .1) at ps

@@ -1,6 +1,7 @@
 pub mod Answers
+pub mod Deciding
 pub mod Faces
 pub mod Fractions
+pub mod InOrder
 pub mod Lookups
 pub mod Samples
-pub mod Internal

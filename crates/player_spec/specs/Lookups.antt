@@ -5,16 +5,16 @@ use mathlib.Core.Option.{Option, none, some}
 use Prim.Native.Nat.{ℕ, zero, suc, _+_, _*_}
 use lib.Dec.{leb, ltb}
 use lib.IntN.{ℤ, pos, negsuc, natAbs}
-use lib.ListN.{getD, take, drop}
 use Rattle.table_references.specs.References.{isRow, isNone, sameNumber}
 use Rattle.table_references.specs.Index.{isIndex}
 use Rattle.tra4_text.specs.Movement.{Key, Pattern, groupOf}
-use Rattle.tra4_text.specs.Rules.{totalFault, framesFault, keyFine, patternsFault}
+use Rattle.tra4_text.specs.Rules.{totalFault, channelFault, patternsFault}
 use Rattle.table_counts.specs.declared.counts.MovementCounts.{MovementCounts}
 use Rattle.table_counts.specs.declared.counts.FigureCounts.{FigureCounts}
 use Rattle.player_spec.specs.Fractions.{Fraction}
 use Rattle.player_spec.specs.Samples.{sampleOf}
-use Rattle.player_spec.specs.Faces.{lastFlag, CornerOf}
+use Rattle.player_spec.specs.Deciding.{deciding, stateBy}
+use Rattle.player_spec.specs.Faces.{CornerOf}
 use Rattle.refusal.specs.Faults.{isClear}
 use Rattle.table_movement.specs.Sections.{keysBegin, patternsBegin, holdsMovement}
 use Rattle.table_figure.specs.Sections.{pointsBegin, ownersBegin, uvsBegin, facesBegin, holdsFigure}
@@ -66,7 +66,7 @@ module _ (n : MovementCounts) (table : List ℤ) where
       && ltb channel 10
       && isAsked (numberAt table 0) at
       && isRange (n .keys) (numberAt table (pairAt bone channel)) (numberAt table (pairAt bone channel + 1))
-      && isClear (framesFault 15 (keyFine (numberAt table 0)) none 0 (channelKeys bone channel))
+      && isClear (channelFault (numberAt table 0) none 0 (channelKeys bone channel))
       && valuesFine (channelKeys bone channel)
 
   unfoldable pub sampleIn : ℕ → ℕ → ℕ → Option Fraction
@@ -174,7 +174,7 @@ module _ (n : FigureCounts) (table : List ℤ) where
         && (isNone (faceGroup (faceAt face)) || patternsFine)
 
     unfoldable pub groupFlag : ℤ → ℕ → Bool
-    groupFlag g at = isNone g || lastFlag (natAbs g) at false patternRows
+    groupFlag g at = isNone g || stateBy (deciding (natAbs g) at patternRows)
 
     unfoldable pub shownIn : ℕ → ℕ → Option Bool
     shownIn face at =

@@ -1,16 +1,13 @@
 -- What the code's tests on an `i64` say of the definitions' tests, by the number's sign.
-use mathlib.Core.Path.{_≡_, refl, ap, sym, _∙_}
+use mathlib.Core.Path.{_≡_, refl, sym, _∙_}
 use mathlib.Core.Bool.{Bool, true, false, true≢false}
 use Prim.Native.Nat.{ℕ, zero, suc, _+_, _-_, _≤_, _<_}
 use native.Mathlib.Omega.{arith}
-use borrow.Author.Tests.{ltb-true, ltb-false, leb-true, leb-false, le-leb, lt-leb, eqb-true}
+use borrow.Author.Tests.{ltb-true, ltb-false, leb-true, leb-false, le-leb, lt-leb}
 use lib.Dec.{leb, ltb}
 use lib.IntN.{ℤ, pos, negsuc, natAbs}
 use lib.Signed.{ltZ}
-use mir.Syntax.{w64}
-use mir.Val.{SFits, toZ, ofZ}
-use mir.Facts.{toZ-ofZ}
-use Rattle.tra4_text.specs.Rules.{totalFault, isZero}
+use Rattle.tra4_text.specs.Rules.{totalFault}
 use Rattle.refusal.specs.Faults.{isClear}
 use Rattle.player_spec.specs.Lookups.{isFloat, isAsked, isRange}
 use Rattle.text_numerals.specs.Numbers.{inForm}
@@ -87,24 +84,6 @@ module _ (n : ℕ) where
       go false o = rw o (lt-leb (f + suc c) n (let m = leb-false (suc c) (n - f) o in omega arith))
   range-within (pos f) (negsuc c) e h l = let z : _≡_ {A = ℕ} 0 1 = cc in absurd (omega (arith, z))
   range-within (negsuc f) c e h l = let z : _≡_ {A = ℕ} 0 1 = cc in absurd (omega (arith, z))
-
--- ---- a number that is not negative, as a `usize`
-
-pub zero-is : (z : ℤ) → isZero z ≡ true → z ≡ pos 0
-unfolding isZero
-zero-is (pos n) e = ap pos (eqb-true n 0 e)
-zero-is (negsuc n) e = let z : _≡_ {A = ℕ} 0 1 = cc in absurd (omega (arith, z))
-
--- 0 by its bits
-pub zero-no : (z : ℤ) → (ofZ w64 z ≡ 0 → ⊥) → isZero z ≡ false
-zero-no z h = go (isZero z) refl
-  where
-    go : (b : Bool) → isZero z ≡ b → isZero z ≡ false
-    go true e = absurd (h (ap (ofZ w64) (zero-is z e)))
-    go false e = e
-
-pub zero-yes : (z : ℤ) → SFits w64 z → ofZ w64 z ≡ 0 → isZero z ≡ true
-zero-yes z f e = ap isZero (sym (toZ-ofZ f) ∙ ap (toZ w64) e) ∙ unfold isZero in refl
 
 -- ---- a float, by its size
 

@@ -15,7 +15,7 @@ use Rattle.bac6_text.specs.Rules.{Placed, placed, short, normalsFault, placedFa
 use Rattle.refusal.specs.FirstBad.{firstBad}
 use Rattle.tra4_text.specs.Movement as tra4
 use Rattle.tra4_text.specs.Movement.{frameOf}
-use Rattle.tra4_text.specs.Rules.{totalFault, framesFault, keyFine, keysFault, patternsFault, movementFault}
+use Rattle.tra4_text.specs.Rules.{totalFault, channelFault, keyFine, keysFault, hasStart, startFault, patternsFault, movementFault}
 use Rattle.pair_text.specs.Rules as pairs
 use Rattle.pair_text.specs.Rules.{namesAgree, namesFault, groupsFault, pairFault}
 use Rattle.refusal_laws.proofs.Texts.{Faulty}
@@ -75,15 +75,20 @@ module _ (R : ℕ → ℕ → Type 0) where
 
   -- ---- a movement's: 8 and 14 to 16
 
-  frames-faulty : (n : ℕ) (fine : Option ℤ → List ℤ → Bool) (before : Option ℤ) (row : ℕ) (rs : List (List ℤ)) → Anywhere n → Faulty R (framesFault n fine before row rs)
-  unfolding framesFault
-  frames-faulty n fine before row [] h = tt
-  frames-faulty n fine before row (r ∷ rs) h = test-faulty (fine before r) _ (frames-faulty n fine (some (frameOf r)) (suc row) rs h) (h row)
+  channel-faulty : (total : ℤ) (before : Option ℤ) (row : ℕ) (ks : tra4.Channel) → Anywhere 15 → Faulty R (channelFault total before row ks)
+  unfolding channelFault
+  channel-faulty total before row [] h = tt
+  channel-faulty total before row (k ∷ ks) h = test-faulty (keyFine total before k) _ (channel-faulty total (some (frameOf k)) (suc row) ks h) (h row)
 
   keys-faulty : (total : ℤ) (row : ℕ) (cs : List tra4.Channel) → Anywhere 15 → Faulty R (keysFault total row cs)
   unfolding keysFault
   keys-faulty total row [] h = tt
-  keys-faulty total row (c ∷ cs) h = or-faulty _ _ (frames-faulty 15 (keyFine total) _ row c h) (keys-faulty total (row + length c) cs h)
+  keys-faulty total row (c ∷ cs) h = or-faulty _ _ (channel-faulty total _ row c h) (keys-faulty total (row + length c) cs h)
+
+  start-faulty : (ps : List tra4.Pattern) → Anywhere 16 → Faulty R (startFault ps)
+  unfolding startFault
+  start-faulty [] h = tt
+  start-faulty (p ∷ ps) h = unless (hasStart (p ∷ ps)) 16 0 h
 
   pub movement-faulty : (m : tra4.Movement) → Anywhere 8 → Anywhere 14 → Anywhere 15 → Anywhere 16 → Faulty R (movementFault m)
   unfolding movementFault totalFault patternsFault
@@ -91,7 +96,7 @@ module _ (R : ℕ → ℕ → Type 0) where
       or-faulty _ _ (many-faulty 0 _ _ h8)
       (or-faulty _ _ (unless (leZ (pos 1) (m .totalFrames) && leZ (m .totalFrames) (pos 32767)) 14 0 h14)
       (or-faulty _ _ (keys-faulty _ 0 _ h15)
-      (frames-faulty 16 _ _ 0 (m .patterns) h16)))
+      (or-faulty _ _ (start-faulty (m .patterns) h16) (first-faulty 16 _ 0 (m .patterns) h16))))
 
   -- ---- a pair's: 18 to 20
 

@@ -3,10 +3,18 @@ use mathlib.Core.Path.{_≡_}
 use mathlib.Core.Logic.{_↔_, _⊎_}
 use mathlib.Core.List.{List, _∷_, _++_}
 use mathlib.Core.Bool.{true, false}
+use mathlib.Core.Option.{Option}
 use Prim.Native.Nat.{ℕ}
-use lib.IntN.{ℤ}
+use lib.IntN.{ℤ, natAbs}
+use lib.ListN.{length}
+use Rattle.refusal.specs.Faults.{clear, fault}
+use Rattle.refusal.specs.FirstBad.{all, firstBad}
 use Rattle.text_numerals.specs.Numbers.{value, wrong, INT, FLOAT, fixedOf, exponentOf, numberOf}
 use Rattle.text_numerals.specs.Exponents.{hasExponent, Power, Makes}
+use Rattle.tra4_text.specs.Movement.{Pattern, groupOf}
+use Rattle.tra4_text.specs.Rules.{patternFine, hasStart, patternsFault}
+use Rattle.player_spec.specs.Deciding.{lineFrame, Line, deciding, stateBy, Decides}
+use Rattle.player_spec.specs.InOrder.{neverFalls, lastFlag}
 
 -- ---- (vii): "A FLOAT may now end in `e`, an optional `-` and one digit 0 to 6. It is accepted if the value is a whole number of millionths, at most 9,999,999,999,999 either way."
 
@@ -21,3 +29,20 @@ pub record Exponents : Type 0 where
   pub added : (word : List ℕ) → hasExponent word ≡ true → fixedOf FLOAT word ≡ wrong
   pub without : (word : List ℕ) → hasExponent word ≡ false → numberOf FLOAT word ≡ fixedOf FLOAT word
   pub whole : (word : List ℕ) → numberOf INT word ≡ fixedOf INT word
+
+-- ---- (ii): "Lines stand in any order, and if there are any, one has frame 0. A group's state at a frame comes from its line of greatest frame not after it, the later among equals."
+
+-- `movementFault`, `shownOf` and `shownIn` say with `patternsFault` which lines are taken, and with `stateBy` and `deciding` what they show
+pub record AnyOrder : Type 0 where
+  -- rule 16: lines are taken exactly if one has frame 0, where there are any, and each keeps its own rule
+  pub taken : (total : ℤ) (ps : List Pattern) → patternsFault total ps ≡ clear ↔ (((length ps ≡ 0) ⊎ (hasStart ps ≡ true)) × (all (patternFine total) ps ≡ true))
+  -- its place: row 0 where there are lines and none has frame 0, else the first line that breaks its own rule
+  pub startless : (total : ℤ) (p : Pattern) (ps : List Pattern) → hasStart (p ∷ ps) ≡ false → patternsFault total (p ∷ ps) ≡ fault 16 0
+  pub started : (total : ℤ) (ps : List Pattern) → hasStart ps ≡ true → patternsFault total ps ≡ firstBad 16 (patternFine total) 0 ps
+  -- the line that decides of a group at a frame, with its row: all that apply give way to it; there is none exactly where none applies
+  pub greatest : (g at : ℕ) (ps : List Pattern) (best : Option Line) → deciding g at ps ≡ best ↔ Decides g at ps (length ps) best
+  -- in any order: neighbours may be exchanged, and no state changes, unless both are of one group and frame
+  pub rule : (total : ℤ) (before after : List Pattern) (p q : Pattern) → patternsFault total (before ++ (p ∷ q ∷ after)) ≡ clear → patternsFault total (before ++ (q ∷ p ∷ after)) ≡ clear
+  pub state : (g at : ℕ) (before after : List Pattern) (p q : Pattern) → (natAbs (groupOf p) ≡ natAbs (groupOf q) → lineFrame p ≡ lineFrame q → ⊥) → stateBy (deciding g at (before ++ (p ∷ q ∷ after))) ≡ stateBy (deciding g at (before ++ (q ∷ p ∷ after)))
+  -- lines whose frames never fall show what they did
+  pub unfallen : (g at : ℕ) (ps : List Pattern) → neverFalls 0 ps ≡ true → stateBy (deciding g at ps) ≡ lastFlag g at false ps

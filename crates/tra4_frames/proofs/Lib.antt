@@ -1,3 +1,3 @@
 -- Laws that belong to no one function.
 pub mod Frames
-pub mod Numbers
+pub mod Patterns

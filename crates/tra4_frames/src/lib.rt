@@ -1,6 +1,9 @@
-// Rules 15 and 16 of a movement: rows with a frame, each tested against the frame before it.
+// Rules 15 and 16 of a movement: a frame, the keys of a channel and the pattern lines.
+mod channel;
 mod frame;
+mod pattern;
 
-pub use frame::Timed;
-pub use frame::frames_fault;
-pub use frame::patterns_fault;
+pub use channel::channel_fault;
+pub use frame::is_frame;
+pub use pattern::pattern_fits;
+pub use pattern::patterns_fault;

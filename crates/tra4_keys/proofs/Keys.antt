@@ -11,7 +11,7 @@ use lib.IntN.{ℤ, pos, negsuc, natAbs, pos-ne-negsuc}
 use lib.Signed.{mag}
 use Rattle.refusal.specs.Faults.{clear, fault}
 use Rattle.refusal.specs.Rules.{orElse}
-use Rattle.tra4_text.specs.Rules.{framesFault, keyFine, keysFault}
+use Rattle.tra4_text.specs.Rules.{channelFault, keysFault}
 use Rattle.tra4_keys.specs.declared.key.Walk.{Walk}
 use Rattle.tra4_keys.specs.declared.key.Walk.the-variants.{At, Refused}
 use Rattle.tra4_keys.specs.Internal.Rows.{wholeRows}
@@ -66,7 +66,7 @@ unfolding keysFrom cut keysFault
 keys-end total keys row = refl
 
 -- the next channel has m keys: as many as its count says, or all that are left
-pub keys-step : (total : ℤ) (keys : List ℤ) (row n m : ℕ) (ns : List ℕ) → row * 2 ≤ length keys → m ≡ min n ((length keys - row * 2) / 2) → keysFrom total keys row (n ∷ ns) ≡ orElse (framesFault 15 (keyFine total) none row (rowsOf 2 m (drop (row * 2) keys))) (keysFrom total keys (row + m) ns)
+pub keys-step : (total : ℤ) (keys : List ℤ) (row n m : ℕ) (ns : List ℕ) → row * 2 ≤ length keys → m ≡ min n ((length keys - row * 2) / 2) → keysFrom total keys row (n ∷ ns) ≡ orElse (channelFault total none row (rowsOf 2 m (drop (row * 2) keys))) (keysFrom total keys (row + m) ns)
 unfolding keysFrom cut keysFault
 keys-step total keys row n m ns h e = rw (taken, count, dropped)
   where

@@ -7,8 +7,7 @@ ghost use Rattle.tra4_text.specs.Rules.{keysFault};
 ghost use Rattle.tra4_keys.specs.Internal.Keys.{countOf, boneCounts, channelsIn, Walked};
 use refusal::Checked;
 use table_counts::MOVEMENT_BONE_WIDTH;
-use tra4_frames::Timed;
-use tra4_frames::frames_fault;
+use tra4_frames::channel_fault;
 
 // The row after the keys that were walked, or the first fault among them.
 enum Walk {
@@ -54,7 +53,7 @@ fn bone_fault(total: i64, bone: &[i64], keys: &[i64], row: usize) -> Walk
         let count = rows_within(bone[column], (keys.len() - base) / 2);
         let next = at + count;
         column += 2;
-        match frames_fault(Timed::Key, total, &keys[base..], at, next) {
+        match channel_fault(total, &keys[base..], at, next) {
             Checked::Refused { number, place } => {
                 return Walk::Refused { number, place };
             }

@@ -17,9 +17,10 @@ use Rattle.parse_spec.specs.Fields.{kind, isSome, unread, complete, kindFrom, f
 use Rattle.table_rows.specs.Flat.{flat}
 use Rattle.tra4_text.specs.Movement.{Movement, frameOf, groupOf}
 use Rattle.tra4_text.specs.Grammar.{repeatedIn, repeated, repeated⁺, key, channelNames, channel, channelKinds, keysIn, bone, word, truth, pattern, movement}
-use Rattle.tra4_text.specs.Rules.{channelsOf, allKeys, keyRows, countsOf, movementCounts, totalFault, isFrame, isZero, rises, neverFalls, framesFault, keyFine, keysFault, patternFine, patternsFault, movementFault}
+use Rattle.tra4_text.specs.Rules.{channelsOf, allKeys, keyRows, countsOf, movementCounts, totalFault, isFrame, isZero, rises, keyFine, channelFault, keysFault, patternFine, hasStart, startFault, patternsFault, movementFault}
 use Rattle.tra4_text.specs.Layout.{nameNumbers, keyRanges, boneRow, boneRows, layoutOf}
 use Rattle.tra4_text.specs.Answer.{movementOutcome, movementAnswer, movementTable}
+use Rattle.refusal.specs.FirstBad.{firstBad}
 use Rattle.refusal.specs.Rules.{orElse, tooMany}
 use Rattle.refusal.specs.Outcomes.{Outcome, rejected, accepted, ruled, fitted, laid}
 use Rattle.parse_text.specs.Texts.{shaped, checked, outcome}
@@ -86,14 +87,20 @@ cases =
     ∷ ("(roll(kf 0 0)))(DynamicPolygons(kgf 0 0 true)(kgf 4 1 true)(kgf 4 0 false)))", (0, 54))
     ∷ ("(roll(kf 0 0)))(DynamicPolygons(kgf 1 0 true)))", (16, 0))
     ∷ ("(roll(kf 0 0)))(DynamicPolygons(kgf 0 0 true)(kgf 5 0 true)))", (16, 1))
-    ∷ ("(roll(kf 0 0)))(DynamicPolygons(kgf 0 0 true)(kgf 3 0 true)(kgf 2 0 true)))", (16, 2))
+    ∷ ("(roll(kf 0 0)))(DynamicPolygons(kgf 0 0 true)(kgf 3 0 true)(kgf -1 0 true)))", (16, 2))
     ∷ ("(roll(kf 0 0)))(DynamicPolygons(kgf 0 -1 true)))", (16, 0))
+    -- in any order: a falling frame, and 0 in no row or in a later one
+    ∷ ("(roll(kf 0 0)))(DynamicPolygons(kgf 0 0 true)(kgf 3 0 true)(kgf 2 0 true)))", (0, 54))
+    ∷ ("(roll(kf 0 0)))(DynamicPolygons(kgf 3 0 true)(kgf 0 0 false)))", (0, 51))
+    ∷ ("(roll(kf 0 0)))(DynamicPolygons(kgf 1 0 true)(kgf 9 0 true)))", (16, 0))
+    ∷ ("(roll(kf 0 0)))(DynamicPolygons(kgf 1 0 true)(kgf 0 -1 true)))", (16, 1))
+    ∷ ("(roll(kf 0 0)))(DynamicPolygons(kgf 9 0 true)(kgf 0 -1 true)))", (16, 0))
     -- 15 before 16
     ∷ ("(roll(kf 1 0)))(DynamicPolygons(kgf 1 0 true)))", (15, 9))
     ∷ []
 
 pub worked : (movementTable walk (replicate 101 (pos 9)) ≡ walked ++ (pos 9 ∷ [])) × (movementAnswer walk 99 ≡ rejected 17 100) × (map (λ c. reply (movementAnswer (front ++ bytes (c .0)) 100)) cases ≡ map (λ c. c .1) cases)
-unfolding rowOf cells bytes isBlank between isLetter classOf inLine inString isDigit isContent run same lexeme tokens lex isKeyword decimalFrom decimal signed notEmpty allDigits intMost wholeOf intOf millionths floatOf numberFrom afterDigits unsigned negative unsignedPart fixedOf inMantissa mantissa withExponent numberOf refusalOf faultIn markOf blankOrEnd begins marked textFault after _>>=_ _>>_ pure stop tokenOf rest isOpening isClosing isEnd take-if open-bracket close-bracket wordOf text-end openedOf opened closed numberIn numberAt number numbers versionAt version absent nameAt string oneFrom oneOf starts optional trailing manyIn many many⁺ headOf head kind isSome unread complete kindFrom fieldsIn fields flat frameOf groupOf repeatedIn repeated repeated⁺ key channelNames channel channelKinds keysIn bone word truth pattern movement orElse channelsOf allKeys keyRows countsOf movementCounts movementLists movementMosts tooMany totalFault isFrame isZero rises neverFalls framesFault keyFine keysFault patternFine patternsFault movementFault nameNumbers keyRanges boneRow boneRows layoutOf ruled shaped checked outcome movementOutcome fitted movementAnswer laid movementTable
+unfolding rowOf cells bytes isBlank between isLetter classOf inLine inString isDigit isContent run same lexeme tokens lex isKeyword decimalFrom decimal signed notEmpty allDigits intMost wholeOf intOf millionths floatOf numberFrom afterDigits unsigned negative unsignedPart fixedOf inMantissa mantissa withExponent numberOf refusalOf faultIn markOf blankOrEnd begins marked textFault after _>>=_ _>>_ pure stop tokenOf rest isOpening isClosing isEnd take-if open-bracket close-bracket wordOf text-end openedOf opened closed numberIn numberAt number numbers versionAt version absent nameAt string oneFrom oneOf starts optional trailing manyIn many many⁺ headOf head kind isSome unread complete kindFrom fieldsIn fields flat frameOf groupOf repeatedIn repeated repeated⁺ key channelNames channel channelKinds keysIn bone word truth pattern movement orElse channelsOf allKeys keyRows countsOf movementCounts movementLists movementMosts tooMany totalFault isFrame isZero rises keyFine channelFault keysFault patternFine hasStart startFault firstBad patternsFault movementFault nameNumbers keyRanges boneRow boneRows layoutOf ruled shaped checked outcome movementOutcome fitted movementAnswer laid movementTable
 worked = (refl, refl, refl)
 
 -- ---- the lists' mosts, and the total's range

@@ -1,6 +1,6 @@
 -- The rules 8 and 14 to 16 of a movement, each with its place (document 01, "Refusal numbers").
 use mathlib.Core.List.{List, [], _∷_, _++_}
-use mathlib.Core.Bool.{Bool, true, false, cond, _&&_}
+use mathlib.Core.Bool.{Bool, true, false, cond, _&&_, _||_}
 use mathlib.Core.Option.{Option, none, some}
 use Prim.Native.Nat.{ℕ, suc, _+_}
 use lib.Dec.{eqb}
@@ -8,6 +8,7 @@ use lib.ListN.{length}
 use lib.IntN.{ℤ, pos, negsuc}
 use lib.Signed.{ltZ, leZ}
 use Rattle.refusal.specs.Faults.{Fault, clear, fault}
+use Rattle.refusal.specs.FirstBad.{firstBad}
 use Rattle.refusal.specs.Rules.{orElse, tooMany}
 use Rattle.tra4_text.specs.Movement.{Key, Channel, Pattern, frameOf, groupOf, Bone, Movement}
 use Rattle.table_counts.specs.declared.counts.MovementCounts.{MovementCounts}
@@ -55,33 +56,37 @@ unfoldable pub rises : Option ℤ → ℤ → Bool
 rises none f = isZero f
 rises (some before) f = ltZ before f
 
--- frames begin at 0 and never fall
-unfoldable pub neverFalls : Option ℤ → ℤ → Bool
-neverFalls none f = isZero f
-neverFalls (some before) f = leZ before f
-
--- a fault of a number at the first row that may not follow the frame before it, if any
-unfoldable pub framesFault : ℕ → (Option ℤ → List ℤ → Bool) → Option ℤ → ℕ → List (List ℤ) → Fault
-framesFault n fine before row [] = clear
-framesFault n fine before row (r ∷ rs) =
-    elim (fine before r) [ true ↦ framesFault n fine (some (frameOf r)) (suc row) rs | false ↦ fault n row ]
-
 -- ---- 15: the keys of each channel; their rows count on from channel to channel
 
 unfoldable pub keyFine : ℤ → Option ℤ → Key → Bool
 keyFine total before k = isFrame total (frameOf k) && rises before (frameOf k)
 
+-- at the first key that may not follow the frame before it, if any
+unfoldable pub channelFault : ℤ → Option ℤ → ℕ → Channel → Fault
+channelFault total before row [] = clear
+channelFault total before row (k ∷ ks) =
+    elim (keyFine total before k) [ true ↦ channelFault total (some (frameOf k)) (suc row) ks | false ↦ fault 15 row ]
+
 unfoldable pub keysFault : ℤ → ℕ → List Channel → Fault
 keysFault total row [] = clear
-keysFault total row (c ∷ cs) = orElse (framesFault 15 (keyFine total) none row c) (keysFault total (row + length c) cs)
+keysFault total row (c ∷ cs) = orElse (channelFault total none row c) (keysFault total (row + length c) cs)
 
--- ---- 16: the patterns, with groups of 0 or more
+-- ---- 16: the patterns, in any order (document 02, (ii)): each line's frame is in range and its group 0 or more, and one line has frame 0
 
-unfoldable pub patternFine : ℤ → Option ℤ → Pattern → Bool
-patternFine total before p = isFrame total (frameOf p) && neverFalls before (frameOf p) && leZ (pos 0) (groupOf p)
+unfoldable pub patternFine : ℤ → Pattern → Bool
+patternFine total p = isFrame total (frameOf p) && leZ (pos 0) (groupOf p)
+
+unfoldable pub hasStart : List Pattern → Bool
+hasStart [] = false
+hasStart (p ∷ ps) = isZero (frameOf p) || hasStart ps
+
+-- lines of which none has frame 0 are at fault in row 0; no lines are not
+unfoldable pub startFault : List Pattern → Fault
+startFault [] = clear
+startFault (p ∷ ps) = cond (hasStart (p ∷ ps)) clear (fault 16 0)
 
 unfoldable pub patternsFault : ℤ → List Pattern → Fault
-patternsFault total ps = framesFault 16 (patternFine total) none 0 ps
+patternsFault total ps = orElse (startFault ps) (firstBad 16 (patternFine total) 0 ps)
 
 -- ---- of 8 to 16 the lowest number, with its lowest row
 

@@ -3,14 +3,13 @@ use mathlib.Core.List.{List}
 use mathlib.Core.Bool.{Bool, false, _&&_, _||_}
 use mathlib.Core.Option.{Option, none, some}
 use Prim.Native.Nat.{ℕ}
-use lib.IntN.{ℤ, pos, natAbs}
-use lib.ListN.{getD, take, drop}
+use lib.IntN.{ℤ, natAbs}
 use Rattle.table_references.specs.References.{isNone}
 use Rattle.tra4_text.specs.Movement.{Pattern}
 use Rattle.tra4_text.specs.Rules.{patternsFault}
 use Rattle.table_references.specs.Index.{isIndex}
 use Rattle.table_counts.specs.declared.counts.FigureCounts.{FigureCounts}
-use Rattle.player_spec.specs.Faces.{lastFlag}
+use Rattle.player_spec.specs.Deciding.{deciding, stateBy}
 use Rattle.refusal.specs.Faults.{isClear}
 use Rattle.player_spec.specs.Lookups.{onlyIf, sizeFine, cornersFine, linesFine, ownersFine, ownedCorners}
 use Rattle.table_columns.specs.Columns.{faceSize, faceVertices, faceGroup}
@@ -37,7 +36,13 @@ module _ (n : FigureCounts) (table : List ℤ) where
       && isIndex (n .groups) (faceGroup row)
       && (isNone (faceGroup row) || (isClear (patternsFault total patterns) && linesFine (n .groups) patterns)))
       (ownedCorners n table (natAbs (faceSize row)) (faceVertices row)
-      && (isNone (faceGroup row) || lastFlag (natAbs (faceGroup row)) at false patterns))
+      && (isNone (faceGroup row) || stateBy (deciding (natAbs (faceGroup row)) at patterns)))
+
+-- a group's state, by the row and the flag of the line that decides
+unfoldable pub stateOf : Option (Option (ℕ × Bool)) → Option Bool
+stateOf none = none
+stateOf (some none) = some false
+stateOf (some (some line)) = some (line .1)
 
 -- both answered, and both yes
 unfoldable pub bothShown : Option Bool → Option Bool → Option Bool

@@ -11,7 +11,7 @@ use Rattle.refusal.specs.Internal.Answers.{refusal}
 use Rattle.bac6_text.specs.Rules.{materialFine}
 use Rattle.refusal.specs.FirstBad.{firstBad}
 use Rattle.table_columns.specs.Parts.{rowsOf}
-use Rattle.bac6_text.proofs.FirstBad.{badFrom, walk-start, walk-done, walk-short, walk-passed, walk-found}
+use Rattle.table_columns.proofs.FirstBad.{badFrom, walk-start, walk-done, walk-short, walk-passed, walk-found}
 use Rattle.table_columns.proofs.Rows.{row-length, row-part}
 use Rattle.bac6_material_rules.proofs.material.material_fault.Statement.{statement}
 use Rattle.bac6_material_rules.proofs.material.material_fault.Tie as tie

@@ -1,5 +1,5 @@
 -- `row_shown` is its definition: the corners' answer alone, or with the flag of the face's group.
-use mathlib.Core.Path.{_≡_, ap₂, sym, _∙_}
+use mathlib.Core.Path.{_≡_, ap, ap₂, sym, _∙_}
 use mathlib.Core.Bool.{true, false}
 use Prim.Native.Nat.{_<_}
 use denote.Ref.{now}
@@ -13,12 +13,11 @@ use Rattle.table_references.specs.References.{isNone}
 use Rattle.table_references.specs.Index.{isIndex}
 use Rattle.signed.proofs.Tests.{tested}
 use Rattle.table_references.proofs.Numbers.{index-row}
-use Rattle.player_shown.specs.Internal.Rows.{bothShown}
+use Rattle.player_shown.specs.Internal.Rows.{stateOf, bothShown}
 use Rattle.player_shown.specs.Answers.{visible}
 use Rattle.table_columns.proofs.Casts.{natural-cast}
 use Rattle.player_face_tests.proofs.Corners.{row-is}
-use Rattle.player_shown.proofs.Flagged.{flag-is}
-use Rattle.player_shown.proofs.ShownTests.{no-group, of-polygons, in-group}
+use Rattle.player_shown.proofs.ShownTests.{state-is, no-group, of-polygons, in-group}
 use borrow.Author.Needs.{needs}
 use Rattle.player_shown.proofs.showing.row_shown.Statement.{statement}
 use Rattle.player_shown.proofs.showing.row_shown.Tie as tie
@@ -60,17 +59,26 @@ is-none-requires c κs = search needs
 returns-2 : tie.Need-returns-2
 returns-2 c = c .before .before .row-owned .ensures ∙ of-polygons _ _ _ _ _ _ (known (c .before .before .before)) (sym (none-told (c .before)) ∙ c .if2 .taken)
 
-cast-group-flag : tie.Need-cast-group-flag
-cast-group-flag c = natural-cast _ (fits (c .before .before .before .before .before)) (group-is c .0)
+cast-deciding-line : tie.Need-cast-deciding-line
+cast-deciding-line c = natural-cast _ (fits (c .before .before .before .before .before)) (group-is c .0)
 
-group-flag-requires : tie.Need-group-flag-requires
-group-flag-requires c κs = search needs
+deciding-line-requires : tie.Need-deciding-line-requires
+deciding-line-requires c κs = search needs
+
+state-requires : tie.Need-state-requires
+state-requires c κs = search needs
 
 both-requires : tie.Need-both-requires
 both-requires c κs = search needs
 
 returns-3 : tie.Need-returns-3
-returns-3 c = c .both .ensures ∙ ap₂ bothShown (c .before .before .before .before .row-owned .ensures) ((rw (toZ-ofZ (fits (c .before .before .before .before .before .before .before)), toZ-ofZ (c .before .before .before .before .before .before .before .before .fits .total)) at (c .before .group-flag .ensures)) ∙ flag-is _ _ _ _ _) ∙ in-group _ _ _ _ _ _ (known (c .before .before .before .before .before)) (some-group (c .before .before))
+returns-3 c =
+    let line = c .before .before in
+    let e = line .before in
+    let told = rw (toZ-ofZ (fits (e .before .before .before .before .before)), toZ-ofZ (e .before .before .before .before .before .before .fits .total)) at (line .deciding-line .ensures) in
+    c .both .ensures
+    ∙ ap₂ bothShown (e .before .before .row-owned .ensures) (c .before .state .ensures ∙ ap stateOf told ∙ state-is _ _ _ _ _)
+    ∙ in-group _ _ _ _ _ _ (known (e .before .before .before)) (some-group e)
 
 pub row-shown-spec : {M : Type 1} → statement M
 row-shown-spec =
@@ -82,7 +90,8 @@ row-shown-spec =
     row-owned-requires
     is-none-requires
     returns-2
-    cast-group-flag
-    group-flag-requires
+    cast-deciding-line
+    deciding-line-requires
+    state-requires
     both-requires
     returns-3)

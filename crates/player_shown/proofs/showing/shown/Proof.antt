@@ -2,7 +2,7 @@
 use mathlib.Core.Path.{_≡_, refl, ap, sym, _∙_}
 use mathlib.Core.List.{List}
 use mathlib.Core.Bool.{true}
-use Prim.Native.Nat.{ℕ, _+_, _*_, _≤_, _<_}
+use Prim.Native.Nat.{ℕ, _+_, _*_, _/_, _≤_, _<_}
 use denote.Ref.{now}
 use lib.IntN.{ℤ, pos}
 use lib.ListN.{length, getD}
@@ -28,7 +28,7 @@ use Rattle.player_spec.specs.Lookups.{isAsked, faceAt, patternRows}
 use Rattle.player_spec.specs.Answers.{numbered}
 use Rattle.player_shown.specs.Internal.Rows.{rowShown}
 use Rattle.player_shown.specs.Answers.{showed}
-use Rattle.player_shown.proofs.FlagRows.{lent, lent-rows, lent-length}
+use Rattle.player_shown.proofs.LentRows.{lent, lent-rows}
 use Rattle.player_shown.proofs.ShownTests.{showed-is, no-figure, no-movement, no-face, not-asked, by-row}
 use borrow.Author.Needs.{needs}
 use Rattle.player_shown.proofs.showing.shown.Statement.{statement}
@@ -148,7 +148,10 @@ part-row-shown-end-2 : tie.Need-part-row-shown-end-2
 part-row-shown-end-2 c = lines-room (c .before .before)
 
 row-shown-requires : tie.Need-row-shown-requires
-row-shown-requires c κs = (there (c .before .before .before .before .before .before .before .before .before .before .before), part-length (c .before .before .before .before .before .before .before .before .before .before .before .before .before .figure-in .result .faces + c .before .before .before .before .before .before .before .before .before .before .before .before .before .before .args .face * 11) 11 (now (c .before .before .before .before .before .before .before .before .before .before .before .before .before .before .args .table)) (face-room (c .before .before .before)), lent-length (now (c .before .before .before .before .before .before .before .before .before .before .before .before .before .before .args .moves)) (c .before .before .before .before .before .before .before .before .before .before .movement-in .result .patterns) (c .before .before .before .before .before .before .before .before .before .before .before .before .before .before .args .m .patterns) (lines-room (c .before .before .before)), room (c .before .before .before .before .before .before .before .before) .2)
+row-shown-requires c κs =
+    let e = c .before .before .before in
+    let a = e .before .before .before .before .before .before .before .before .before .before .before .args in
+    (there (e .before .before .before .before .before .before .before .before), part-length (e .before .before .before .before .before .before .before .before .before .before .figure-in .result .faces + a .face * 11) 11 (now (a .table)) (face-room e))
 
 returns-5 : tie.Need-returns-5
 unfolding faceAt patternRows numberAt
@@ -158,11 +161,12 @@ returns-5 c =
     let t = now (a .table) in
     let v = now (a .moves) in
     let z = toZ w64 (ofZ w64 (getD v 0 (pos 0))) in
+    let from = e .before .before .before .before .before .before .before .movement-in .result .patterns in
     showed-is _
     ∙ ap numbered
     (c .row-shown .ensures
-    ∙ ap (λ (r : List ℤ). rowShown (a .n) t r (rowsAt 3 (lent v (e .before .before .before .before .before .before .before .movement-in .result .patterns) (a .m .patterns)) 0 (a .m .patterns)) z (a .at)) (part-numbers _ _ 11 t (begins e))
-    ∙ ap (λ (p : List Pattern). rowShown (a .n) t (faceAt (a .n) t (a .face)) p z (a .at)) (lent-rows v (e .before .before .before .before .before .before .before .movement-in .result .patterns) (a .m .patterns) ∙ ap (λ (i : ℕ). rowsAt 3 v i (a .m .patterns)) (patterns-are (e .before .before .before .before .before)))
+    ∙ ap (λ (r : List ℤ). rowShown (a .n) t r (rowsAt 3 (lent v from (a .m .patterns)) 0 (length (lent v from (a .m .patterns)) / 3)) z (a .at)) (part-numbers _ _ 11 t (begins e))
+    ∙ ap (λ (p : List Pattern). rowShown (a .n) t (faceAt (a .n) t (a .face)) p z (a .at)) (lent-rows v from (a .m .patterns) (lines-room e) ∙ ap (λ (i : ℕ). rowsAt 3 v i (a .m .patterns)) (patterns-are (e .before .before .before .before .before)))
     ∙ ap (λ (y : ℤ). rowShown (a .n) t (faceAt (a .n) t (a .face)) (rowsAt 3 v (patternsBegin (a .m)) (a .m .patterns)) y (a .at)) (toZ-ofZ (total-fits (e .before .before)))
     ∙ by-row _ _ _ _ _ _ (there (e .before .before .before .before .before .before .before .before) .held) (moves-held (e .before .before .before .before .before)) (is-face (e .before .before .before)) (asked e))
 

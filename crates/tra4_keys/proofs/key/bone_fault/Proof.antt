@@ -12,7 +12,7 @@ use mir.Val.{toZ}
 use mir.Facts.{toZ-ofZ}
 use Rattle.refusal.specs.Internal.Answers.{refusal}
 use Rattle.refusal.specs.Rules.{orElse}
-use Rattle.tra4_text.specs.Rules.{framesFault, keyFine}
+use Rattle.tra4_text.specs.Rules.{channelFault}
 use Rattle.table_columns.specs.Parts.{rowsOf}
 use Rattle.tra4_keys.specs.Internal.Keys.{pairCounts, boneCounts, keysFrom, Walked}
 use Rattle.tra4_frames.proofs.Frames.{keys-frames}
@@ -54,20 +54,20 @@ add-next c = search needs
 add-column : tie.Need-add-column Inv-loop μ-loop
 add-column c = search needs
 
-mul-frames-fault : tie.Need-mul-frames-fault Inv-loop μ-loop
-mul-frames-fault c = search needs
+mul-channel-fault : tie.Need-mul-channel-fault Inv-loop μ-loop
+mul-channel-fault c = search needs
 
-sub-frames-fault : tie.Need-sub-frames-fault Inv-loop μ-loop
-sub-frames-fault c = search needs
+sub-channel-fault : tie.Need-sub-channel-fault Inv-loop μ-loop
+sub-channel-fault c = search needs
 
-part-frames-fault-start : tie.Need-part-frames-fault-start Inv-loop μ-loop
-part-frames-fault-start c = search needs
+part-channel-fault-start : tie.Need-part-channel-fault-start Inv-loop μ-loop
+part-channel-fault-start c = search needs
 
-part-frames-fault-end : tie.Need-part-frames-fault-end Inv-loop μ-loop
-part-frames-fault-end c = search needs
+part-channel-fault-end : tie.Need-part-channel-fault-end Inv-loop μ-loop
+part-channel-fault-end c = search needs
 
-frames-fault-requires : tie.Need-frames-fault-requires Inv-loop μ-loop
-frames-fault-requires c κs = search needs
+channel-fault-requires : tie.Need-channel-fault-requires Inv-loop μ-loop
+channel-fault-requires c κs = search needs
 
 enum-known-number : tie.Need-enum-known-number Inv-loop μ-loop
 enum-known-number c = search needs
@@ -77,10 +77,10 @@ found : (c : tie.At-loop Inv-loop μ-loop) (more : List ℕ) → let a = c .befo
 found c more = rw (toZ-ofZ (c .before .fits .total)) at (c .loop .inv .2 more)
 
 -- what the call says of the next channel
-told : (c : tie.After-frames-fault Inv-loop μ-loop) → let b = c .before .before .before .before .before in let a = b .before .args in refusal (c .frames-fault .result) ≡ framesFault 15 (keyFine (a .total)) none (b .loop .at) (rowsOf 2 (c .before .before .rows-within .result) (drop (b .loop .at * 2) (now (a .keys))))
-told c = let b = c .before .before .before .before .before in rw (toZ-ofZ (b .before .fits .total)) at (c .frames-fault .ensures) ∙ keys-frames (b .before .args .total) (b .loop .at) (c .before .before .rows-within .result) (b .loop .at * 2) (now (b .before .args .keys))
+told : (c : tie.After-channel-fault Inv-loop μ-loop) → let b = c .before .before .before .before .before in let a = b .before .args in refusal (c .channel-fault .result) ≡ channelFault (a .total) none (b .loop .at) (rowsOf 2 (c .before .before .rows-within .result) (drop (b .loop .at * 2) (now (a .keys))))
+told c = let b = c .before .before .before .before .before in rw (toZ-ofZ (b .before .fits .total)) at (c .channel-fault .ensures) ∙ keys-frames (b .before .args .total) (b .loop .at) (c .before .before .rows-within .result) (b .loop .at * 2) (now (b .before .args .keys))
 
-step : (c : tie.After-frames-fault Inv-loop μ-loop) (more : List ℕ) → let b = c .before .before .before .before .before in let a = b .before .args in keysFrom (a .total) (now (a .keys)) (a .row) (boneCounts (now (a .bone)) ++ more) ≡ orElse (refusal (c .frames-fault .result)) (keysFrom (a .total) (now (a .keys)) (b .loop .at + c .before .before .rows-within .result) (pairCounts (drop (b .loop .column + 2 - 1) (now (a .bone))) ++ more))
+step : (c : tie.After-channel-fault Inv-loop μ-loop) (more : List ℕ) → let b = c .before .before .before .before .before in let a = b .before .args in keysFrom (a .total) (now (a .keys)) (a .row) (boneCounts (now (a .bone)) ++ more) ≡ orElse (refusal (c .channel-fault .result)) (keysFrom (a .total) (now (a .keys)) (b .loop .at + c .before .before .rows-within .result) (pairCounts (drop (b .loop .column + 2 - 1) (now (a .bone))) ++ more))
 step c more =
     let r = c .before .before in
     let b = r .before .before .before in
@@ -129,11 +129,11 @@ bone-fault-spec =
     rows-within-requires
     add-next
     add-column
-    mul-frames-fault
-    sub-frames-fault
-    part-frames-fault-start
-    part-frames-fault-end
-    frames-fault-requires
+    mul-channel-fault
+    sub-channel-fault
+    part-channel-fault-start
+    part-channel-fault-end
+    channel-fault-requires
     enum-known-number
     returns
     enum-told
