@@ -1,7 +1,7 @@
 //! The rules a movement's lists must keep: refusals 8 and 14 to 16.
 
 use crate::limits;
-use crate::movement::{Key, Movement};
+use crate::movement::{Key, Movement, Pattern};
 use crate::refusal::Refusal;
 
 /// The lowest of refusals 8 and 14 to 16, with the lowest row.
@@ -50,18 +50,18 @@ fn first_bad_key(channel: &[Key], total_frames: i64) -> Option<usize> {
     })
 }
 
-/// Frames begin at 0 and never fall, each below the total; no group is
-/// below 0.
+/// Lines stand in any order, each with a frame from 0 to below the total and a
+/// group that is not below 0. If there are any, one has frame 0, of whatever
+/// group; where none has, row 0 is at fault before any other row.
 fn patterns(movement: &Movement) -> Result<(), Refusal> {
-    let mut least = 0;
-    for (row, pattern) in movement.patterns.iter().enumerate() {
-        let frame = pattern.frame;
-        let starts_right = row > 0 || frame == 0;
-        let in_range = least <= frame && frame < movement.total_frames;
-        if !starts_right || !in_range || pattern.group < 0 {
-            return Err(Refusal::new(16, row));
-        }
-        least = frame;
+    let lines = &movement.patterns;
+    if !lines.is_empty() && lines.iter().all(|line| line.frame != 0) {
+        return Err(Refusal::new(16, 0));
     }
-    Ok(())
+    let frames = 0..movement.total_frames;
+    let is_bad = |line: &Pattern| !frames.contains(&line.frame) || line.group < 0;
+    match lines.iter().position(is_bad) {
+        Some(row) => Err(Refusal::new(16, row)),
+        None => Ok(()),
+    }
 }

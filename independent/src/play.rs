@@ -83,14 +83,21 @@ pub fn shown(figure: &Figure, movement: &Movement, face: i64, frame: i64) -> Opt
     {
         return Some(false);
     }
-    let Some(group) = face.group else {
-        return Some(true);
-    };
-    let lines = movement.patterns.iter().rev();
-    let last = lines
-        .filter(|line| line.group == group as i64)
-        .find(|line| line.frame <= frame);
-    Some(last.is_some_and(|line| line.flag))
+    match face.group {
+        Some(group) => Some(group_shown(movement, group as i64, frame)),
+        None => Some(true),
+    }
+}
+
+/// Whether a group is shown at a frame: the flag of its line of greatest frame
+/// not after it, no if it has none.
+fn group_shown(movement: &Movement, group: i64, frame: i64) -> bool {
+    let lines = movement.patterns.iter();
+    let deciding = lines
+        .filter(|line| line.group == group && line.frame <= frame)
+        // Lines stand in any order. Of equal frames this takes the later line.
+        .max_by_key(|line| line.frame);
+    deciding.is_some_and(|line| line.flag)
 }
 
 /// A corner of a face.

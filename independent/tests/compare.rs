@@ -33,6 +33,7 @@ fn compare(test: &str, arguments: &[&str]) -> Output {
         ["--play", _, kind, ..] if kind.ends_with("pairs") => SHOWN,
         ["--pair", ..] => PAIR,
         ["--play", ..] => CORNERS,
+        [_, kind, ..] if kind.ends_with("movements") => MOVEMENT,
         _ => FIGURE,
     };
     Command::new(env!("CARGO_BIN_EXE_compare"))
@@ -203,6 +204,22 @@ fn many_damaged_pairs_must_meet_every_refusal_of_a_pair() {
     assert!(unmet("damaged-pairs", "99", &[]).is_empty());
     assert!(unmet("sound-pairs", "100", &[]).is_empty());
     assert!(unmet("damaged-figures", "100", &[]).is_empty());
+}
+
+/// Readers that put the lines in order, that refuse a frame that falls, and that
+/// give 16 for row 0 throughout.
+#[test]
+fn wrong_patterns_differ() {
+    for (name, kind, expected) in [
+        ("patterns_by_frame", "sound-movements", "pattern"),
+        ("falling_frame_refused", "sound-movements", "movement"),
+        ("pattern_row_0", "damaged-movements", "refused\\t16"),
+    ] {
+        let report = differs(name, &[&wrong(name), kind, "1", "300"]);
+        assert!(report.contains(&format!("\n{kind}, seed 1, index ")));
+        let expected = format!("expected: {expected}\\t");
+        assert!(report.contains(&expected), "{report}");
+    }
 }
 
 /// Corners without their owners.

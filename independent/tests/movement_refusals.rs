@@ -2,7 +2,9 @@
 
 mod common;
 
-use common::{changed, movement_bone as bone, movement_refusal, refusal, MOVEMENT};
+use common::{
+    changed, movement_bone as bone, movement_of_lines, movement_refusal, refusal, MOVEMENT,
+};
 use independent::{limits, movement};
 
 #[test]
@@ -89,19 +91,28 @@ fn fifteen_counts_by_channel_number() {
 
 #[test]
 fn sixteen_patterns() {
-    let lines = |lines: &str| changed(MOVEMENT, "(kgf 0 0 true)(kgf 4 1 false)", lines);
-    for (text, expected) in [
-        (
-            "(kgf 0 0 true)(kgf 0 0 false)(kgf 10 2147483647 true)",
-            None,
-        ),
-        ("(kgf 1 0 true)", refusal(16, 0)),
-        ("(kgf 0 -1 true)", refusal(16, 0)),
-        ("(kgf 0 0 true)(kgf 5 0 true)(kgf 4 0 true)", refusal(16, 2)),
-        ("(kgf 0 0 true)(kgf 11 0 true)", refusal(16, 1)),
-        ("(kgf 0 0 true)(kgf -1 0 true)", refusal(16, 1)),
+    for (lines, expected) in [
+        ("0 0 true, 0 0 false, 10 2147483647 true", None),
+        ("1 0 true", refusal(16, 0)),
+        ("0 -1 true", refusal(16, 0)),
+        // Frames may fall.
+        ("0 0 true, 5 0 true, 4 0 true", None),
+        ("10 1 true, 4 0 true, 0 2 true", None),
+        ("0 0 true, 11 0 true", refusal(16, 1)),
+        ("0 0 true, -1 0 true", refusal(16, 1)),
+        // The first row with a fault, before the frame 0 or behind it.
+        ("3 0 true, 11 0 true, 0 0 true, -1 0 true", refusal(16, 1)),
+        ("3 0 true, 0 0 true, 2 -1 true, 11 0 true", refusal(16, 2)),
+        // None has frame 0, whatever other faults there are.
+        ("3 0 true, 2 1 false, 10 0 true", refusal(16, 0)),
+        ("3 0 true, 2 -1 false, -1 0 true", refusal(16, 0)),
+        ("11 0 true, 2 -1 false", refusal(16, 0)),
+        // The one that has it has a bad group.
+        ("3 0 true, 2 0 true, 0 -1 true", refusal(16, 2)),
+        ("3 -1 true, 2 0 true, 0 -1 true", refusal(16, 0)),
     ] {
-        assert_eq!(movement_refusal(lines(text)), expected, "{text}");
+        let text = movement_of_lines(11, lines);
+        assert_eq!(movement_refusal(text), expected, "{lines}");
     }
 }
 

@@ -2,7 +2,7 @@
 
 mod common;
 
-use common::{changed, FIGURE, MOVEMENT};
+use common::{changed, grouped, movement_of_lines, FIGURE, MOVEMENT};
 use independent::figure::{self, Figure};
 use independent::movement::{self, Movement};
 use independent::play::{corner, label, sample, shown, Corner, Fraction};
@@ -97,40 +97,28 @@ fn no_such_sample() {
     }
 }
 
-/// One face of `Polygons`, one of group 0, two of group 1; the last has a
-/// corner without a bone.
-fn grouped() -> String {
-    let text = changed(
-        FIGURE,
-        "(i3 0 1 2)(i3 -1 -1 -1)))",
-        "(i3 0 1 0)(i3 -1 -1 -1)))(DynamicPolygons
-        (group(face 0(i3 0 0 1)(i3 -1 -1 -1)))
-        (group(face 0(i4 0 1 0 1)(i4 1 1 0 0))(face 0(i3 0 1 2)(i3 -1 -1 -1))))",
-    );
-    changed(
-        &text,
-        "(Polygons",
-        "(TextureCoords(f2 0.5 1)(f2 0 -2))(Polygons",
-    )
-}
-
+/// The same lines in three orders; the two of equal frames stay in theirs.
 #[test]
-fn shown_follows_the_last_line_of_its_group() {
+fn shown_follows_the_lines_of_its_group_in_any_order() {
     let figure = figure(&grouped());
-    let lines =
-        "(kgf 0 1 true)(kgf 2 0 true)(kgf 2 0 false)(kgf 3 0 true)(kgf 5 1 false)(kgf 5 0 true)";
-    let movement = movement(&changed(MOVEMENT, "(kgf 0 0 true)(kgf 4 1 false)", lines));
-    let over = |face: i64| -> Vec<bool> {
-        (0..7)
-            .map(|frame| shown(&figure, &movement, face, frame).unwrap())
-            .collect()
-    };
-    assert_eq!(over(0), [true; 7]);
-    assert_eq!(over(1), [false, false, false, true, true, true, true]);
-    assert_eq!(over(2), [true, true, true, true, true, false, false]);
-    assert_eq!(over(3), [false; 7]);
-    for (face, frame) in [(4, 0), (-1, 0), (0, 11), (0, -1), (3, 11)] {
-        assert_eq!(shown(&figure, &movement, face, frame), None);
+    for lines in [
+        "0 1 true, 2 0 true, 2 0 false, 3 0 true, 5 1 false, 5 0 true",
+        "3 0 true, 2 0 true, 5 0 true, 5 1 false, 0 1 true, 2 0 false",
+        "5 0 true, 5 1 false, 3 0 true, 2 0 true, 2 0 false, 0 1 true",
+    ] {
+        let movement = movement(&movement_of_lines(7, lines));
+        let over = |face: i64| -> Vec<bool> {
+            (0..7)
+                .map(|frame| shown(&figure, &movement, face, frame).unwrap())
+                .collect()
+        };
+        assert_eq!(over(0), [true; 7]);
+        assert_eq!(over(1), [false, false, false, true, true, true, true]);
+        assert_eq!(over(2), [true, true, true, true, true, false, false]);
+        assert_eq!(over(3), [false; 7]);
+        for (face, frame) in [(4, 0), (-1, 0), (0, 7), (0, -1), (3, 7)] {
+            assert_eq!(shown(&figure, &movement, face, frame), None);
+        }
     }
 }
 

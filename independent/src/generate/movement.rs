@@ -5,6 +5,7 @@ use super::piece::{any_name, Piece, Writer};
 use super::render::{any_style, render, Style};
 use super::rng::Rng;
 use crate::limits;
+use std::cmp::Reverse;
 
 /// Frame and value of a key.
 pub type Key = (i64, i64);
@@ -91,26 +92,44 @@ fn patterns(rng: &mut Rng, total_frames: i64) -> Option<Vec<Pattern>> {
     if rng.coin() {
         return None;
     }
-    let count = rng.below(6);
-    let frames = pattern_frames(rng, count, total_frames);
-    let group = |rng: &mut Rng| match rng.below(16) {
-        0 => i64::from(i32::MAX),
-        _ => rng.between(0, 3),
-    };
-    let lines = frames.into_iter();
-    Some(lines.map(|frame| (frame, group(rng), rng.coin())).collect())
+    let count = rng.below(8);
+    let mut lines = any_lines(rng, count, total_frames, 4);
+    for (_, group, _) in &mut lines {
+        if rng.once_in(16) {
+            *group = i64::from(i32::MAX);
+        }
+    }
+    Some(lines)
 }
 
-/// The frames of so many pattern lines: the first at 0, none falling.
-pub fn pattern_frames(rng: &mut Rng, count: usize, total_frames: i64) -> Vec<i64> {
-    let mut frames: Vec<i64> = (0..count)
-        .map(|_| rng.between(0, total_frames - 1))
-        .collect();
-    frames.sort_unstable();
-    if let Some(first) = frames.first_mut() {
-        *first = 0;
+/// So many pattern lines of so many groups. If there are any, one has frame 0.
+/// Their frames never fall, never rise, or are as they come.
+pub fn any_lines(rng: &mut Rng, count: usize, total_frames: i64, groups: usize) -> Vec<Pattern> {
+    let mut lines = Vec::new();
+    for _ in 0..count {
+        let line = any_line(rng, &lines, total_frames, groups);
+        lines.push(line);
     }
-    frames
+    if count > 0 {
+        lines[rng.below(count)].0 = 0;
+    }
+    match rng.below(4) {
+        0 => lines.sort_by_key(|line| line.0),
+        1 => lines.sort_by_key(|line| Reverse(line.0)),
+        _ => {}
+    }
+    lines
+}
+
+/// A line of any frame and group. One in four is like one before it but for the
+/// flag, so that it matters which of the two is the later.
+fn any_line(rng: &mut Rng, before: &[Pattern], total_frames: i64, groups: usize) -> Pattern {
+    if !before.is_empty() && rng.once_in(4) {
+        let &(frame, group, flag) = rng.pick(before);
+        return (frame, group, !flag);
+    }
+    let frame = rng.between(0, total_frames - 1);
+    (frame, rng.below(groups) as i64, rng.coin())
 }
 
 /// A bone that is short to write.
@@ -134,15 +153,13 @@ pub fn short(rng: &mut Rng) -> Movement {
 }
 
 fn full_of(rng: &mut Rng, total_frames: i64) -> Movement {
+    // Frames of one digit, to be short to write.
+    let lines = any_lines(rng, limits::PATTERNS, total_frames.min(10), 10);
     let mut movement = Movement {
         total_frames,
         name: None,
         bones: vec![bare(); limits::BONES],
-        patterns: Some(
-            (0..limits::PATTERNS)
-                .map(|_| (0, rng.between(0, 9), rng.coin()))
-                .collect(),
-        ),
+        patterns: Some(lines),
         style: Style::Compact,
         varied: false,
     };
@@ -170,11 +187,8 @@ pub fn at_limits(rng: &mut Rng, past: usize) -> Movement {
         0 => movement.bones.resize(limits::BONES + past, bare()),
         1 => add_keys(rng, &mut movement, limits::KEYS + past),
         _ => {
-            let lines = movement.patterns.get_or_insert_default();
-            let last = lines.last().map_or(0, |line| line.0);
-            lines.resize_with(limits::PATTERNS + past, || {
-                (last, rng.between(0, 9), rng.coin())
-            });
+            let lines = any_lines(rng, limits::PATTERNS + past, total_frames, 10);
+            movement.patterns = Some(lines);
         }
     }
     movement

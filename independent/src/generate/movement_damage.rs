@@ -1,11 +1,11 @@
 //! Damage to a movement's lists: refusals 14 to 16.
 
-use super::movement::Movement;
+use super::movement::{any_lines, Movement, Pattern};
 use super::rng::Rng;
 
 /// Damages one list.
 pub fn damage(rng: &mut Rng, movement: &mut Movement) {
-    match rng.below(6) {
+    match rng.below(8) {
         0 => total_frames(rng, movement),
         1..=3 => key(rng, movement),
         _ => pattern(rng, movement),
@@ -18,7 +18,7 @@ fn total_frames(rng: &mut Rng, movement: &mut Movement) {
     movement.total_frames = *rng.pick(&[0, -1, 32_768, far[0], far[1], most - 1, 1]);
 }
 
-/// A frame that is out of range, or out of order after `before`.
+/// A key's frame that is out of range, or out of order after `before`.
 fn bad_frame(rng: &mut Rng, before: i64, total_frames: i64) -> i64 {
     *rng.pick(&[
         before,
@@ -58,17 +58,62 @@ fn key(rng: &mut Rng, movement: &mut Movement) {
     }
 }
 
+/// One line or two have a fault of their own, none has frame 0, or both, or the
+/// only one with frame 0 has a bad group.
 fn pattern(rng: &mut Rng, movement: &mut Movement) {
     let total_frames = movement.total_frames;
     let lines = movement.patterns.get_or_insert_default();
     if lines.is_empty() {
-        lines.extend([(0, 0, true), (total_frames - 1, 1, false)]);
+        let count = 1 + rng.below(9);
+        // The total may be damaged already.
+        *lines = any_lines(rng, count, total_frames.max(1), 4);
     }
     let row = rng.below(lines.len());
-    match rng.below(4) {
-        0 => lines[0].0 = *rng.pick(&[1, -1, total_frames]),
-        1 => lines[row].1 = *rng.pick(&[-1, -1, i64::from(i32::MIN)]),
-        2 if row > 0 => lines.swap(row - 1, row),
-        _ => lines[row].0 = bad_frame(rng, lines[row].0, total_frames),
+    match rng.below(10) {
+        0..=3 => line_fault(rng, &mut lines[row], total_frames),
+        4 => {
+            let other = rng.below(lines.len());
+            line_fault(rng, &mut lines[row], total_frames);
+            line_fault(rng, &mut lines[other], total_frames);
+        }
+        5 | 6 => {
+            if rng.once_in(3) {
+                lines.truncate(1);
+            }
+            no_start(rng, lines, total_frames);
+        }
+        // Wherever this fault is, the refusal is at row 0.
+        7 | 8 => {
+            no_start(rng, lines, total_frames);
+            line_fault(rng, &mut lines[row], total_frames);
+        }
+        _ => {
+            no_start(rng, lines, total_frames);
+            lines[row].0 = 0;
+            lines[row].1 = bad_group(rng);
+        }
+    }
+}
+
+/// Gives a line a frame below 0 or not below the total, or a group below 0.
+fn line_fault(rng: &mut Rng, line: &mut Pattern, total_frames: i64) {
+    match rng.below(3) {
+        0 => line.0 = *rng.pick(&[-1, -1, i64::from(i32::MIN)]),
+        1 => {
+            let most = i64::from(i32::MAX);
+            line.0 = *rng.pick(&[total_frames, total_frames, total_frames + 1, most]);
+        }
+        _ => line.1 = bad_group(rng),
+    }
+}
+
+fn bad_group(rng: &mut Rng) -> i64 {
+    *rng.pick(&[-1, -1, i64::from(i32::MIN)])
+}
+
+/// Moves every line from frame 0 to another, below the total if there is one.
+fn no_start(rng: &mut Rng, lines: &mut [Pattern], total_frames: i64) {
+    for (frame, _, _) in lines.iter_mut().filter(|line| line.0 == 0) {
+        *frame = rng.between(1, (total_frames - 1).max(1));
     }
 }

@@ -1,7 +1,7 @@
 //! Pairs to write: a figure and a movement; sound ones load together.
 
 use super::figure::{self, Figure, Sizes};
-use super::movement::{self, Movement, Pattern};
+use super::movement::{self, Movement};
 use super::piece::name_of;
 use super::render::{any_style, Style};
 use super::rng::Rng;
@@ -28,13 +28,11 @@ impl Pair {
 
 /// A sound pair: most are small, some have a list of the movement at its most.
 pub fn sound(rng: &mut Rng) -> Pair {
-    let mut pair = if rng.once_in(40) {
+    if rng.once_in(40) {
         large(rng)
     } else {
         small(rng)
-    };
-    fit(rng, &mut pair);
-    pair
+    }
 }
 
 /// A sound pair with most lists at their most, of few frames.
@@ -48,12 +46,9 @@ pub fn full(rng: &mut Rng) -> Pair {
         groups: limits::GROUPS,
         ..figure::small_sizes(rng)
     };
-    let mut pair = Pair {
-        figure: figure::of_sizes(rng, sizes, Style::Compact, false),
-        movement: movement::short(rng),
-    };
-    fit(rng, &mut pair);
-    pair
+    let figure = figure::of_sizes(rng, sizes, Style::Compact, false);
+    let movement = movement::short(rng);
+    fitted(rng, figure, movement, limits::PATTERNS)
 }
 
 fn small(rng: &mut Rng) -> Pair {
@@ -66,8 +61,9 @@ fn small(rng: &mut Rng) -> Pair {
     let mut movement = movement::small(rng);
     let spare = movement.bones[0].clone();
     movement.bones.resize(sizes.bones, spare);
-    movement.patterns = patterns(rng, movement.total_frames);
-    Pair { figure, movement }
+    // Enough lines that those of a group often stand out of order, or none.
+    let lines = if rng.once_in(8) { 0 } else { rng.below(20) };
+    fitted(rng, figure, movement, lines)
 }
 
 /// The movement's bones, keys or pattern lines are at their most.
@@ -79,39 +75,24 @@ fn large(rng: &mut Rng) -> Pair {
         ..figure::small_sizes(rng)
     };
     let figure = figure::of_sizes(rng, sizes, Style::Compact, false);
-    Pair { figure, movement }
+    let lines = movement.patterns.as_ref().map_or(0, Vec::len);
+    fitted(rng, figure, movement, lines)
 }
 
-/// Pattern lines whose groups are still to be chosen.
-fn patterns(rng: &mut Rng, total_frames: i64) -> Option<Vec<Pattern>> {
-    if rng.once_in(6) {
-        return None;
-    }
-    let count = rng.below(12);
-    let frames = movement::pattern_frames(rng, count, total_frames);
-    let lines = frames.into_iter();
-    Some(lines.map(|frame| (frame, 0, rng.coin())).collect())
-}
-
-/// Gives the bones of both texts names that go together, and the pattern lines
-/// groups of the figure.
-fn fit(rng: &mut Rng, pair: &mut Pair) {
+/// Gives the bones of both texts names that go together, and the movement so
+/// many pattern lines of the figure's groups, if it has any.
+fn fitted(rng: &mut Rng, figure: Figure, movement: Movement, count: usize) -> Pair {
+    let mut pair = Pair { figure, movement };
     for row in 0..pair.figure.bones.len() {
         let [ours, theirs] = names(rng, pair.figure.varied);
         pair.figure.bones[row].name = ours;
         pair.movement.bones[row].name = theirs;
     }
     let groups = pair.groups();
-    let lines = pair.movement.patterns.get_or_insert_default();
-    if groups == 0 {
-        lines.clear();
-    }
-    for (_, group, _) in lines.iter_mut() {
-        *group = rng.below(groups) as i64;
-    }
-    if lines.is_empty() && rng.coin() {
-        pair.movement.patterns = None;
-    }
+    let count = if groups == 0 { 0 } else { count };
+    let lines = movement::any_lines(rng, count, pair.movement.total_frames, groups);
+    pair.movement.patterns = (count > 0 || rng.coin()).then_some(lines);
+    pair
 }
 
 /// The names of one bone: alike, or one of them or both empty or absent.

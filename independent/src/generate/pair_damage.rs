@@ -1,7 +1,7 @@
 //! Damage to pairs: refusals 18, 19 and 20, damage to either text, and to the
 //! head of the figure's record.
 
-use super::movement::Pattern;
+use super::movement::any_lines;
 use super::pair::{some_name, sound, Pair};
 use super::piece::string_byte;
 use super::plan;
@@ -11,7 +11,7 @@ use crate::many;
 
 pub fn damaged(rng: &mut Rng) -> Vec<u8> {
     let mut pair = sound(rng);
-    match rng.below(20) {
+    match rng.below(22) {
         0..=8 => {
             faults(rng, &mut pair);
             pair.text(rng)
@@ -132,15 +132,16 @@ fn another_byte(rng: &mut Rng, byte: u8) -> u8 {
     }
 }
 
-/// A pattern line names a group that the figure has not; at times two do.
+/// A pattern line names a group that the figure has not; at times more do.
 fn groups(rng: &mut Rng, pair: &mut Pair) {
-    let known = pair.groups() as i64;
-    let lines: &mut Vec<Pattern> = pair.movement.patterns.get_or_insert_default();
-    while lines.len() < 2 {
-        let frame = lines.last().map_or(0, |line| line.0);
-        lines.push((frame, rng.between(0, known), rng.coin()));
+    let groups = pair.groups();
+    let known = groups as i64;
+    let total_frames = pair.movement.total_frames;
+    let lines = pair.movement.patterns.get_or_insert_default();
+    if lines.len() < 2 {
+        *lines = any_lines(rng, 2, total_frames, groups + 1);
     }
-    for _ in 0..*rng.pick(&[1, 1, 2]) {
+    for _ in 0..*rng.pick(&[1, 2, 3]) {
         let row = rng.below(lines.len());
         lines[row].1 = *rng.pick(&[known, known, known + 1, i64::from(i32::MAX)]);
     }
@@ -162,11 +163,12 @@ fn one_text_or_both(rng: &mut Rng, pair: Pair) -> Vec<u8> {
     many::pair(&figure, &movement)
 }
 
-/// Damages the head, what it says of the length, or the length itself.
+/// Damages the head, what it says of the length, or the length itself. The
+/// lengths often, so that a few hundred pairs meet them all.
 fn record(rng: &mut Rng, figure: Vec<u8>, movement: Vec<u8>) -> Vec<u8> {
-    match rng.below(6) {
+    match rng.below(9) {
         0 | 1 => head(rng, &many::pair(&figure, &movement)),
-        2 | 3 => {
+        2..=4 => {
             let rest = [figure.as_slice(), &movement].concat();
             let length = wrong_length(rng, figure.len(), rest.len());
             of_length(length, &rest)
@@ -203,16 +205,15 @@ fn head(rng: &mut Rng, pair: &[u8]) -> Vec<u8> {
 
 /// Past the input's end, or another place in it than the figure's end.
 fn wrong_length(rng: &mut Rng, figure: usize, rest: usize) -> usize {
-    match rng.below(8) {
-        0 => rest + *rng.pick(&[1, 1, 2, 9, 10, 70_000]),
-        1 => *rng.pick(&[99_999_999, 65_537, 131_074, 131_075, 200_000]),
-        // Often, so that a few hundred pairs meet it.
-        2 | 3 => limits::TEXT_BYTES,
+    match rng.below(10) {
+        0 | 1 => rest + *rng.pick(&[1, 1, 2, 9, 10, 70_000]),
+        2 | 3 => *rng.pick(&[99_999_999, 65_537, 131_074, 131_075, 200_000]),
+        4 | 5 => limits::TEXT_BYTES,
         // The figure is cut, and its end stands before the movement.
-        4 => figure - 1 - rng.below(9),
+        6 => figure - 1 - rng.below(9),
         // The movement's first bytes stand in the figure.
-        5 => figure + 1 + rng.below(9),
-        6 => *rng.pick(&[0, 1, 4, rest - 1, rest]),
+        7 => figure + 1 + rng.below(9),
+        8 => *rng.pick(&[0, 1, 4, rest - 1, rest]),
         _ => rng.below(rest + 1),
     }
 }

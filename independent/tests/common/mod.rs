@@ -90,6 +90,34 @@ pub fn movement_of(names: &Names, lines: &str) -> String {
     changed(&text, "(kgf 0 0 true)(kgf 4 1 false)", lines)
 }
 
+/// One face of `Polygons`, one of group 0, two of group 1; the last has a
+/// corner without a bone.
+pub fn grouped() -> String {
+    let text = changed(
+        FIGURE,
+        "(i3 0 1 2)(i3 -1 -1 -1)))",
+        "(i3 0 1 0)(i3 -1 -1 -1)))(DynamicPolygons
+        (group(face 0(i3 0 0 1)(i3 -1 -1 -1)))
+        (group(face 0(i4 0 1 0 1)(i4 1 1 0 0))(face 0(i3 0 1 2)(i3 -1 -1 -1))))",
+    );
+    changed(
+        &text,
+        "(Polygons",
+        "(TextureCoords(f2 0.5 1)(f2 0 -2))(Polygons",
+    )
+}
+
+/// A movement of so many frames with these pattern lines, parted by commas. Its
+/// channels have one key each.
+pub fn movement_of_lines(total_frames: i64, lines: &str) -> String {
+    let lines = lines.split(", ").filter(|line| !line.is_empty());
+    let chunks: String = lines.map(|line| format!("(kgf {line})")).collect();
+    let text = changed(MOVEMENT, "(kf 3 46.406628)(kf 6 132.590363)", "");
+    let frames = format!("totalFrame {total_frames}");
+    let text = changed(&text, "totalFrame 11", &frames);
+    changed(&text, "(kgf 0 0 true)(kgf 4 1 false)", &chunks)
+}
+
 pub fn refusal(number: u8, place: usize) -> Option<Refusal> {
     Some(Refusal::new(number, place))
 }
