@@ -1,51 +1,47 @@
 -- One pattern line: that its frame and group are not below 0, and whether it decides, by the code's tests.
 use mathlib.Core.Path.{_≡_, refl, ap, sym, _∙_}
 use mathlib.Core.List.{[], _∷_}
-use mathlib.Core.Bool.{Bool, true, false, false≢true, not, _&&_}
+use mathlib.Core.Bool.{Bool, true, false, not, _&&_}
 use mathlib.Core.Option.{Option, none, some}
-use Prim.Native.Nat.{ℕ, suc, _-_, _^_, _≤_, _<_}
+use Prim.Native.Nat.{ℕ, suc, _≤_, _<_}
 use native.Mathlib.Omega.{arith}
 use borrow.Author.Tests.{le-leb, lt-leb, eq-eqb, ne-eqb}
 use lib.Dec.{leb, eqb}
 use lib.IntN.{ℤ, pos, negsuc, natAbs}
-use lib.Signed.{ltZ, leZ}
 use mir.Syntax.{w64}
 use mir.Val.{SFits, ofZ}
 use Rattle.text_numerals.proofs.Numerals.{and-true}
 use Rattle.signed.proofs.Tests.{and3}
 use Rattle.table_references.specs.References.{isRow}
 use Rattle.tra4_text.specs.Movement.{Pattern, frameOf, groupOf}
-use Rattle.tra4_text.specs.Rules.{isFrame, patternFine}
+use Rattle.tra4_text.specs.Rules.{isZero, patternFine}
+use Rattle.tra4_text.proofs.Zero.{zero-bits}
+use Rattle.tra4_frames.proofs.Frames.{from-zero-on, frame-is}
 use Rattle.player_spec.specs.Deciding.{Line, lineFrame, applies, flagOf, notAfter, better}
 use Rattle.player_spec.proofs.Greatest.{better-yes, better-no}
 use Rattle.player_patterns.specs.Internal.Pass.{lineFine, bestFrame}
 
 -- ---- a sound line
 
-natural : (z : ℤ) → leZ (pos 0) z ≡ true → z ≡ pos (natAbs z)
-natural (pos n) e = refl
-natural (negsuc n) e = absurd (false≢true e)
-
 pub line-naturals : (total : ℤ) (groups : ℕ) (f g flag : ℤ) → lineFine total groups (f ∷ g ∷ flag ∷ []) ≡ true → (f ≡ pos (natAbs f)) × (g ≡ pos (natAbs g))
-unfolding lineFine patternFine isFrame frameOf groupOf
+unfolding lineFine patternFine frameOf groupOf
 line-naturals total groups f g flag e =
     let p = and-true _ _ (and-true _ _ (and-true _ _ e .0) .0) in
-    (natural f (and-true (leZ (pos 0) f) (ltZ f total) (p .0) .0), natural g (p .1))
+    (frame-is total f (p .0), from-zero-on g (p .1))
 
 pub line-split : (total : ℤ) (groups : ℕ) (f g flag : ℤ) → lineFine total groups (f ∷ g ∷ flag ∷ []) ≡ (patternFine total (f ∷ g ∷ flag ∷ []) && (isRow groups g && isRow 2 flag))
 unfolding lineFine groupOf
 line-split total groups f g flag = and3 (patternFine total (f ∷ g ∷ flag ∷ [])) (isRow groups g) (isRow 2 flag)
 
 -- the flag by its bits
+zero-size : (z : ℤ) → isZero z ≡ eqb (natAbs z) 0
+unfolding isZero
+zero-size (pos n) = refl
+zero-size (negsuc n) = sym (ne-eqb (suc n) 0 (λ e. omega arith))
+
 pub flag-bits : (f g flag : ℤ) → SFits w64 flag → not (eqb (ofZ w64 flag) 0) ≡ flagOf (f ∷ g ∷ flag ∷ [])
 unfolding flagOf
-flag-bits f g flag fits = ap not (zero-bits flag fits)
-  where
-    zero-bits : (z : ℤ) → SFits w64 z → eqb (ofZ w64 z) 0 ≡ eqb (natAbs z) 0
-    zero-bits (pos n) f = refl
-    zero-bits (negsuc k) f =
-        let h : k < 2 ^ 63 = f .sfits in
-        ne-eqb (2 ^ 64 - suc k) 0 (λ e. omega arith) ∙ sym (ne-eqb (suc k) 0 (λ e. omega arith))
+flag-bits f g flag fits = ap not (zero-bits flag fits ∙ zero-size flag)
 
 -- ---- whether it decides
 

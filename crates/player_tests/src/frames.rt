@@ -4,15 +4,13 @@ ghost use mathlib.Core.List.{[], _∷_};
 ghost use mathlib.Core.Option.{some};
 ghost use lib.IntN.{ℤ, pos};
 ghost use Rattle.tra4_text.specs.Rules.{keyFine};
+use tra4_frames::is_frame;
 
 // Whether a key's frame may follow another's.
 pub fn follows(total: i64, before: usize, f: i64) -> bool
     ensures { λ r. ⌜ ((v : ℤ) → r ≡ keyFine total (some (pos before)) (f ∷ v ∷ [])) ⌝ }
 {
-    if f < 0 {
-        return false;
-    }
-    if total <= f {
+    if !is_frame(total, f) {
         return false;
     }
     before < f as usize

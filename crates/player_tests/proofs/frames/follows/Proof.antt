@@ -1,31 +1,33 @@
--- `follows` is the definition, by its bounds.
-use mathlib.Core.Path.{sym}
+-- `follows` is the definition: a frame of the movement, after the one before.
+use mathlib.Core.Path.{_≡_, sym, _∙_}
+use mathlib.Core.Bool.{true}
+use borrow.Author.Needs.{needs}
+use borrow.Author.Tests.{not-true, not-false}
 use mir.Facts.{toZ-ofZ}
-use Rattle.signed.proofs.Signed.{from-zero}
 use Rattle.table_columns.proofs.Casts.{natural-cast}
-use Rattle.player_tests.proofs.KeyFrames.{follow-negative, follow-late, follow-is}
+use Rattle.tra4_text.specs.Rules.{isFrame}
+use Rattle.tra4_frames.proofs.Frames.{frame-is}
+use Rattle.player_tests.proofs.KeyFrames.{follow-outside, follow-is}
 use Rattle.player_tests.proofs.frames.follows.Statement.{statement}
 use Rattle.player_tests.proofs.frames.follows.Tie as tie
 
-returns : tie.Need-returns
-returns c = λ v. sym (follow-negative _ _ v _ (rw (toZ-ofZ (c .before .fits .f)) at (c .if1 .taken)))
+told : (m : tie.After-is-frame) → m .is-frame .result ≡ isFrame (m .before .args .total) (m .before .args .f)
+told m = let a = m .before .fits in rw (toZ-ofZ (a .total), toZ-ofZ (a .f)) at (m .is-frame .ensures)
 
-returns-2 : tie.Need-returns-2
-returns-2 c = λ v.
-    let a = c .before .before .fits in
-    let g = toZ-ofZ (a .f) in
-    sym (follow-late _ _ v _ (rw g at (c .before .if1 .left)) (rw (toZ-ofZ (a .total), g) at (c .if2 .taken)))
+inside : (e : tie.Else1) → isFrame (e .before .before .args .total) (e .before .before .args .f) ≡ true
+inside e = sym (told (e .before)) ∙ not-false _ (e .if1 .left)
+
+is-frame-requires : tie.Need-is-frame-requires
+is-frame-requires c κs = search needs
+
+returns : tie.Need-returns
+returns c = λ v. sym (follow-outside _ _ _ v (sym (told (c .before)) ∙ not-true _ (c .if1 .taken)))
 
 cast-result : tie.Need-cast-result
-cast-result c =
-    let a = c .before .before .fits in
-    natural-cast _ (a .f) (from-zero _ (rw (toZ-ofZ (a .f)) at (c .before .if1 .left)))
+cast-result c = natural-cast _ (c .before .before .fits .f) (frame-is _ _ (inside c))
 
-returns-3 : tie.Need-returns-3
-returns-3 c = λ v.
-    let a = c .before .before .fits in
-    let g = toZ-ofZ (a .f) in
-    rw g (sym (follow-is _ _ v _ (rw g at (c .before .if1 .left)) (rw (toZ-ofZ (a .total), g) at (c .if2 .left))))
+returns-2 : tie.Need-returns-2
+returns-2 c = λ v. rw (toZ-ofZ (c .before .before .fits .f)) (sym (follow-is _ _ _ v (inside c)))
 
 pub follows-spec : {M : Type 1} → statement M
-follows-spec = tie.close (tie.spec returns returns-2 cast-result returns-3)
+follows-spec = tie.close (tie.spec is-frame-requires returns cast-result returns-2)
