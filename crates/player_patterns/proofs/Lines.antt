@@ -16,7 +16,7 @@ use Rattle.table_references.specs.References.{isRow}
 use Rattle.tra4_text.specs.Movement.{Pattern, frameOf, groupOf}
 use Rattle.tra4_text.specs.Rules.{isZero, patternFine}
 use Rattle.tra4_text.proofs.Zero.{zero-bits}
-use Rattle.tra4_frames.proofs.Frames.{from-zero-on, frame-is}
+use Rattle.tra4_tests.proofs.Frames.{from-zero-on, frame-is}
 use Rattle.player_spec.specs.Deciding.{Line, lineFrame, applies, flagOf, notAfter, better}
 use Rattle.player_spec.proofs.Greatest.{better-yes, better-no}
 use Rattle.player_patterns.specs.Internal.Pass.{lineFine, bestFrame}

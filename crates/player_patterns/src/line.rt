@@ -8,7 +8,7 @@ ghost use Rattle.tra4_text.specs.Rules.{isZero};
 ghost use Rattle.player_spec.specs.Deciding.{lineFrame, applies};
 ghost use Rattle.player_patterns.specs.Internal.Pass.{lineFine};
 use table_references::is_row;
-use tra4_frames::pattern_fits;
+use tra4_tests::pattern_fits;
 
 // Whether a line keeps its rule, its group is one of the figure's and its flag 0 or 1.
 pub(crate) fn line_fine(total: i64, groups: usize, f: i64, g: i64, flag: i64) -> bool

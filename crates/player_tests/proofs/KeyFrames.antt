@@ -8,7 +8,7 @@ use lib.Dec.{ltb}
 use lib.IntN.{ℤ, pos, natAbs}
 use Rattle.tra4_text.specs.Movement.{frameOf}
 use Rattle.tra4_text.specs.Rules.{isFrame, rises, keyFine}
-use Rattle.tra4_frames.proofs.Frames.{frame-is}
+use Rattle.tra4_tests.proofs.Frames.{frame-is}
 
 module _ (total : ℤ) (before : ℕ) (f v : ℤ) where
   pub follow-outside : isFrame total f ≡ false → keyFine total (some (pos before)) (f ∷ v ∷ []) ≡ false

@@ -1,7 +1,7 @@
 -- A frame by the code's tests, and a walk over a channel's keys by its steps.
 use mathlib.Core.Path.{_≡_, refl}
 use mathlib.Core.List.{List}
-use mathlib.Core.Bool.{Bool, true, false, false≢true, _&&_}
+use mathlib.Core.Bool.{Bool, true, false, _&&_}
 use mathlib.Core.Option.{Option, none, some}
 use Prim.Native.Nat.{ℕ, suc, _+_, _-_, _≤_, _<_}
 use native.Mathlib.Nat.{add-zero}
@@ -10,11 +10,8 @@ use borrow.Author.Tests.{eq-eqb, ne-eqb}
 use lib.Dec.{eqb}
 use lib.ListN.{length, take, drop, getD, length-drop}
 use lib.Seq.{drop-drop, getD-take, getD-drop}
-use lib.IntN.{ℤ, pos, negsuc, natAbs}
-use lib.Signed.{ltZ, leZ}
+use lib.IntN.{ℤ, pos}
 use Rattle.refusal.specs.Faults.{Fault, clear, fault}
-use Rattle.signed.proofs.Tests.{most-above}
-use Rattle.text_numerals.proofs.Numerals.{and-true}
 use Rattle.tra4_text.specs.Movement.{frameOf}
 use Rattle.tra4_text.specs.Rules.{isFrame, rises, keyFine, channelFault}
 use Rattle.table_columns.specs.Parts.{rowsOf}
@@ -22,23 +19,6 @@ use Rattle.table_columns.proofs.Rows.{rows-more, rows-short, row-part, part-res
 use Rattle.tra4_frames.specs.Internal.Frames.{beforeOf}
 
 -- ---- one frame
-
-pub from-zero-on : (z : ℤ) → leZ (pos 0) z ≡ true → z ≡ pos (natAbs z)
-from-zero-on (pos n) e = refl
-from-zero-on (negsuc n) e = absurd (false≢true e)
-
-module _ (total f : ℤ) where
-  pub frame-negative : ltZ f (pos 0) ≡ true → isFrame total f ≡ false
-  unfolding isFrame
-  frame-negative e = rw (most-above (pos 0) f, e)
-
-  pub frame-natural : ltZ f (pos 0) ≡ false → isFrame total f ≡ ltZ f total
-  unfolding isFrame
-  frame-natural e = rw (most-above (pos 0) f, e)
-
-  pub frame-is : isFrame total f ≡ true → f ≡ pos (natAbs f)
-  unfolding isFrame
-  frame-is e = from-zero-on f (and-true (leZ (pos 0) f) (ltZ f total) e .0)
 
 -- the frame before a key that is not the first
 pub before-later : (row at : ℕ) (b : ℤ) → row ≤ at → beforeOf (eqb (suc at) row) b ≡ some b

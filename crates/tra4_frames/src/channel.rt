@@ -7,9 +7,9 @@ ghost use Rattle.refusal.specs.Internal.Answers.{refusal};
 ghost use Rattle.tra4_text.specs.Rules.{isFrame, rises, channelFault};
 ghost use Rattle.table_columns.specs.Parts.{rowsOf};
 ghost use Rattle.tra4_frames.specs.Internal.Frames.{beforeOf};
-use crate::frame::is_frame;
 use refusal::Checked;
 use table_counts::KEY_WIDTH;
+use tra4_tests::is_frame;
 
 // The first of the keys from `row` up to `end` that breaks the rule, where the table begins with them.
 // A row that is not whole is not looked at.

@@ -1,14 +1,12 @@
 // Rule 16: the pattern lines, in any order.
 ghost use mathlib.Core.Path.{_≡_};
-ghost use mathlib.Core.List.{[], _∷_};
-ghost use lib.IntN.{ℤ};
 ghost use Rattle.refusal.specs.Internal.Answers.{refusal};
 ghost use Rattle.refusal.specs.FirstBad.{firstBad};
 ghost use Rattle.tra4_text.specs.Rules.{patternFine, hasStart, patternsFault};
 ghost use Rattle.table_columns.specs.Parts.{rowsOf};
-use crate::frame::is_frame;
 use refusal::Checked;
 use table_counts::PATTERN_WIDTH;
+use tra4_tests::pattern_fits;
 
 // The fault of `count` rows of 3 under rule 16; a row that is not whole is not looked at.
 pub fn patterns_fault(total: i64, patterns: &[i64], count: usize) -> Checked
@@ -27,16 +25,6 @@ pub fn patterns_fault(total: i64, patterns: &[i64], count: usize) -> Checked
         };
     }
     lines_fault(total, patterns, count)
-}
-
-// Whether a pattern line's frame is one of the movement's and its group 0 or more.
-pub fn pattern_fits(total: i64, frame: i64, group: i64) -> bool
-    ensures { λ r. ⌜ ((flag : ℤ) → r ≡ patternFine total (frame ∷ group ∷ flag ∷ [])) ⌝ }
-{
-    if !is_frame(total, frame) {
-        return false;
-    }
-    0 <= group
 }
 
 // Whether a line has frame 0.

@@ -6,7 +6,7 @@ use borrow.Author.Tests.{not-true, not-false}
 use mir.Facts.{toZ-ofZ}
 use Rattle.table_columns.proofs.Casts.{natural-cast}
 use Rattle.tra4_text.specs.Rules.{isFrame}
-use Rattle.tra4_frames.proofs.Frames.{frame-is}
+use Rattle.tra4_tests.proofs.Frames.{frame-is}
 use Rattle.player_tests.proofs.KeyFrames.{follow-outside, follow-is}
 use Rattle.player_tests.proofs.frames.follows.Statement.{statement}
 use Rattle.player_tests.proofs.frames.follows.Tie as tie

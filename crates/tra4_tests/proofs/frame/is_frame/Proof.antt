@@ -1,9 +1,9 @@
 -- `is_frame` is the definition, by its tests.
 use mathlib.Core.Path.{sym}
 use mir.Facts.{toZ-ofZ}
-use Rattle.tra4_frames.proofs.Frames.{frame-negative, frame-natural}
-use Rattle.tra4_frames.proofs.frame.is_frame.Statement.{statement}
-use Rattle.tra4_frames.proofs.frame.is_frame.Tie as tie
+use Rattle.tra4_tests.proofs.Frames.{frame-negative, frame-natural}
+use Rattle.tra4_tests.proofs.frame.is_frame.Statement.{statement}
+use Rattle.tra4_tests.proofs.frame.is_frame.Tie as tie
 
 returns : tie.Need-returns
 returns c = sym (frame-negative _ _ (rw (toZ-ofZ (c .before .fits .frame)) at (c .if1 .taken)))

@@ -5,8 +5,8 @@ use mir.Facts.{toZ-ofZ}
 use Rattle.signed.proofs.Tests.{failed, passed}
 use Rattle.tra4_text.specs.Movement.{frameOf, groupOf}
 use Rattle.tra4_text.specs.Rules.{isFrame, patternFine}
-use Rattle.tra4_frames.proofs.pattern.pattern_fits.Statement.{statement}
-use Rattle.tra4_frames.proofs.pattern.pattern_fits.Tie as tie
+use Rattle.tra4_tests.proofs.line.pattern_fits.Statement.{statement}
+use Rattle.tra4_tests.proofs.line.pattern_fits.Tie as tie
 
 told : (m : tie.After-is-frame) → m .is-frame .result ≡ isFrame (m .before .args .total) (m .before .args .frame)
 told m = let f = m .before .fits in rw (toZ-ofZ (f .total), toZ-ofZ (f .frame)) at (m .is-frame .ensures)

@@ -1,0 +1,25 @@
+-- A frame, by the code's tests.
+use mathlib.Core.Path.{_≡_, refl}
+use mathlib.Core.Bool.{true, false, false≢true}
+use lib.IntN.{ℤ, pos, negsuc, natAbs}
+use lib.Signed.{ltZ, leZ}
+use Rattle.signed.proofs.Tests.{most-above}
+use Rattle.text_numerals.proofs.Numerals.{and-true}
+use Rattle.tra4_text.specs.Rules.{isFrame}
+
+pub from-zero-on : (z : ℤ) → leZ (pos 0) z ≡ true → z ≡ pos (natAbs z)
+from-zero-on (pos n) e = refl
+from-zero-on (negsuc n) e = absurd (false≢true e)
+
+module _ (total f : ℤ) where
+  pub frame-negative : ltZ f (pos 0) ≡ true → isFrame total f ≡ false
+  unfolding isFrame
+  frame-negative e = rw (most-above (pos 0) f, e)
+
+  pub frame-natural : ltZ f (pos 0) ≡ false → isFrame total f ≡ ltZ f total
+  unfolding isFrame
+  frame-natural e = rw (most-above (pos 0) f, e)
+
+  pub frame-is : isFrame total f ≡ true → f ≡ pos (natAbs f)
+  unfolding isFrame
+  frame-is e = from-zero-on f (and-true (leZ (pos 0) f) (ltZ f total) e .0)
