@@ -2,8 +2,8 @@
 use mathlib.Core.Path.{_≡_}
 use mathlib.Core.Logic.{_↔_, _⊎_}
 use mathlib.Core.List.{List, _∷_, _++_}
-use mathlib.Core.Bool.{true, false}
-use mathlib.Core.Option.{Option}
+use mathlib.Core.Bool.{true, false, _&&_}
+use mathlib.Core.Option.{Option, none, some}
 use Prim.Native.Nat.{ℕ}
 use lib.IntN.{ℤ, natAbs}
 use lib.ListN.{length}
@@ -15,6 +15,8 @@ use Rattle.tra4_text.specs.Movement.{Pattern, groupOf}
 use Rattle.tra4_text.specs.Rules.{patternFine, hasStart, patternsFault}
 use Rattle.player_spec.specs.Deciding.{lineFrame, Line, deciding, stateBy, Decides}
 use Rattle.player_spec.specs.InOrder.{neverFalls, lastFlag}
+use Rattle.player_spec.specs.Faces.{allOwned, shownOf}
+use Rattle.bac6_text.specs.Figure.{Bone, Face}
 
 -- ---- (vii): "A FLOAT may now end in `e`, an optional `-` and one digit 0 to 6. It is accepted if the value is a whole number of millionths, at most 9,999,999,999,999 either way."
 
@@ -32,7 +34,7 @@ pub record Exponents : Type 0 where
 
 -- ---- (ii): "Lines stand in any order, and if there are any, one has frame 0. A group's state at a frame comes from its line of greatest frame not after it, the later among equals."
 
--- `movementFault`, `shownOf` and `shownIn` say with `patternsFault` which lines are taken, and with `stateBy` and `deciding` what they show
+-- `patternsFault` is rule 16 in `movementFault`, and what Shown asks of all lines of a table in `canShow`
 pub record AnyOrder : Type 0 where
   -- rule 16: lines are taken exactly if one has frame 0, where there are any, and each keeps its own rule
   pub taken : (total : ℤ) (ps : List Pattern) → patternsFault total ps ≡ clear ↔ (((length ps ≡ 0) ⊎ (hasStart ps ≡ true)) × (all (patternFine total) ps ≡ true))
@@ -41,6 +43,9 @@ pub record AnyOrder : Type 0 where
   pub started : (total : ℤ) (ps : List Pattern) → hasStart ps ≡ true → patternsFault total ps ≡ firstBad 16 (patternFine total) 0 ps
   -- the line that decides of a group at a frame, with its row: all that apply give way to it; there is none exactly where none applies
   pub greatest : (g at : ℕ) (ps : List Pattern) (best : Option Line) → deciding g at ps ≡ best ↔ Decides g at ps (length ps) best
+  -- Shown of a face whose corners have bones is the state of its group, and yes for a face of `Polygons`, which reads no line
+  pub shown : (bs : List Bone) (ps : List Pattern) (f : Face) (g at : ℕ) → shownOf bs ps (f, some g) at ≡ (allOwned bs (f .vertices) && stateBy (deciding g at ps))
+  pub polygons : (bs : List Bone) (ps : List Pattern) (f : Face) (at : ℕ) → shownOf bs ps (f, none) at ≡ allOwned bs (f .vertices)
   -- in any order: neighbours may be exchanged, and no state changes, unless both are of one group and frame
   pub rule : (total : ℤ) (before after : List Pattern) (p q : Pattern) → patternsFault total (before ++ (p ∷ q ∷ after)) ≡ clear → patternsFault total (before ++ (q ∷ p ∷ after)) ≡ clear
   pub state : (g at : ℕ) (before after : List Pattern) (p q : Pattern) → (natAbs (groupOf p) ≡ natAbs (groupOf q) → lineFrame p ≡ lineFrame q → ⊥) → stateBy (deciding g at (before ++ (p ∷ q ∷ after))) ≡ stateBy (deciding g at (before ++ (q ∷ p ∷ after)))
