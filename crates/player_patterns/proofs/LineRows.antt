@@ -16,7 +16,7 @@ use Rattle.table_columns.specs.Parts.{numbersAt, rowsAt}
 use Rattle.table_columns.proofs.Parts.{three-at}
 use Rattle.player_spec.specs.Deciding.{Line, lineFrame, applies, better}
 use Rattle.player_spec.specs.Lookups.{onlyIf}
-use Rattle.player_patterns.specs.Answers.{decidedIn}
+use Rattle.player_patterns.specs.Internal.Answers.{decidedIn}
 use Rattle.player_patterns.specs.Internal.Pass.{lineFine, linesFrom, linesOver, bestFrame}
 use Rattle.player_patterns.proofs.Lines.{taken, kept}
 use Rattle.player_patterns.proofs.Passed.{answerBy, pass-fault, pass-on, pass-is}

@@ -18,7 +18,7 @@ use Rattle.tra4_text.proofs.Patterns.{patterns-told}
 use Rattle.player_spec.specs.Deciding.{Line, better, decidingFrom, deciding}
 use Rattle.player_spec.specs.Lookups.{onlyIf, linesFine}
 use Rattle.player_patterns.specs.Internal.Pass.{lineFine, linesFrom, linesOver}
-use Rattle.player_patterns.specs.Answers.{rowAndFlag, decidedIn}
+use Rattle.player_patterns.specs.Internal.Answers.{rowAndFlag, decidedIn}
 
 -- what a pass says, by the row and the flag
 unfoldable pub answerBy : Option (Option Line) → Option (Option (ℕ × Bool))

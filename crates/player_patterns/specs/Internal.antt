@@ -1,2 +1,3 @@
 -- States of loops and scaffolding: what the proofs of this crate use and no promise of the page cites.
+pub mod Answers
 pub mod Pass

@@ -3,7 +3,7 @@ ghost use mathlib.Core.Path.{_≡_};
 ghost use Prim.Native.Nat.{_/_};
 ghost use lib.ListN.{length};
 ghost use Rattle.table_columns.specs.Parts.{rowsAt};
-ghost use Rattle.player_patterns.specs.Answers.{decided, decidedIn};
+ghost use Rattle.player_patterns.specs.Internal.Answers.{decided, decidedIn};
 use crate::line::line_fine;
 use crate::line::replaces;
 use crate::line::starts;

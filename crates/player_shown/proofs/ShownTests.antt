@@ -22,7 +22,7 @@ use Rattle.table_figure.specs.Sections.{holdsFigure}
 use Rattle.table_columns.specs.Parts.{numberAt}
 use Rattle.player_spec.specs.Lookups.{onlyIf, isAsked, sizeFine, cornersFine, linesFine, faceAt, ownersFine, ownedCorners, patternRows, patternsFine, canShow, groupFlag, shownIn}
 use Rattle.player_shown.specs.Internal.Rows.{rowOwned, rowShown, stateOf, bothShown}
-use Rattle.player_patterns.specs.Answers.{rowAndFlag, decidedIn}
+use Rattle.player_patterns.specs.Internal.Answers.{rowAndFlag, decidedIn}
 use Rattle.player_spec.specs.Answers.{numbered}
 use Rattle.player_shown.specs.Answers.{showed, visible}
 

@@ -1,6 +1,6 @@
 // Whether something is shown, by a pattern line or by two answers.
 ghost use mathlib.Core.Path.{_≡_};
-ghost use Rattle.player_patterns.specs.Answers.{decided};
+ghost use Rattle.player_patterns.specs.Internal.Answers.{decided};
 ghost use Rattle.player_shown.specs.Internal.Rows.{stateOf, bothShown};
 ghost use Rattle.player_shown.specs.Answers.{visible};
 use player_patterns::Deciding;

@@ -1,16 +1,17 @@
--- Rule 16 by the code's tests, and a walk over the pattern lines for one with frame 0.
-use mathlib.Core.Path.{_≡_, refl, _∙_}
+-- Rule 16 by the code's tests: no line, none with frame 0, or the first that breaks its own rule.
+use mathlib.Core.Path.{_≡_, refl, ap, sym, _∙_}
 use mathlib.Core.List.{List, [], _∷_}
-use mathlib.Core.Bool.{Bool, true, false, _||_}
+use mathlib.Core.Bool.{Bool, true, false, not, _&&_, _||_}
 use Prim.Native.Nat.{ℕ, zero, suc, _+_, _-_, _≤_, _<_}
-use native.Mathlib.Nat.{sub-zero}
 use native.Mathlib.Omega.{arith}
-use lib.ListN.{length, take, drop, getD, length-drop}
-use lib.Seq.{drop-drop}
+use lib.ListN.{length, take, drop, getD}
 use lib.IntN.{ℤ, pos}
 use Rattle.refusal.specs.Faults.{clear, fault}
-use Rattle.refusal.specs.FirstBad.{firstBad}
+use Rattle.refusal.specs.FirstBad.{all, firstBad}
+use Rattle.refusal.proofs.Faults.{is-clear, not-clear}
+use Rattle.refusal.proofs.FirstBad.{first-bad-clear}
 use Rattle.refusal.specs.Rules.{orElse}
+use Rattle.tra4_text.specs.Movement.{frameOf}
 use Rattle.tra4_text.specs.Rules.{isZero, patternFine, hasStart, startFault, patternsFault}
 use Rattle.table_columns.specs.Parts.{numbersAt, rowsOf}
 use Rattle.table_columns.proofs.Parts.{three-at}
@@ -44,31 +45,26 @@ module _ (total : ℤ) (t : List ℤ) where
 pub line-row : (t : List ℤ) (base : ℕ) → 3 ≤ length t - base → take 3 (drop base t) ≡ getD t base (pos 0) ∷ getD t (base + 1) (pos 0) ∷ getD t (base + 2) (pos 0) ∷ []
 line-row t base h = unfold numbersAt in three-at t base (omega arith)
 
--- ---- a walk: k rows are left, from `base` on
+-- ---- a line with frame 0 is one that fails the test of all others, so one walk serves both rules
 
-module _ (table : List ℤ) where
-  unfoldable pub startFrom : ℕ → ℕ → Bool
-  startFrom k base = hasStart (rowsOf 3 k (drop base table))
+abbrev pub notStart : List ℤ → Bool
+notStart p = not (isZero (frameOf p))
 
-  pub start-begun : (n : ℕ) → hasStart (rowsOf 3 n table) ≡ startFrom (n - 0) 0
-  unfolding startFrom
-  start-begun n = rw (sub-zero n)
+pub row-start : (t : List ℤ) (base : ℕ) (v : Bool) → isZero (getD t base (pos 0)) ≡ v → notStart (take 3 (drop base t)) ≡ not v
+row-start t base v e = ap not (ap isZero (row-frame t 3 base (omega arith)) ∙ e)
 
-  pub start-done : (base : ℕ) → startFrom 0 base ≡ false
-  unfolding startFrom rowsOf hasStart
-  start-done base = refl
+start-all : (ps : List (List ℤ)) → hasStart ps ≡ not (all notStart ps)
+unfolding hasStart all
+start-all [] = refl
+start-all (p ∷ ps) = go (isZero (frameOf p)) (start-all ps)
+  where
+    go : (v : Bool) → hasStart ps ≡ not (all notStart ps) → (v || hasStart ps) ≡ not (not v && all notStart ps)
+    go true ih = refl
+    go false ih = ih
 
-  pub start-short : (k base : ℕ) → length table - base < 3 → startFrom k base ≡ false
-  unfolding startFrom hasStart
-  start-short k base h = rw (rows-short 3 k (drop base table) (rw length-drop h))
+module _ (ps : List (List ℤ)) where
+  pub start-none : firstBad 16 notStart 0 ps ≡ clear → hasStart ps ≡ false
+  start-none e = start-all ps ∙ ap not (sym (first-bad-clear 16 notStart 0 ps) ∙ sym (is-clear e))
 
-  module _ (k base : ℕ) (h : 3 ≤ length table - base) where
-    start-more : startFrom (suc k) base ≡ (isZero (getD table base (pos 0)) || startFrom k (base + 3))
-    unfolding startFrom hasStart
-    start-more = rw (rows-more 3 k (drop base table) (rw length-drop h)) (rw (row-frame table 3 base (omega arith), drop-drop))
-
-    pub start-found : isZero (getD table base (pos 0)) ≡ true → startFrom (suc k) base ≡ true
-    start-found e = start-more ∙ rw e
-
-    pub start-passed : isZero (getD table base (pos 0)) ≡ false → startFrom (suc k) base ≡ startFrom k (base + 3)
-    start-passed e = start-more ∙ rw e
+  pub start-some : {k row : ℕ} → firstBad 16 notStart 0 ps ≡ fault k row → hasStart ps ≡ true
+  start-some e = start-all ps ∙ ap not (sym (first-bad-clear 16 notStart 0 ps) ∙ sym (not-clear e))

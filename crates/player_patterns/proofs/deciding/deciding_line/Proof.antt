@@ -18,7 +18,7 @@ use Rattle.signed.proofs.Tests.{tested}
 use Rattle.tra4_text.specs.Rules.{isZero}
 use Rattle.player_spec.specs.Deciding.{lineFrame, applies}
 use Rattle.player_spec.specs.Lookups.{onlyIf}
-use Rattle.player_patterns.specs.Answers.{decided, rowAndFlag, decidedIn}
+use Rattle.player_patterns.specs.Internal.Answers.{decided, rowAndFlag, decidedIn}
 use Rattle.player_patterns.specs.Internal.Pass.{lineFine, bestFrame}
 use Rattle.player_patterns.proofs.Lines.{line-naturals, flag-bits}
 use Rattle.player_patterns.proofs.Passed.{answerBy}

@@ -1,6 +1,6 @@
 -- `state` is the definition, by the constructors.
 use borrow.Author.Needs.{needs}
-use Rattle.player_patterns.specs.Answers.{decided}
+use Rattle.player_patterns.specs.Internal.Answers.{decided}
 use Rattle.player_shown.specs.Internal.Rows.{stateOf}
 use Rattle.player_shown.specs.Answers.{visible}
 use Rattle.player_shown.proofs.visibility.state.Statement.{statement}
