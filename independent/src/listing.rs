@@ -67,7 +67,12 @@ pub fn movement_rows(movement: &Movement) -> Vec<Row> {
         let mut row = name_pair(bone.name).to_vec();
         for channel in &bone.channels {
             let count = channel.len() as i64;
-            row.extend([first_key, count]);
+            // One that is left out has no row to begin at.
+            row.extend(if count == 0 {
+                [0, 0]
+            } else {
+                [first_key, count]
+            });
             first_key += count;
         }
         rows.push(("bone", row));

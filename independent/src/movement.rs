@@ -7,6 +7,21 @@ use crate::token;
 
 pub const CHANNELS: usize = 10;
 
+/// What a channel that is left out has at every frame, by channel number:
+/// 004's standing pose, in millionths.
+pub const DEFAULTS: [i64; CHANNELS] = [
+    0,
+    0,
+    0,
+    100_000_000,
+    100_000_000,
+    100_000_000,
+    0,
+    0,
+    1_000_000,
+    0,
+];
+
 #[derive(Clone, Copy, Debug, PartialEq, Eq)]
 pub struct Key {
     pub frame: i64,
@@ -16,7 +31,8 @@ pub struct Key {
 #[derive(Clone, Debug, Default, PartialEq, Eq)]
 pub struct Bone {
     pub name: Option<Name>,
-    /// The keys of each channel, by channel number.
+    /// The keys of each channel, by channel number. One that is left out has
+    /// none, one that is written has at least one.
     pub channels: [Vec<Key>; CHANNELS],
 }
 
@@ -85,18 +101,18 @@ fn shape(cursor: &mut Cursor) -> Result<Movement, Refusal> {
     Ok(movement)
 }
 
-/// The channels by number; each must stand.
+/// The channels by number; any may be left out.
 const BONE: [FreeChunk; CHANNELS] = [
-    ("translate.x", true),
-    ("translate.y", true),
-    ("translate.z", true),
-    ("scale.x", true),
-    ("scale.y", true),
-    ("scale.z", true),
-    ("rotate.x", true),
-    ("rotate.y", true),
-    ("rotate.z", true),
-    ("roll", true),
+    ("translate.x", false),
+    ("translate.y", false),
+    ("translate.z", false),
+    ("scale.x", false),
+    ("scale.y", false),
+    ("scale.z", false),
+    ("rotate.x", false),
+    ("rotate.y", false),
+    ("rotate.z", false),
+    ("roll", false),
 ];
 
 fn bone(cursor: &mut Cursor) -> Result<Bone, Refusal> {

@@ -26,7 +26,8 @@ fn row_counts(movement: &Movement) -> Result<(), Refusal> {
     }
 }
 
-/// Key rows count over the whole table, by bone and then channel number.
+/// Key rows count over the whole table, by bone and then channel number. A
+/// channel that is left out has none.
 fn keys(movement: &Movement) -> Result<(), Refusal> {
     let mut first_row = 0;
     for channel in movement.channels() {

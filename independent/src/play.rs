@@ -2,7 +2,7 @@
 //! texts write them. None stands for 21, no such thing.
 
 use crate::figure::Figure;
-use crate::movement::Movement;
+use crate::movement::{Movement, DEFAULTS};
 use crate::pair::name_bytes;
 
 /// A fraction of millionths in lowest terms, denominator above 0.
@@ -45,11 +45,14 @@ fn is_frame(movement: &Movement, frame: i64) -> bool {
     0 <= frame && frame < movement.total_frames
 }
 
-/// A channel's value at a frame.
+/// A channel's value at a frame; one that is left out has its default at all.
 pub fn sample(movement: &Movement, bone: i64, channel: i64, frame: i64) -> Option<Fraction> {
     let keys = row(&row(&movement.bones, bone)?.channels, channel)?;
     if !is_frame(movement, frame) {
         return None;
+    }
+    if keys.is_empty() {
+        return Some(Fraction::reduced(*row(&DEFAULTS, channel)?, 1));
     }
     let before = keys.iter().rev().find(|key| key.frame <= frame)?;
     let after = keys.iter().find(|key| key.frame > frame);

@@ -82,8 +82,6 @@ fn a_bracket_where_no_chunk_may_open() {
 fn a_chunk_closed_too_early() {
     movement_stops(&up_to(MOVEMENT, "(Figure"), ")", 5);
     movement_stops(&up_to(MOVEMENT, "(totalFrame 11)"), ")", 5);
-    movement_stops(&up_to(MOVEMENT, "(bone"), "))", 5);
-    movement_stops(&up_to(MOVEMENT, "(rotate.z(kf 0 1))"), "))", 5);
     movement_stops(&up_to(MOVEMENT, "(roll"), "))", 5);
     movement_stops(&up_to(MOVEMENT, "(kf 3"), "))", 5);
 }

@@ -26,9 +26,10 @@ fn offset(text: &[u8], part: &str) -> usize {
     text.find(part).unwrap()
 }
 
-/// Each printed sample has brackets at a page's end that close too much.
+/// Each printed sample has brackets at a page's end that close too much. It is
+/// refused at one of them, or at what comes behind.
 #[test]
-fn as_printed_each_is_refused_at_a_surplus_bracket() {
+fn as_printed_each_is_refused_for_surplus_brackets() {
     // `Figure` is closed before `Bones`.
     let figure = text("sample01.bac");
     let place = close_before(&figure, "( Bones", 0);
@@ -44,9 +45,10 @@ fn as_printed_each_is_refused_at_a_surplus_bracket() {
         movement_listing(&movement),
         format!("refused\t5\t{place}\n")
     );
-    // The bone and `Figure` are closed before `scale.x`.
+    // The bone, which may lack the other channels, and `Figure` are closed
+    // before `scale.x`.
     let movement = text("sample02.tra");
-    let place = close_before(&movement, "( scale.x", 1);
+    let place = offset(&movement, "( scale.x");
     assert_eq!(
         movement_listing(&movement),
         format!("refused\t5\t{place}\n")
