@@ -151,17 +151,19 @@ fn sound_texts_have_every_exponent_at_every_place() {
     }
 }
 
-/// Most sound texts have decimals with an exponent, and each has others.
+/// Most sound texts have decimals with an exponent, and most have others. A
+/// movement whose bones have few channels or none has few decimals or none.
 #[test]
 fn sound_texts_have_decimals_with_and_without_exponents() {
     for texts in sound() {
-        let mut with_some = 0;
+        let (mut with_some, mut with_others) = (0, 0);
         for text in texts {
             let with = text.decimals().filter_map(Word::split).count();
-            assert!(with < text.decimals().count());
             with_some += usize::from(with > 0);
+            with_others += usize::from(with < text.decimals().count());
         }
-        assert!(with_some > 900, "{with_some}");
+        assert!(with_some > 850, "{with_some}");
+        assert!(with_others > 900, "{with_others}");
     }
 }
 

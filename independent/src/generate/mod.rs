@@ -1,5 +1,6 @@
 //! Test texts from a seed: sound and damaged figures, movements and pairs.
 
+pub mod bone_damage;
 pub mod bytes;
 pub mod figure;
 pub mod figure_damage;

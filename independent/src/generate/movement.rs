@@ -5,6 +5,8 @@ use super::piece::{any_name, Piece, Writer};
 use super::render::{any_style, render, Style};
 use super::rng::Rng;
 use crate::limits;
+use crate::movement::DEFAULTS;
+use std::array;
 use std::cmp::Reverse;
 
 /// Frame and value of a key.
@@ -15,7 +17,8 @@ pub type Pattern = (i64, i64, bool);
 #[derive(Clone, Debug)]
 pub struct Bone {
     pub name: Option<Vec<u8>>,
-    pub channels: Vec<Vec<Key>>,
+    /// The keys of each channel. Without keys, its chunk is left out.
+    pub channels: [Vec<Key>; 10],
 }
 
 /// A movement to write. Without patterns, their chunk is left out.
@@ -61,20 +64,45 @@ pub fn small(rng: &mut Rng) -> Movement {
     Movement {
         total_frames,
         name: any_name(rng),
-        bones: (0..bones)
-            .map(|_| Bone {
-                name: any_name(rng),
-                channels: (0..10).map(|_| channel(rng, total_frames)).collect(),
-            })
-            .collect(),
+        bones: any_bones(rng, bones, total_frames),
         patterns: patterns(rng, total_frames),
         style,
         varied: true,
     }
 }
 
+/// So many bones. In one movement of three each has all channels.
+pub fn any_bones(rng: &mut Rng, count: usize, total_frames: i64) -> Vec<Bone> {
+    let whole = rng.once_in(3);
+    let bone = |_| {
+        let stands = if whole { [true; 10] } else { any_channels(rng) };
+        Bone {
+            name: any_name(rng),
+            channels: array::from_fn(|channel| {
+                let keys = stands[channel].then(|| any_keys(rng, channel, total_frames));
+                keys.unwrap_or_default()
+            }),
+        }
+    };
+    (0..count).map(bone).collect()
+}
+
+/// Whether each channel of a bone stands.
+fn any_channels(rng: &mut Rng) -> [bool; 10] {
+    let one = rng.below(10);
+    match rng.below(8) {
+        0 => [false; 10],
+        1 => array::from_fn(|channel| channel == one),
+        2 => array::from_fn(|channel| channel != one),
+        // A bone that never scales.
+        3 => array::from_fn(|channel| !(3..6).contains(&channel)),
+        4 => [true; 10],
+        _ => array::from_fn(|_| rng.coin()),
+    }
+}
+
 /// A few keys: the first at 0, the others rising, the last frame at times.
-fn channel(rng: &mut Rng, total_frames: i64) -> Vec<Key> {
+fn any_keys(rng: &mut Rng, channel: usize, total_frames: i64) -> Vec<Key> {
     let mut frames = vec![0];
     for _ in 0..*rng.pick(&[0, 0, 0, 1, 2, 4]) {
         frames.push(rng.between(0, total_frames - 1));
@@ -84,8 +112,23 @@ fn channel(rng: &mut Rng, total_frames: i64) -> Vec<Key> {
     }
     frames.sort_unstable();
     frames.dedup();
-    let keys = frames.into_iter();
-    keys.map(|frame| (frame, number::any_float(rng))).collect()
+    let values = any_values(rng, channel, frames.len());
+    frames.into_iter().zip(values).collect()
+}
+
+/// The values of so many keys. In one channel of six all are its default, as if
+/// it were left out; in one of twelve all are some channel's, in one some are.
+fn any_values(rng: &mut Rng, channel: usize, count: usize) -> Vec<i64> {
+    let default = DEFAULTS[channel];
+    let some_default = *rng.pick(&DEFAULTS);
+    let kind = rng.below(12);
+    let value = |_| match kind {
+        0 | 1 => default,
+        2 => some_default,
+        3 if rng.coin() => default,
+        _ => number::any_float(rng),
+    };
+    (0..count).map(value).collect()
 }
 
 fn patterns(rng: &mut Rng, total_frames: i64) -> Option<Vec<Pattern>> {
@@ -132,12 +175,23 @@ fn any_line(rng: &mut Rng, before: &[Pattern], total_frames: i64, groups: usize)
     (frame, rng.below(groups) as i64, rng.coin())
 }
 
-/// A bone that is short to write.
-fn bare() -> Bone {
+/// A bone that is short to write: one key for each channel that stands.
+fn bare(stands: [bool; 10]) -> Bone {
     Bone {
         name: None,
-        channels: vec![vec![(0, 0)]; 10],
+        channels: stands.map(|stands| vec![(0, 0); usize::from(stands)]),
     }
+}
+
+/// So many such bones: each has all channels, each has none, or each has any.
+fn bare_bones(rng: &mut Rng, count: usize) -> Vec<Bone> {
+    let kind = rng.below(3);
+    let bone = |_| match kind {
+        0 => bare([true; 10]),
+        1 => bare([false; 10]),
+        _ => bare(any_channels(rng)),
+    };
+    (0..count).map(bone).collect()
 }
 
 /// A sound movement that fills the table: every list at its most.
@@ -155,61 +209,66 @@ pub fn short(rng: &mut Rng) -> Movement {
 fn full_of(rng: &mut Rng, total_frames: i64) -> Movement {
     // Frames of one digit, to be short to write.
     let lines = any_lines(rng, limits::PATTERNS, total_frames.min(10), 10);
-    let mut movement = Movement {
+    let mut bones = vec![bare([true; 10]); limits::BONES];
+    add_keys(rng, &mut bones, limits::KEYS);
+    Movement {
         total_frames,
         name: None,
-        bones: vec![bare(); limits::BONES],
+        bones,
         patterns: Some(lines),
         style: Style::Compact,
         varied: false,
-    };
-    add_keys(rng, &mut movement, limits::KEYS);
-    movement
+    }
 }
 
 /// A movement with one list at its most, or past it. Short to write.
 pub fn at_limits(rng: &mut Rng, past: usize) -> Movement {
-    let list = rng.below(3);
-    // Enough frames for the most keys over ten channels.
-    let total_frames = match list {
-        1 => rng.between(500, 900),
-        _ => rng.between(1, 20),
+    // Bones with and without channels, keys in many and in few, and patterns.
+    let list = *rng.pick(&[0, 0, 1, 1, 2]);
+    let count = match list {
+        0 => limits::BONES + past,
+        _ => 1 + rng.below(2),
     };
-    let mut movement = Movement {
+    let mut bones = bare_bones(rng, count);
+    let mut total_frames = rng.between(1, 20);
+    if list == 1 {
+        total_frames = fill(rng, &mut bones, limits::KEYS + past) + rng.between(0, 400);
+    }
+    let patterns = match list {
+        2 => Some(any_lines(rng, limits::PATTERNS + past, total_frames, 10)),
+        _ => patterns(rng, total_frames),
+    };
+    Movement {
         total_frames,
         name: any_name(rng),
-        bones: vec![bare(); 1 + rng.below(2)],
-        patterns: patterns(rng, total_frames),
+        bones,
+        patterns,
         style: Style::Compact,
         varied: false,
-    };
-    match list {
-        0 => movement.bones.resize(limits::BONES + past, bare()),
-        1 => add_keys(rng, &mut movement, limits::KEYS + past),
-        _ => {
-            let lines = any_lines(rng, limits::PATTERNS + past, total_frames, 10);
-            movement.patterns = Some(lines);
-        }
     }
-    movement
 }
 
-/// Spreads keys over the channels, one frame after another.
-fn add_keys(rng: &mut Rng, movement: &mut Movement, wanted: usize) {
-    let channels: usize = movement.bones.iter().map(|bone| bone.channels.len()).sum();
-    let mut count = channels;
-    'all: for frame in 1.. {
-        for channel in movement
-            .bones
-            .iter_mut()
-            .flat_map(|bone| &mut bone.channels)
-        {
-            if count == wanted {
-                break 'all;
-            }
-            channel.push((frame, number::short_float(rng)));
-            count += 1;
-        }
+/// Gives bare bones so many keys; answers how many frames they take. Where the
+/// bones have no channels, all keys are in one to three.
+fn fill(rng: &mut Rng, bones: &mut [Bone], wanted: usize) -> i64 {
+    for _ in 0..1 + rng.below(3) {
+        let bone = rng.below(bones.len());
+        bones[bone].channels[rng.below(10)] = vec![(0, 0)];
+    }
+    add_keys(rng, bones, wanted);
+    let channels = bones.iter().flat_map(|bone| &bone.channels);
+    channels.map(Vec::len).max().unwrap_or(0) as i64
+}
+
+/// Spreads keys over the channels that stand, one frame after another. Each
+/// has a key at frame 0 already.
+fn add_keys(rng: &mut Rng, bones: &mut [Bone], wanted: usize) {
+    let channels = bones.iter_mut().flat_map(|bone| &mut bone.channels);
+    let mut channels: Vec<&mut Vec<Key>> = channels.filter(|keys| !keys.is_empty()).collect();
+    let standing = channels.len();
+    for count in standing..wanted {
+        let frame = (count / standing) as i64;
+        channels[count % standing].push((frame, number::short_float(rng)));
     }
 }
 
@@ -230,14 +289,10 @@ impl Movement {
             w.open("bone");
             w.name(&bone.name);
             for channel in w.order(10) {
-                w.open(CHANNELS[channel]);
-                for &(frame, value) in &bone.channels[channel] {
-                    w.open("kf");
-                    w.int(frame);
-                    w.float(value);
-                    w.close();
+                let keys = &bone.channels[channel];
+                if !keys.is_empty() {
+                    write_channel(w, CHANNELS[channel], keys);
                 }
-                w.close();
             }
             w.close();
         }
@@ -255,4 +310,16 @@ impl Movement {
         w.close();
         writer.pieces
     }
+}
+
+/// A chunk of keys, or of none.
+pub fn write_channel(w: &mut Writer, keyword: &str, keys: &[Key]) {
+    w.open(keyword);
+    for &(frame, value) in keys {
+        w.open("kf");
+        w.int(frame);
+        w.float(value);
+        w.close();
+    }
+    w.close();
 }

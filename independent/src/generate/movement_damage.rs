@@ -37,6 +37,9 @@ fn key(rng: &mut Rng, movement: &mut Movement) {
     let bone = rng.below(movement.bones.len());
     let channel = rng.below(10);
     let keys = &mut movement.bones[bone].channels[channel];
+    if keys.is_empty() {
+        keys.push((0, 0));
+    }
     match rng.below(4) {
         // The first is not at 0.
         0 => keys[0].0 = *rng.pick(&[1, -1, total_frames]),

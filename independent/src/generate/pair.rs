@@ -59,8 +59,7 @@ fn small(rng: &mut Rng) -> Pair {
     let style = any_style(rng);
     let figure = figure::of_sizes(rng, sizes, style, true);
     let mut movement = movement::small(rng);
-    let spare = movement.bones[0].clone();
-    movement.bones.resize(sizes.bones, spare);
+    movement.bones = movement::any_bones(rng, sizes.bones, movement.total_frames);
     // Enough lines that those of a group often stand out of order, or none.
     let lines = if rng.once_in(8) { 0 } else { rng.below(20) };
     fitted(rng, figure, movement, lines)

@@ -153,7 +153,7 @@ fn replace_word(rng: &mut Rng, pieces: &mut [Piece], at: usize) {
 }
 
 /// The end of the chunk that opens at `open`: behind its `)`.
-fn chunk_end(pieces: &[Piece], open: usize) -> usize {
+pub fn chunk_end(pieces: &[Piece], open: usize) -> usize {
     let mut depth = 0;
     for (index, piece) in pieces.iter().enumerate().skip(open) {
         match piece.kind {

@@ -5,13 +5,16 @@ use super::movement::Movement;
 use super::piece::Piece;
 use super::render::{any_style, render, Style};
 use super::rng::Rng;
-use super::{bytes, figure, figure_damage, figure_limits, movement, movement_damage, piece_damage};
+use super::{bone_damage, bytes, figure, figure_damage, figure_limits, movement};
+use super::{movement_damage, piece_damage};
 use crate::limits;
 
 #[derive(Clone, Copy, Debug, PartialEq, Eq)]
 enum Damage {
     Lists,
     Tokens,
+    /// Of movements only.
+    Bone,
     Number,
     Exponent,
     Version,
@@ -28,6 +31,18 @@ fn plan(rng: &mut Rng) -> Vec<Damage> {
     let mut plan: Vec<Damage> = (0..count).map(|_| one(rng)).collect();
     if plan[0] == Damage::Lists && rng.once_in(3) {
         plan = vec![Damage::Lists; 2 + rng.below(2)];
+    }
+    plan
+}
+
+/// The same for a movement. One in three of its damages to tokens is to the
+/// chunks of a bone.
+fn movement_plan(rng: &mut Rng) -> Vec<Damage> {
+    let mut plan = plan(rng);
+    for damage in plan.iter_mut().filter(|damage| **damage == Damage::Tokens) {
+        if rng.once_in(3) {
+            *damage = Damage::Bone;
+        }
     }
     plan
 }
@@ -96,7 +111,7 @@ pub fn damaged_movement(rng: &mut Rng) -> Vec<u8> {
     if rng.once_in(LARGE) {
         return large_movement(rng);
     }
-    let plan = plan(rng);
+    let plan = movement_plan(rng);
     let movement = movement::small(rng);
     movement_by_plan(rng, movement, &plan)
 }
@@ -113,7 +128,7 @@ pub fn large_movement(rng: &mut Rng) -> Vec<u8> {
 
 /// The text of this movement, damaged.
 pub fn damage_movement(rng: &mut Rng, movement: Movement) -> Vec<u8> {
-    let plan = plan(rng);
+    let plan = movement_plan(rng);
     movement_by_plan(rng, movement, &plan)
 }
 
@@ -136,6 +151,7 @@ fn damaged(
     for damage in plan {
         match damage {
             Damage::Tokens => piece_damage::damage(rng, &mut pieces),
+            Damage::Bone => bone_damage::damage(rng, &mut pieces),
             Damage::Number => piece_damage::damage_number(rng, &mut pieces),
             Damage::Exponent => piece_damage::damage_exponent(rng, &mut pieces),
             Damage::Version => piece_damage::damage_version(rng, &mut pieces),
