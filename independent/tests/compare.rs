@@ -206,20 +206,60 @@ fn many_damaged_pairs_must_meet_every_refusal_of_a_pair() {
     assert!(unmet("damaged-figures", "100", &[]).is_empty());
 }
 
-/// Readers that put the lines in order, that refuse a frame that falls, and that
-/// give 16 for row 0 throughout.
-#[test]
-fn wrong_patterns_differ() {
-    for (name, kind, expected) in [
-        ("patterns_by_frame", "sound-movements", "pattern"),
-        ("falling_frame_refused", "sound-movements", "movement"),
-        ("pattern_row_0", "damaged-movements", "refused\\t16"),
-    ] {
+/// Each of these programs differs on movements of a kind, first at a line that
+/// begins so.
+fn differ_on_movements(programs: &[(&str, &str, &str)]) {
+    for (name, kind, expected) in programs {
         let report = differs(name, &[&wrong(name), kind, "1", "300"]);
         assert!(report.contains(&format!("\n{kind}, seed 1, index ")));
         let expected = format!("expected: {expected}\\t");
         assert!(report.contains(&expected), "{report}");
     }
+}
+
+/// Readers that put the lines in order, that refuse a frame that falls, and that
+/// give 16 for row 0 throughout.
+#[test]
+fn wrong_patterns_differ() {
+    differ_on_movements(&[
+        ("patterns_by_frame", "sound-movements", "pattern"),
+        ("falling_frame_refused", "sound-movements", "movement"),
+        ("pattern_row_0", "damaged-movements", "refused\\t16"),
+    ]);
+}
+
+/// Readers that tell where a channel left out would begin, that refuse it, and
+/// that leave out every channel at its default.
+#[test]
+fn wrong_channels_differ() {
+    differ_on_movements(&[
+        ("left_out_at_its_row", "sound-movements", "bone"),
+        ("left_out_refused", "sound-movements", "movement"),
+        ("default_left_out", "sound-movements", "movement"),
+    ]);
+    // The samples leave no channel out.
+    agrees(&[&wrong("left_out_at_its_row"), "samples-movements"]);
+    agrees(&[&wrong("left_out_refused"), "samples-movements"]);
+}
+
+/// A player that has 0 for a scale left out.
+#[test]
+fn a_wrong_default_differs() {
+    let program = wrong("scale_left_out_0");
+    let report = differs(
+        "default",
+        &["--play", &program, "sound-movements", "1", "60"],
+    );
+    let line_of = |word: &str| report.lines().find(|line| line.starts_with(word)).unwrap();
+    assert!(
+        line_of("expected: sample").ends_with("\\t100000000\\t1\\n"),
+        "{report}"
+    );
+    assert!(
+        line_of("found:    sample").ends_with("\\t0\\t1\\n"),
+        "{report}"
+    );
+    agrees(&["--play", &program, "samples-movements"]);
 }
 
 /// Corners without their owners.
