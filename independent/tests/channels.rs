@@ -378,6 +378,8 @@ fn the_other_rules_stay() {
     let lines = "(bone)(DynamicPolygons(kgf 1 0 true))";
     assert_eq!(movement_refusal(of_bones(2, lines)), refusal(16, 0));
     assert_eq!(movement_refusal(of_bones(0, lines)), refusal(14, 0));
+    let many = "(bone)".repeat(129);
+    assert_eq!(movement_refusal(of_bones(0, &many)), refusal(8, 0));
     let text = of_bones(1, "(bone)");
     assert!(movement::read(text.as_bytes(), 25).is_ok());
     let short = movement::read(text.as_bytes(), 24);

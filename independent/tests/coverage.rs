@@ -142,6 +142,8 @@ fn sound_movements_vary() {
         "DynamicPolygons",
         "(DynamicPolygons)",
         "kgf",
+        "(bone)",
+        "(bone(name \"",
         "2147483647",
         "9999999.999999",
     ];

@@ -7,7 +7,7 @@ use super::piece_damage::chunk_end;
 use super::rng::Rng;
 
 /// Keywords that are no channels.
-const OTHERS: [&str; 14] = [
+const OTHERS: [&str; 12] = [
     "translate",
     "scale",
     "rotate",
@@ -18,8 +18,6 @@ const OTHERS: [&str; 14] = [
     "kf",
     "kgf",
     "bone",
-    "totalFrame",
-    "DynamicPolygons",
     "hasChild",
     "0",
 ];
@@ -52,20 +50,16 @@ fn has_keyword(pieces: &[Piece], keyword: &str) -> bool {
 }
 
 fn damage_chunks(rng: &mut Rng, chunks: &mut Vec<Chunk>) {
-    let named = usize::from(
-        chunks
-            .first()
-            .is_some_and(|first| has_keyword(first, "name")),
-    );
-    match rng.below(6) {
+    let named = usize::from(place_of(chunks, "name") == Some(0));
+    match rng.below(7) {
         0 => without_keys(rng, chunks),
         1 => repeated(rng, chunks, named),
-        2 => {
+        2 => late_name(rng, chunks),
+        3 => eleventh(rng, chunks),
+        4 | 5 => {
             let other = no_channel(rng);
             insert(rng, chunks, named, other);
         }
-        3 => late_name(rng, chunks),
-        4 => eleventh(rng, chunks),
         // The bone ends before a channel, or `Figure` does behind the bone.
         _ => insert(rng, chunks, named, vec![Piece::new(PieceKind::Close, ")")]),
     }

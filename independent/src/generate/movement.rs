@@ -116,8 +116,9 @@ fn any_keys(rng: &mut Rng, channel: usize, total_frames: i64) -> Vec<Key> {
     frames.into_iter().zip(values).collect()
 }
 
-/// The values of so many keys. In one channel of six all are its default, as if
-/// it were left out; in one of twelve all are some channel's, in one some are.
+/// The values of so many keys. In one channel of six each is the default, as if
+/// it were left out; in one of twelve each is the default of some channel, and
+/// in one of twelve some are its own.
 fn any_values(rng: &mut Rng, channel: usize, count: usize) -> Vec<i64> {
     let default = DEFAULTS[channel];
     let some_default = *rng.pick(&DEFAULTS);

@@ -37,6 +37,7 @@ fn key(rng: &mut Rng, movement: &mut Movement) {
     let bone = rng.below(movement.bones.len());
     let channel = rng.below(10);
     let keys = &mut movement.bones[bone].channels[channel];
+    // One that is left out is written, to have a key at fault.
     if keys.is_empty() {
         keys.push((0, 0));
     }
