@@ -3,12 +3,12 @@ use mathlib.Core.Path.{_≡_, refl, ap, sym, _∙_}
 use mathlib.Core.List.{List, [], _∷_, _++_, map, append-assoc}
 use Prim.Native.Nat.{ℕ, zero, suc, _+_, _*_, _<_}
 use native.Mathlib.Omega.{arith}
-use lib.IntN.{ℤ, pos}
+use lib.IntN.{ℤ, pos, natAbs}
 use lib.ListN.{length, getD, length-append}
 use Rattle.parse_spec.proofs.Given.{Every}
 use Rattle.tra4_text.specs.Movement.{Channel, Bone}
 use Rattle.tra4_text.specs.Rules.{allKeys, channelsOf}
-use Rattle.tra4_text.specs.Layout.{nameNumbers, keyRanges, boneRow, boneRows}
+use Rattle.tra4_text.specs.Layout.{nameNumbers, firstRow, keyRanges, boneRow, boneRows}
 use Rattle.tra4_text.proofs.Whole.{WholeBone}
 use Rattle.tra4_text.proofs.Layouts.{keys-append}
 
@@ -17,8 +17,19 @@ pub record Found (cs : List Channel) (row : ℕ) (c : Channel) (first count : �
   pub before : List Channel
   pub behind : List Channel
   pub splits : cs ≡ before ++ (c ∷ behind)
-  pub first-is : first ≡ pos (row + length (allKeys before))
+  pub first-is : first ≡ pos (firstRow (row + length (allKeys before)) (length c))
   pub count-is : count ≡ pos (length c)
+
+-- its pair is 0 and 0 exactly where it has no keys
+module _ {cs : List Channel} {row : ℕ} {f n : ℤ} where
+  pub found-none : (c : Channel) → Found cs row c f n → c ≡ [] → (f ≡ pos 0) × (n ≡ pos 0)
+  unfolding firstRow
+  found-none [] s e = (s .first-is, s .count-is)
+  found-none (k ∷ c) s e = absurd (let z = ap length e in omega arith)
+
+  pub none-found : (c : Channel) → Found cs row c f n → n ≡ pos 0 → c ≡ []
+  none-found [] s e = refl
+  none-found (k ∷ c) s e = absurd (let z = ap natAbs (sym (s .count-is) ∙ e) in omega arith)
 
 -- the same with channels before all of these, and after
 found-later : (a cs : List Channel) (row next : ℕ) (c : Channel) (f n : ℤ) → next ≡ row + length (allKeys a) → Found cs next c f n → Found (a ++ cs) row c f n
@@ -29,7 +40,7 @@ found-later a cs row next c f n e s =
       before = a ++ s .before;
       behind = s .behind;
       splits = ap (λ (l : List Channel). a ++ l) (s .splits) ∙ sym (append-assoc a (s .before) (c ∷ s .behind));
-      first-is = s .first-is ∙ ap pos rows;
+      first-is = s .first-is ∙ ap (λ (r : ℕ). pos (firstRow r (length c))) rows;
       count-is = s .count-is;
     }
 
@@ -48,7 +59,7 @@ found-sooner cs a row c f n s =
 in-ranges : (row : ℕ) (cs : List Channel) (k j : ℕ) → k < length cs → j ≡ k * 2 → Found cs row (getD cs k []) (getD (keyRanges row cs) j (pos 0)) (getD (keyRanges row cs) (suc j) (pos 0))
 unfolding keyRanges allKeys
 in-ranges row [] k j h e = absurd (omega arith)
-in-ranges row (c ∷ cs) zero zero h e = let z : row ≡ row + 0 = omega arith in record { before = []; behind = cs; splits = refl; first-is = ap pos z; count-is = refl }
+in-ranges row (c ∷ cs) zero zero h e = let z : row ≡ row + 0 = omega arith in record { before = []; behind = cs; splits = refl; first-is = ap (λ (r : ℕ). pos (firstRow r (length c))) z; count-is = refl }
 in-ranges row (c ∷ cs) zero (suc j) h e = absurd (omega arith)
 in-ranges row (c ∷ cs) (suc k) zero h e = absurd (omega arith)
 in-ranges row (c ∷ cs) (suc k) (suc zero) h e = absurd (omega arith)

@@ -15,6 +15,7 @@ use Rattle.refusal.proofs.Rules.{or-first, or-second}
 use Rattle.table_references.specs.References.{isRow}
 use Rattle.tra4_text.specs.Movement.{Key, Channel, Pattern, frameOf}
 use Rattle.tra4_text.specs.Rules.{totalFault, channelFault, keyFine, keysFault}
+use Rattle.tra4_text.specs.Layout.{firstRow}
 use Rattle.tra4_text.proofs.Whole.{FloatValue, Flagged}
 use Rattle.player_spec.specs.Lookups.{isFloat, isAsked, isRange, valuesFine}
 
@@ -43,10 +44,10 @@ asked-below total at e h = rw (e, lt-ltb at (natAbs total) h)
 
 -- ---- a range, values and flags
 
-pub range-within : (n f c : ℕ) → 0 < c → f + c ≤ n → isRange n (pos f) (pos c) ≡ true
-unfolding isRange
-range-within n f zero h l = absurd (omega arith)
-range-within n f (suc c) h l = le-leb (f + suc c) n l
+pub range-within : (n f c : ℕ) → f + c ≤ n → isRange n (pos (firstRow f c)) (pos c) ≡ true
+unfolding isRange firstRow
+range-within n f zero l = refl
+range-within n f (suc c) l = le-leb (f + suc c) n l
 
 pub float-in-form : (z : ℤ) → inForm FLOAT z ≡ true → isFloat z ≡ true
 unfolding isFloat

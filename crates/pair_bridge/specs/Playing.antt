@@ -24,7 +24,7 @@ framesOf m = natAbs (m .totalFrames)
 
 unfoldable pub sampleAsked : Movement → ℕ → ℕ → ℕ → Option Fraction
 sampleAsked m bone channel at =
-    onlyIf (ltb bone (length (m .bones)) && ltb channel 10 && ltb at (framesOf m)) (sampleOf (channelOf m bone channel) at)
+    onlyIf (ltb bone (length (m .bones)) && ltb channel 10 && ltb at (framesOf m)) (sampleOf channel (channelOf m bone channel) at)
 
 unfoldable pub cornerAsked : Figure → ℕ → ℕ → Option CornerOf
 cornerAsked f face k = onlyIf (ltb face (length (facesOf f)) && ltb k (faceOf f face .size)) (cornerOf f (faceOf f face) k)

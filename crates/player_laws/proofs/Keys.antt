@@ -17,7 +17,7 @@ use Rattle.text_numerals.proofs.Numerals.{and-true}
 use Rattle.tra4_text.specs.Movement.{Key, Channel, frameOf}
 use Rattle.tra4_text.specs.Rules.{channelFault, keyFine, isFrame, isZero, rises}
 use Rattle.player_spec.specs.Fractions.{factor, lowest, whole}
-use Rattle.player_spec.specs.Samples.{keyFrame, keyValue, line, sampleFrom, sampleOf}
+use Rattle.player_spec.specs.Samples.{keyFrame, keyValue, line, sampleFrom, standing, sampleOf}
 use Rattle.player_samples.proofs.Factors.{lowest-coprime}
 use Rattle.player_laws.specs.Bounds.{Between, LowestTerms, keyAt}
 use Rattle.player_laws.proofs.Samples.{Rising, sample-first, sample-later, sample-between-first, sample-between, sample-past, sample-alone}
@@ -67,30 +67,30 @@ frames-begin total k ks e = zero-natural (frameOf k) (fine-frame total none k (s
 
 -- ---- a channel split at its keys
 
-module _ (total : ℤ) (c before after : List Key) (sound : channelFault total none 0 c ≡ clear) where
-  pub on-key : (k : Key) → c ≡ before ++ (k ∷ after) → sampleOf c (keyFrame k) ≡ whole (keyValue k)
+module _ (channel : ℕ) (total : ℤ) (c before after : List Key) (sound : channelFault total none 0 c ≡ clear) where
+  pub on-key : (k : Key) → c ≡ before ++ (k ∷ after) → sampleOf channel c (keyFrame k) ≡ whole (keyValue k)
   on-key k e = rw e (go before (subst (λ (x : List Key). channelFault total none 0 x ≡ clear) e sound))
     where
-      go : (b : List Key) → channelFault total none 0 (b ++ (k ∷ after)) ≡ clear → sampleOf (b ++ (k ∷ after)) (keyFrame k) ≡ whole (keyValue k)
-      go [] s = sample-first k after (frames-rise total k after s)
-      go (j ∷ b) s = sample-later j b k after (frames-rise total j (b ++ (k ∷ after)) s)
+      go : (b : List Key) → channelFault total none 0 (b ++ (k ∷ after)) ≡ clear → sampleOf channel (b ++ (k ∷ after)) (keyFrame k) ≡ whole (keyValue k)
+      go [] s = sample-first channel k after (frames-rise total k after s)
+      go (j ∷ b) s = sample-later channel j b k after (frames-rise total j (b ++ (k ∷ after)) s)
 
-  pub on-line : (k n : Key) (at : ℕ) → c ≡ before ++ (k ∷ n ∷ after) → keyFrame k ≤ at → at < keyFrame n → sampleOf c at ≡ line k n at
+  pub on-line : (k n : Key) (at : ℕ) → c ≡ before ++ (k ∷ n ∷ after) → keyFrame k ≤ at → at < keyFrame n → sampleOf channel c at ≡ line k n at
   on-line k n at e h l = rw e (go before (subst (λ (x : List Key). channelFault total none 0 x ≡ clear) e sound))
     where
-      go : (b : List Key) → channelFault total none 0 (b ++ (k ∷ n ∷ after)) ≡ clear → sampleOf (b ++ (k ∷ n ∷ after)) at ≡ line k n at
-      go [] s = sample-between-first k n after at l
-      go (j ∷ b) s = sample-between j b k n after at (frames-rise total j (b ++ (k ∷ n ∷ after)) s) h l
+      go : (b : List Key) → channelFault total none 0 (b ++ (k ∷ n ∷ after)) ≡ clear → sampleOf channel (b ++ (k ∷ n ∷ after)) at ≡ line k n at
+      go [] s = sample-between-first channel k n after at l
+      go (j ∷ b) s = sample-between channel j b k n after at (frames-rise total j (b ++ (k ∷ n ∷ after)) s) h l
 
-  pub between-keys : (k n : Key) (at : ℕ) → c ≡ before ++ (k ∷ n ∷ after) → keyFrame k ≤ at → at < keyFrame n → Between (keyValue k) (keyValue n) (sampleOf c at)
+  pub between-keys : (k n : Key) (at : ℕ) → c ≡ before ++ (k ∷ n ∷ after) → keyFrame k ≤ at → at < keyFrame n → Between (keyValue k) (keyValue n) (sampleOf channel c at)
   between-keys k n at e h l = rw (on-line k n at e h l) (line-between k n at h l)
 
-  pub past-last : (k : Key) (at : ℕ) → c ≡ before ++ (k ∷ []) → keyFrame k ≤ at → sampleOf c at ≡ whole (keyValue k)
+  pub past-last : (k : Key) (at : ℕ) → c ≡ before ++ (k ∷ []) → keyFrame k ≤ at → sampleOf channel c at ≡ whole (keyValue k)
   past-last k at e h = rw e (go before (subst (λ (x : List Key). channelFault total none 0 x ≡ clear) e sound))
     where
-      go : (b : List Key) → channelFault total none 0 (b ++ (k ∷ [])) ≡ clear → sampleOf (b ++ (k ∷ [])) at ≡ whole (keyValue k)
-      go [] s = sample-alone k at
-      go (j ∷ b) s = sample-past j b k at (frames-rise total j (b ++ (k ∷ [])) s) h
+      go : (b : List Key) → channelFault total none 0 (b ++ (k ∷ [])) ≡ clear → sampleOf channel (b ++ (k ∷ [])) at ≡ whole (keyValue k)
+      go [] s = sample-alone channel k at
+      go (j ∷ b) s = sample-past channel j b k at (frames-rise total j (b ++ (k ∷ [])) s) h
 
 -- ---- lowest terms with a positive denominator
 
@@ -114,35 +114,47 @@ from-lowest k (n ∷ ks) at r h = go (leb (keyFrame n) at) refl (from-lowest n k
     go true e ih = rw (e, sampleFrom) (ih (leb-true _ _ e))
     go false e ih = rw (e, sampleFrom) (lowest-lowest _ _ (omega (arith, r .0)))
 
-pub sample-lowest : (total : ℤ) (c : List Key) (at : ℕ) → channelFault total none 0 c ≡ clear → LowestTerms (sampleOf c at)
+pub sample-lowest : (channel : ℕ) (total : ℤ) (c : List Key) (at : ℕ) → channelFault total none 0 c ≡ clear → LowestTerms (sampleOf channel c at)
 unfolding sampleOf
-sample-lowest total [] at e = whole-lowest (pos 0)
-sample-lowest total (k ∷ ks) at e = from-lowest k ks at (frames-rise total k ks e) (omega (arith, frames-begin total k ks e))
+sample-lowest channel total [] at e = whole-lowest (standing channel)
+sample-lowest channel total (k ∷ ks) at e = from-lowest k ks at (frames-rise total k ks e) (omega (arith, frames-begin total k ks e))
+
+-- ---- no keys
+
+pub sample-none : (channel : ℕ) (c : List Key) (at : ℕ) → length c ≡ 0 → sampleOf channel c at ≡ whole (standing channel)
+unfolding sampleOf
+sample-none channel [] at e = refl
+sample-none channel (k ∷ ks) at e = absurd (omega arith)
+
+-- as of a channel that is written out with one key of the pose's value
+pub sample-pose : (channel at : ℕ) → sampleOf channel ((pos 0 ∷ standing channel ∷ []) ∷ []) at ≡ sampleOf channel [] at
+unfolding sampleOf sampleFrom keyValue
+sample-pose channel at = refl
 
 -- ---- by key row
 
-module _ (total : ℤ) (c : Channel) (sound : channelFault total none 0 c ≡ clear) (i : ℕ) where
+module _ (channel : ℕ) (total : ℤ) (c : Channel) (sound : channelFault total none 0 c ≡ clear) (i : ℕ) where
   -- on a key the sample is its value
-  pub on-key-at : i < length c → sampleOf c (keyFrame (keyAt c i)) ≡ whole (keyValue (keyAt c i))
+  pub on-key-at : i < length c → sampleOf channel c (keyFrame (keyAt c i)) ≡ whole (keyValue (keyAt c i))
   unfolding keyAt
-  on-key-at h = on-key total c (take i c) (drop (suc i) c) sound (getD c i []) (split-at c i [] h)
+  on-key-at h = on-key channel total c (take i c) (drop (suc i) c) sound (getD c i []) (split-at c i [] h)
 
   -- between two neighbouring keys it is the straight line, and lies between their values
   two-keys : suc i < length c → c ≡ take i c ++ (getD c i [] ∷ getD c (suc i) [] ∷ drop (suc (suc i)) c)
   two-keys h = split-at c i [] (omega arith) ∙ ap (λ (r : List Key). take i c ++ (getD c i [] ∷ r)) (drop-cons c (suc i) [] h)
 
-  pub line-at : suc i < length c → (at : ℕ) → keyFrame (keyAt c i) ≤ at → at < keyFrame (keyAt c (suc i)) → sampleOf c at ≡ line (keyAt c i) (keyAt c (suc i)) at
+  pub line-at : suc i < length c → (at : ℕ) → keyFrame (keyAt c i) ≤ at → at < keyFrame (keyAt c (suc i)) → sampleOf channel c at ≡ line (keyAt c i) (keyAt c (suc i)) at
   unfolding keyAt
-  line-at h at l m = on-line total c (take i c) (drop (suc (suc i)) c) sound (getD c i []) (getD c (suc i) []) at (two-keys h) l m
+  line-at h at l m = on-line channel total c (take i c) (drop (suc (suc i)) c) sound (getD c i []) (getD c (suc i) []) at (two-keys h) l m
 
-  pub between-at : suc i < length c → (at : ℕ) → keyFrame (keyAt c i) ≤ at → at < keyFrame (keyAt c (suc i)) → Between (keyValue (keyAt c i)) (keyValue (keyAt c (suc i))) (sampleOf c at)
+  pub between-at : suc i < length c → (at : ℕ) → keyFrame (keyAt c i) ≤ at → at < keyFrame (keyAt c (suc i)) → Between (keyValue (keyAt c i)) (keyValue (keyAt c (suc i))) (sampleOf channel c at)
   between-at h at l m = rw (line-at h at l m) (line-between (keyAt c i) (keyAt c (suc i)) at l m)
 
   -- from the last key on it is that key's value
-  pub past-last-at : suc i ≡ length c → (at : ℕ) → keyFrame (keyAt c i) ≤ at → sampleOf c at ≡ whole (keyValue (keyAt c i))
+  pub past-last-at : suc i ≡ length c → (at : ℕ) → keyFrame (keyAt c i) ≤ at → sampleOf channel c at ≡ whole (keyValue (keyAt c i))
   unfolding keyAt
   past-last-at h at l =
       let end : length c ≤ suc i = omega arith in
-      past-last total c (take i c) [] sound (getD c i []) at
+      past-last channel total c (take i c) [] sound (getD c i []) at
       (split-at c i [] (omega arith) ∙ ap (λ (r : List Key). take i c ++ (getD c i [] ∷ r)) (drop-of-length-le c end))
       l

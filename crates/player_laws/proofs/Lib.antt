@@ -2,4 +2,5 @@
 pub mod Samples
 pub mod Between
 pub mod Keys
+pub mod LeftOut
 pub mod Exchanged

@@ -46,30 +46,31 @@ reach j (b ∷ before) k after at h l = onward j b (before ++ (k ∷ after)) at 
 
 -- ---- the keys of a channel: one alone, the first of more, or a later one
 
-pub sample-first : (k : Key) (ks : List Key) → Rising k ks → sampleOf (k ∷ ks) (keyFrame k) ≡ whole (keyValue k)
-unfolding sampleOf
-sample-first k ks h = here k ks h
-
-module _ (j : Key) (before : List Key) (k : Key) (after : List Key) (h : Rising j (before ++ (k ∷ after))) where
-  -- 1. on a key
-  pub sample-later : sampleOf (j ∷ (before ++ (k ∷ after))) (keyFrame k) ≡ whole (keyValue k)
+module _ (channel : ℕ) where
+  pub sample-first : (k : Key) (ks : List Key) → Rising k ks → sampleOf channel (k ∷ ks) (keyFrame k) ≡ whole (keyValue k)
   unfolding sampleOf
-  sample-later = reach j before k after (keyFrame k) h (omega arith) ∙ here k after (rest-rises j before k after h .1)
+  sample-first k ks h = here k ks h
 
--- 2. between two neighbouring keys it is the line, whose bounds are in Between.antt
-pub sample-between-first : (k n : Key) (after : List Key) (at : ℕ) → at < keyFrame n → sampleOf (k ∷ n ∷ after) at ≡ line k n at
-unfolding sampleOf
-sample-between-first k n after at l = between k n after at l
+  module _ (j : Key) (before : List Key) (k : Key) (after : List Key) (h : Rising j (before ++ (k ∷ after))) where
+    -- 1. on a key
+    pub sample-later : sampleOf channel (j ∷ (before ++ (k ∷ after))) (keyFrame k) ≡ whole (keyValue k)
+    unfolding sampleOf
+    sample-later = reach j before k after (keyFrame k) h (omega arith) ∙ here k after (rest-rises j before k after h .1)
 
-pub sample-between : (j : Key) (before : List Key) (k n : Key) (after : List Key) (at : ℕ) → Rising j (before ++ (k ∷ n ∷ after)) → keyFrame k ≤ at → at < keyFrame n → sampleOf (j ∷ (before ++ (k ∷ n ∷ after))) at ≡ line k n at
-unfolding sampleOf
-sample-between j before k n after at h l m = reach j before k (n ∷ after) at h l ∙ between k n after at m
+  -- 2. between two neighbouring keys it is the line, whose bounds are in Between.antt
+  pub sample-between-first : (k n : Key) (after : List Key) (at : ℕ) → at < keyFrame n → sampleOf channel (k ∷ n ∷ after) at ≡ line k n at
+  unfolding sampleOf
+  sample-between-first k n after at l = between k n after at l
 
--- 3. past the last key
-pub sample-past : (j : Key) (before : List Key) (k : Key) (at : ℕ) → Rising j (before ++ (k ∷ [])) → keyFrame k ≤ at → sampleOf (j ∷ (before ++ (k ∷ []))) at ≡ whole (keyValue k)
-unfolding sampleOf sampleFrom
-sample-past j before k at h l = reach j before k [] at h l
+  pub sample-between : (j : Key) (before : List Key) (k n : Key) (after : List Key) (at : ℕ) → Rising j (before ++ (k ∷ n ∷ after)) → keyFrame k ≤ at → at < keyFrame n → sampleOf channel (j ∷ (before ++ (k ∷ n ∷ after))) at ≡ line k n at
+  unfolding sampleOf
+  sample-between j before k n after at h l m = reach j before k (n ∷ after) at h l ∙ between k n after at m
 
-pub sample-alone : (k : Key) (at : ℕ) → sampleOf (k ∷ []) at ≡ whole (keyValue k)
-unfolding sampleOf sampleFrom
-sample-alone k at = refl
+  -- 3. past the last key
+  pub sample-past : (j : Key) (before : List Key) (k : Key) (at : ℕ) → Rising j (before ++ (k ∷ [])) → keyFrame k ≤ at → sampleOf channel (j ∷ (before ++ (k ∷ []))) at ≡ whole (keyValue k)
+  unfolding sampleOf sampleFrom
+  sample-past j before k at h l = reach j before k [] at h l
+
+  pub sample-alone : (k : Key) (at : ℕ) → sampleOf channel (k ∷ []) at ≡ whole (keyValue k)
+  unfolding sampleOf sampleFrom
+  sample-alone k at = refl

@@ -28,7 +28,7 @@ sound-late : (total : ℤ) (before : Option ℤ) (row : ℕ) (n : Key) (ks : Lis
 unfolding channelFault isClear
 sound-late total before row n ks e = rw (e, channelFault)
 
-both-false : (a : Bool) → (a && false) ≡ false
+pub both-false : (a : Bool) → (a && false) ≡ false
 both-false true = refl
 both-false false = refl
 
@@ -65,11 +65,12 @@ pass-sound total at row k d (n ∷ ks) = go (keyFine total (some (frameOf k)) n)
     go true false e f ih = unfold mayFollow in (rw (e, f, passFrom, sound-wide total (some (frameOf k)) row n ks f))
     go false v e f ih = unfold mayFollow in (rw (e, passFrom, sound-late total (some (frameOf k)) row n ks e))
 
-pub pass-is : (total : ℤ) (at : ℕ) (k : Key) (ks : List Key) → passOver total at (k ∷ ks) ≡ onlyIf (isClear (channelFault total none 0 (k ∷ ks)) && valuesFine (k ∷ ks)) (sampleOf (k ∷ ks) at)
-unfolding passOver sampleOf onlyIf
-pass-is total at k ks = go (keyFine total none k) (isFloat (keyValue k)) refl refl
+pub pass-is : (total : ℤ) (channel at : ℕ) (ks : List Key) → passOver total channel at ks ≡ onlyIf (isClear (channelFault total none 0 ks) && valuesFine ks) (sampleOf channel ks at)
+unfolding passOver sampleOf onlyIf channelFault isClear valuesFine
+pass-is total channel at [] = refl
+pass-is total channel at (k ∷ ks) = go (keyFine total none k) (isFloat (keyValue k)) refl refl
   where
-    go : (u v : Bool) → keyFine total none k ≡ u → isFloat (keyValue k) ≡ v → passOver total at (k ∷ ks) ≡ onlyIf (sound total none 0 (k ∷ ks)) (sampleFrom k ks at)
+    go : (u v : Bool) → keyFine total none k ≡ u → isFloat (keyValue k) ≡ v → passOver total channel at (k ∷ ks) ≡ onlyIf (sound total none 0 (k ∷ ks)) (sampleFrom k ks at)
     go true true e f = unfold mayFollow in (rw (e, f, passOver, sound-more total none 0 k ks e f) (unfold known in (pass-sound total at 1 k none ks)))
     go true false e f = unfold mayFollow in (rw (e, f, passOver, sound-wide total none 0 k ks f))
     go false v e f = unfold mayFollow in (rw (e, passOver, sound-late total none 0 k ks e))

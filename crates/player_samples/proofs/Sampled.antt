@@ -1,22 +1,20 @@
 -- What each test of `sample` says of its definition: a failed one refuses, and past them all the pass over the keys is the answer.
 use mathlib.Core.Path.{_≡_, refl, _∙_}
 use mathlib.Core.List.{List}
-use mathlib.Core.Bool.{true, false, false≢true, _&&_}
+use mathlib.Core.Bool.{true, false, false≢true}
 use mathlib.Core.Option.{Option, none, some}
 use Prim.Native.Nat.{ℕ, zero, suc, _+_, _*_, _-_, _≤_, _<_}
 use native.Mathlib.Omega.{arith}
-use borrow.Author.Tests.{lt-ltb, le-ltb, leb-true}
+use borrow.Author.Tests.{lt-ltb, le-ltb, leb-true, eqb-true}
 use lib.IntN.{ℤ, pos, negsuc, natAbs}
 use lib.ListN.{take, drop, length-take, length-drop}
-use Rattle.tra4_text.specs.Rules.{channelFault}
 use Rattle.player_samples.specs.declared.pass.Pass.{Pass}
 use Rattle.table_counts.specs.declared.counts.MovementCounts.{MovementCounts}
 use Rattle.player_spec.specs.Fractions.{Fraction, whole}
-use Rattle.player_spec.specs.Samples.{keyValue, sampleOf}
-use Rattle.refusal.specs.Faults.{isClear}
+use Rattle.player_spec.specs.Samples.{keyValue}
 use Rattle.table_movement.specs.Sections.{holdsMovement}
 use Rattle.table_columns.specs.Parts.{numberAt, rowsAt}
-use Rattle.player_spec.specs.Lookups.{onlyIf, isAsked, isRange, valuesFine, pairAt, channelKeys, canSample, sampleIn}
+use Rattle.player_spec.specs.Lookups.{onlyIf, isAsked, isRange, pairAt, channelKeys, canSample, sampleIn}
 use Rattle.player_samples.specs.Internal.Pass.{orLast, passOver}
 use Rattle.player_samples.specs.Internal.Passing.{KeyRows, keyOf, knownAs, stateOf, ifFine, finished}
 use Rattle.table_movement.proofs.Mosts.{movement-room}
@@ -26,17 +24,12 @@ use Rattle.table_columns.proofs.Parts.{part-rows}
 
 -- ---- a range that lies among n rows
 
-pub range-facts : (n : ℕ) (f c : ℤ) → isRange n f c ≡ true → (f ≡ pos (natAbs f)) × (c ≡ pos (natAbs c)) × (0 < natAbs c) × (natAbs f + natAbs c ≤ n)
+pub range-facts : (n : ℕ) (f c : ℤ) → isRange n f c ≡ true → (f ≡ pos (natAbs f)) × (c ≡ pos (natAbs c)) × (natAbs f + natAbs c ≤ n)
 unfolding isRange
-range-facts n (pos f) (pos zero) h = absurd (false≢true h)
-range-facts n (pos f) (pos (suc c)) h = (refl, refl, omega arith, leb-true (f + suc c) n h)
+range-facts n (pos f) (pos zero) h = (refl, refl, let z = eqb-true f 0 h in omega arith)
+range-facts n (pos f) (pos (suc c)) h = (refl, refl, leb-true (f + suc c) n h)
 range-facts n (pos f) (negsuc c) h = absurd (false≢true h)
 range-facts n (negsuc f) c h = absurd (false≢true h)
-
-pass-rows : (total : ℤ) (at : ℕ) (table : List ℤ) (i c : ℕ) → 0 < c → passOver total at (rowsAt 2 table i c) ≡ onlyIf (isClear (channelFault total none 0 (rowsAt 2 table i c)) && valuesFine (rowsAt 2 table i c)) (sampleOf (rowsAt 2 table i c) at)
-unfolding rowsAt
-pass-rows total at table i zero h = absurd (omega arith)
-pass-rows total at table i (suc c) h = pass-is total at _ _
 
 -- ---- the part that holds a channel's keys
 
@@ -48,7 +41,6 @@ keys-part n table b at total f c q h k r =
     let e : b + natAbs f * 2 + natAbs c * 2 - (b + natAbs f * 2) ≡ natAbs c * 2 = omega arith in
     record {
       rows = rw e (rw (length-take (natAbs c * 2) (drop (b + natAbs f * 2) table), length-drop (b + natAbs f * 2) table) (omega arith));
-      some-row = g .2;
       most = omega arith;
       positive = t .0;
       above = t .1;
@@ -90,9 +82,9 @@ module _ (n : MovementCounts) (table : List ℤ) (bone channel at : ℕ) where
           unfolding sampleIn canSample onlyIf
           no-range h = rw (held, lt-ltb _ _ row, lt-ltb _ _ known, asked, h)
 
-          pub played : isRange (n .keys) (numberAt table (pairAt n table bone channel)) (numberAt table (pairAt n table bone channel + 1)) ≡ true → passOver (numberAt table 0) at (channelKeys n table bone channel) ≡ answer
-          unfolding sampleIn canSample channelKeys
-          played h = rw (held, lt-ltb _ _ row, lt-ltb _ _ known, asked, h) (pass-rows (numberAt table 0) at table _ _ (range-facts _ _ _ h .2))
+          pub played : isRange (n .keys) (numberAt table (pairAt n table bone channel)) (numberAt table (pairAt n table bone channel + 1)) ≡ true → passOver (numberAt table 0) channel at (channelKeys n table bone channel) ≡ answer
+          unfolding sampleIn canSample
+          played h = rw (held, lt-ltb _ _ row, lt-ltb _ _ known, asked, h) (pass-is (numberAt table 0) channel at (channelKeys n table bone channel))
 
 -- ---- what a finished pass answers
 

@@ -13,14 +13,15 @@ use Rattle.tra4_text.specs.Movement.{Key, frameOf}
 use Rattle.tra4_text.specs.Rules.{isFrame, isZero, rises, keyFine}
 use Rattle.player_samples.specs.declared.pass.Pass.{Pass}
 use Rattle.player_spec.specs.Fractions.{Fraction}
-use Rattle.player_spec.specs.Samples.{keyValue}
+use Rattle.player_spec.specs.Samples.{keyValue, standing}
 use Rattle.table_columns.specs.Parts.{numbersAt, rowsAt}
 use Rattle.player_spec.specs.Lookups.{isFloat}
 use Rattle.player_samples.specs.Internal.Pass.{mayFollow, orLast, passFrom, passOver}
-use Rattle.player_samples.specs.Internal.Passing.{keyOf, knownAs, stateOf, ifFine, thenFrom, finished, KeyRows}
+use Rattle.player_samples.specs.Internal.Passing.{keyOf, knownAs, stateOf, ifFine, thenFrom, finished, Begun, KeyRows}
 use Rattle.table_columns.proofs.Parts.{two-at}
 use Rattle.tra4_text.proofs.Zero.{zero-is}
 use Rattle.player_tests.proofs.Numbers.{float-size}
+use Rattle.player_samples.proofs.Passes.{both-false}
 
 -- ---- the rows left
 
@@ -36,10 +37,6 @@ first-fine (negsuc t) f v e h = let z : _≡_ {A = ℕ} 0 1 = cc in absurd (omeg
 first-fine (pos t) (negsuc n) v e h = refl
 first-fine (pos t) (pos n) v e h = go (eqb n 0) refl
   where
-    both-false : (a : Bool) → (a && false) ≡ false
-    both-false true = refl
-    both-false false = refl
-
     go : (b : Bool) → eqb n 0 ≡ b → (leb 0 n && ltb n t && eqb n 0) ≡ eqb n 0
     go true o = rw (eqb-true n 0 o) (rw (lt-ltb 0 t h))
     go false o = rw o (both-false (leb 0 n && ltb n t))
@@ -74,45 +71,52 @@ module _ (keys : List ℤ) (count : ℕ) (total : ℤ) (at : ℕ) (k : KeyRows k
   abbrev pub first : Key
   first = getD keys 0 (pos 0) ∷ getD keys 1 (pos 0) ∷ []
 
-  pub all-rows : rowsAt 2 keys 0 count ≡ first ∷ left 1
-  all-rows = ap (λ (n : ℕ). rowsAt 2 keys 0 n) (let z : count ≡ count - 0 = omega arith in z) ∙ left-more 0 (k .some-row)
-
-  -- ---- the first key
-
-  over-first : passOver total at (rowsAt 2 keys 0 count) ≡ ifFine (mayFollow total none first) (passFrom total at first none (left 1))
-  over-first = ap (passOver total at) all-rows ∙ branch (mayFollow total none first) refl
-    where
-      branch : (b : Bool) → mayFollow total none first ≡ b → passOver total at (first ∷ left 1) ≡ ifFine (mayFollow total none first) (passFrom total at first none (left 1))
-      branch true e = unfold passOver ifFine in (rw (e, passOver))
-      branch false e = unfold passOver ifFine in (rw (e, passOver))
-
-  may-first : mayFollow total none first ≡ (isZero (getD keys 0 (pos 0)) && isFloat (getD keys 1 (pos 0)))
-  may-first = unfold mayFollow keyValue in (ap (λ (b : Bool). b && isFloat (getD keys 1 (pos 0))) (first-fine total (getD keys 0 (pos 0)) (getD keys 1 (pos 0)) (k .positive) (k .above)))
-
-  pub first-late : (r : Pass) → r .fine ≡ false → isZero (getD keys 0 (pos 0)) ≡ false → finished r ≡ passOver total at (rowsAt 2 keys 0 count)
-  first-late r e h = not-fine r e ∙ sym (over-first ∙ ap (λ (b : Bool). ifFine b (passFrom total at first none (left 1))) (may-first ∙ ap (λ (b : Bool). b && isFloat (getD keys 1 (pos 0))) h) ∙ unfold ifFine in refl)
-
-  pub first-wide : (r : Pass) → r .fine ≡ false → isZero (getD keys 0 (pos 0)) ≡ true → isFloat (getD keys 1 (pos 0)) ≡ false → finished r ≡ passOver total at (rowsAt 2 keys 0 count)
-  first-wide r e h g = not-fine r e ∙ sym (over-first ∙ ap (λ (b : Bool). ifFine b (passFrom total at first none (left 1))) (may-first ∙ ap (λ (b : Bool). b && isFloat (getD keys 1 (pos 0))) h ∙ ap (λ (b : Bool). true && b) g) ∙ unfold ifFine in refl)
-
-  pub first-on : (p : Pass) → p .before ≡ 0 → p .value ≡ getD keys 1 (pos 0) → p .known ≡ false → isZero (getD keys 0 (pos 0)) ≡ true → isFloat (getD keys 1 (pos 0)) ≡ true → passOver total at (rowsAt 2 keys 0 count) ≡ passFrom total at (keyOf p) (stateOf p) (left 1)
-  first-on p b v n h g =
-      over-first
-      ∙ ap (λ (x : Bool). ifFine x (passFrom total at first none (left 1))) (may-first ∙ ap (λ (x : Bool). x && isFloat (getD keys 1 (pos 0))) h ∙ ap (λ (x : Bool). true && x) g)
-      ∙ unfold ifFine in refl
-      ∙ ap (λ (x : Key). passFrom total at x none (left 1)) (sym key)
-      ∙ ap (λ (x : Option Fraction). passFrom total at (keyOf p) x (left 1)) (sym state)
-    where
-      key : keyOf p ≡ first
-      key = unfold keyOf in (ap (λ (x : ℕ). pos x ∷ p .value ∷ []) b ∙ ap (λ (x : ℤ). pos 0 ∷ x ∷ []) v ∙ ap (λ (x : ℤ). x ∷ getD keys 1 (pos 0) ∷ []) (sym (zero-is (getD keys 0 (pos 0)) h)))
-
-      state : stateOf p ≡ none
-      state = unfold stateOf knownAs in (ap (λ (x : Bool). knownAs x (p .numerator) (p .denominator)) n)
-
   -- ---- the end
 
   pub ended : (p : Pass) (i : ℕ) → p .fine ≡ true → count ≤ i → finished p ≡ passFrom total at (keyOf p) (stateOf p) (left i)
   ended p i e h = unfold finished ifFine in (ap (λ (b : Bool). ifFine b (some (orLast (stateOf p) (keyOf p)))) e) ∙ sym (ap (passFrom total at (keyOf p) (stateOf p)) (left-none i h) ∙ unfold passFrom in refl)
+
+  module _ (channel : ℕ) where
+    -- no key
+    pub at-rest : (p : Pass) → count ≡ 0 → Begun p (standing channel) → finished p ≡ passOver total channel at (rowsAt 2 keys 0 count)
+    unfolding finished ifFine stateOf knownAs orLast keyOf keyValue passOver rowsAt
+    at-rest p e b = rw (e, b .is-fine, b .unknown, b .here) refl
+
+    module _ (some-row : count ≡ 0 → ⊥) where
+      pub all-rows : rowsAt 2 keys 0 count ≡ first ∷ left 1
+      all-rows = ap (λ (n : ℕ). rowsAt 2 keys 0 n) (let z : count ≡ count - 0 = omega arith in z) ∙ left-more 0 (omega (arith, some-row))
+
+      -- ---- the first key
+
+      over-first : passOver total channel at (rowsAt 2 keys 0 count) ≡ ifFine (mayFollow total none first) (passFrom total at first none (left 1))
+      over-first = ap (passOver total channel at) all-rows ∙ branch (mayFollow total none first) refl
+        where
+          branch : (b : Bool) → mayFollow total none first ≡ b → passOver total channel at (first ∷ left 1) ≡ ifFine (mayFollow total none first) (passFrom total at first none (left 1))
+          branch true e = unfold passOver ifFine in (rw (e, passOver))
+          branch false e = unfold passOver ifFine in (rw (e, passOver))
+
+      may-first : mayFollow total none first ≡ (isZero (getD keys 0 (pos 0)) && isFloat (getD keys 1 (pos 0)))
+      may-first = unfold mayFollow keyValue in (ap (λ (b : Bool). b && isFloat (getD keys 1 (pos 0))) (first-fine total (getD keys 0 (pos 0)) (getD keys 1 (pos 0)) (k .positive) (k .above)))
+
+      pub first-late : (r : Pass) → r .fine ≡ false → isZero (getD keys 0 (pos 0)) ≡ false → finished r ≡ passOver total channel at (rowsAt 2 keys 0 count)
+      first-late r e h = not-fine r e ∙ sym (over-first ∙ ap (λ (b : Bool). ifFine b (passFrom total at first none (left 1))) (may-first ∙ ap (λ (b : Bool). b && isFloat (getD keys 1 (pos 0))) h) ∙ unfold ifFine in refl)
+
+      pub first-wide : (r : Pass) → r .fine ≡ false → isZero (getD keys 0 (pos 0)) ≡ true → isFloat (getD keys 1 (pos 0)) ≡ false → finished r ≡ passOver total channel at (rowsAt 2 keys 0 count)
+      first-wide r e h g = not-fine r e ∙ sym (over-first ∙ ap (λ (b : Bool). ifFine b (passFrom total at first none (left 1))) (may-first ∙ ap (λ (b : Bool). b && isFloat (getD keys 1 (pos 0))) h ∙ ap (λ (b : Bool). true && b) g) ∙ unfold ifFine in refl)
+
+      pub first-on : (p : Pass) → Begun p (getD keys 1 (pos 0)) → isZero (getD keys 0 (pos 0)) ≡ true → isFloat (getD keys 1 (pos 0)) ≡ true → passOver total channel at (rowsAt 2 keys 0 count) ≡ passFrom total at (keyOf p) (stateOf p) (left 1)
+      first-on p b h g =
+          over-first
+          ∙ ap (λ (x : Bool). ifFine x (passFrom total at first none (left 1))) (may-first ∙ ap (λ (x : Bool). x && isFloat (getD keys 1 (pos 0))) h ∙ ap (λ (x : Bool). true && x) g)
+          ∙ unfold ifFine in refl
+          ∙ ap (λ (x : Key). passFrom total at x none (left 1)) (sym key)
+          ∙ ap (λ (x : Option Fraction). passFrom total at (keyOf p) x (left 1)) (sym state)
+        where
+          key : keyOf p ≡ first
+          key = unfold keyOf in (ap (λ (x : ℕ). pos x ∷ p .value ∷ []) (b .start) ∙ ap (λ (x : ℤ). pos 0 ∷ x ∷ []) (b .here) ∙ ap (λ (x : ℤ). x ∷ getD keys 1 (pos 0) ∷ []) (sym (zero-is (getD keys 0 (pos 0)) h)))
+
+          state : stateOf p ≡ none
+          state = unfold stateOf knownAs in (ap (λ (x : Bool). knownAs x (p .numerator) (p .denominator)) (b .unknown))
 
 pub float-below : (v : ℤ) → isFloat v ≡ true → natAbs v ≤ 9999999999999
 float-below v h = leb-true _ 9999999999999 (sym (float-size v) ∙ h)

@@ -5,8 +5,9 @@ ghost use mathlib.Core.Bool.{true};
 ghost use Rattle.tra4_text.specs.Movement.{Key};
 ghost use Rattle.player_samples.specs.Internal.Pass.{passFrom, passOver};
 ghost use Rattle.table_columns.specs.Parts.{rowsAt};
-ghost use Rattle.player_samples.specs.Internal.Passing.{keyOf, stateOf, Ready, thenFrom, finished, KeyRows};
+ghost use Rattle.player_samples.specs.Internal.Passing.{keyOf, stateOf, Ready, thenFrom, finished, Begun, KeyRows};
 use crate::line::line;
+use player_pose::standing;
 use player_tests::follows;
 use player_tests::is_float;
 
@@ -58,20 +59,30 @@ pub(crate) fn step(p: Pass, f: i64, v: i64, total: i64, at: usize) -> Pass
     next
 }
 
-// All keys of a channel, in rows of two numbers.
-pub(crate) fn pass_over(keys: &[i64], count: usize, total: i64, at: usize) -> Pass
-    requires { ⌜ KeyRows (now keys) count total ⌝ }
-    ensures { λ r. ⌜ finished r ≡ passOver total at (rowsAt 2 (now (keys .entry)) 0 count) ⌝ }
+// A pass that has met one key, at frame 0; the standing pose is played as such a key.
+fn begun(value: i64) -> Pass
+    ensures { λ r. ⌜ Begun r value ⌝ }
 {
-    let first = keys[1];
-    let mut p = Pass {
+    Pass {
         fine: true,
         before: 0,
-        value: first,
+        value,
         known: false,
         numerator: 0,
         denominator: 1,
-    };
+    }
+}
+
+// All keys of a channel, in rows of two numbers; where there are none, the standing pose.
+pub(crate) fn pass_over(keys: &[i64], count: usize, channel: usize, total: i64, at: usize) -> Pass
+    requires { ⌜ KeyRows (now keys) count total ⌝ }
+    ensures { λ r. ⌜ finished r ≡ passOver total channel at (rowsAt 2 (now (keys .entry)) 0 count) ⌝ }
+{
+    if count == 0 {
+        return begun(standing(channel));
+    }
+    let first = keys[1];
+    let mut p = begun(first);
     if keys[0] != 0 {
         p.fine = false;
         return p;

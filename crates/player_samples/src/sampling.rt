@@ -26,7 +26,7 @@ const CHANNEL_WIDTH: usize = 2;
 
 const CHANNELS: usize = 10;
 
-// A channel of a bone at a frame, in any table with any counts.
+// A channel of a bone at a frame, in any table with any counts; the standing pose of one that is left out, whose pair is 0 and 0.
 pub fn sample(table: &[i64], n: MovementCounts, bone: usize, channel: usize, at: usize) -> Sampled
     ensures { λ r. ⌜ sampled r ≡ numbered (sampleIn n (now (table .entry)) bone channel at) ⌝ }
 {
@@ -52,7 +52,13 @@ pub fn sample(table: &[i64], n: MovementCounts, bone: usize, channel: usize, at:
     }
     let from = s.keys + first as usize * KEY_WIDTH;
     let count = keys as usize;
-    value_of(pass_over(&table[from..from + count * KEY_WIDTH], count, total, at))
+    value_of(pass_over(
+        &table[from..from + count * KEY_WIDTH],
+        count,
+        channel,
+        total,
+        at,
+    ))
 }
 
 // What a finished pass says.

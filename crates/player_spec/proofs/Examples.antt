@@ -13,7 +13,7 @@ use Rattle.tra4_text.specs.Movement.{Pattern, frameOf, groupOf}
 use Rattle.table_references.specs.References.{isRow, isNone, sameNumber}
 use Rattle.table_references.specs.Index.{isIndex}
 use Rattle.player_spec.specs.Fractions.{Fraction, factorIn, factor, signedAs, lowest, whole}
-use Rattle.player_spec.specs.Samples.{keyFrame, keyValue, line, sampleFrom, sampleOf}
+use Rattle.player_spec.specs.Samples.{keyFrame, keyValue, line, sampleFrom, pose, standing, sampleOf}
 use Rattle.player_spec.specs.Deciding.{Line, lineFrame, applies, flagOf, notAfter, better, decidingFrom, deciding, stateBy}
 use Rattle.player_spec.specs.Faces.{inGroup, inGroups, groupedFaces, allOwned, groupShown, shownOf, rowAt, uvAt, cornerOf}
 use Rattle.refusal.specs.Faults.{clear, fault, isClear}
@@ -71,15 +71,33 @@ moveCounts = record { bones = 1; keys = 11; patterns = 0 }
 
 -- frames 0 to 5 of roll: on a key, between two, on the last, past it, and none
 pub roll-example : map (λ (at : ℕ). sampleIn moveCounts moves 0 9 at) (0 ∷ 1 ∷ 2 ∷ 4 ∷ 5 ∷ []) ≡ some (fraction (pos 1500000) 1) ∷ some (fraction (pos 1499999) 2) ∷ some (fraction (negsuc 0) 1) ∷ some (fraction (negsuc 0) 1) ∷ none ∷ []
-unfolding inForm tooMany movementLists figureLists fewInMovement fewInFigure groupsBegin figureMosts isRow isNone sameNumber movementMosts tra4.totalFault tra4.isFrame tra4.isZero tra4.rises tra4.keyFine tra4.channelFault tra4.hasStart tra4.startFault tra4.patternFine tra4.patternsFault orElse firstBad frameOf groupOf factorIn factor signedAs lowest whole keyFrame keyValue line sampleFrom sampleOf inGroup inGroups groupedFaces allOwned lineFrame applies flagOf notAfter better decidingFrom deciding stateBy groupShown shownOf rowAt uvAt cornerOf numberAt numbersAt rowsAt isClear keysBegin patternsBegin movementEnd holdsMovement pointsBegin ownersBegin bonesBegin uvsBegin facesBegin figureEnd holdsFigure onlyIf isFloat allFloat isIndex isAsked isRange valuesFine pairAt channelKeys canSample sampleIn sizeFine cornersFine allNone faceAt ownerAt faceSound pointAt uvRow uvFine uvIn canCorner cornerIn ownersFine ownedCorners patternRows linesFine patternsFine canShow groupFlag shownIn
+unfolding inForm tooMany movementLists figureLists fewInMovement fewInFigure groupsBegin figureMosts isRow isNone sameNumber movementMosts tra4.totalFault tra4.isFrame tra4.isZero tra4.rises tra4.keyFine tra4.channelFault tra4.hasStart tra4.startFault tra4.patternFine tra4.patternsFault orElse firstBad frameOf groupOf factorIn factor signedAs lowest whole keyFrame keyValue line sampleFrom pose standing sampleOf inGroup inGroups groupedFaces allOwned lineFrame applies flagOf notAfter better decidingFrom deciding stateBy groupShown shownOf rowAt uvAt cornerOf numberAt numbersAt rowsAt isClear keysBegin patternsBegin movementEnd holdsMovement pointsBegin ownersBegin bonesBegin uvsBegin facesBegin figureEnd holdsFigure onlyIf isFloat allFloat isIndex isAsked isRange valuesFine pairAt channelKeys canSample sampleIn sizeFine cornersFine allNone faceAt ownerAt faceSound pointAt uvRow uvFine uvIn canCorner cornerIn ownersFine ownedCorners patternRows linesFine patternsFine canShow groupFlag shownIn
 roll-example = refl
 
+-- a bone without channels, in a movement of one frame: the standing pose at frame 0, and no frame 1
+abbrev still : ℤ → ℤ → List ℤ
+still first count = (pos 1 ∷ replicate 10 (pos 0)) ++ (first ∷ count ∷ replicate 12 (pos 0))
+
+abbrev stillCounts : MovementCounts
+stillCounts = record { bones = 1; keys = 0; patterns = 0 }
+
+abbrev channels : List ℕ
+channels = 0 ∷ 1 ∷ 2 ∷ 3 ∷ 4 ∷ 5 ∷ 6 ∷ 7 ∷ 8 ∷ 9 ∷ []
+
+-- the pair of scale.x is 0 and 0; or it is another, of which none is sound
+pub still-example :
+    (map (λ (c : ℕ). sampleIn stillCounts (still (pos 0) (pos 0)) 0 c 0) channels ≡ map (λ (v : ℕ). some (fraction (pos v) 1)) (0 ∷ 0 ∷ 0 ∷ 100000000 ∷ 100000000 ∷ 100000000 ∷ 0 ∷ 0 ∷ 1000000 ∷ 0 ∷ []))
+    × (map (λ (c : ℕ). sampleIn stillCounts (still (pos 0) (pos 0)) 0 c 1) channels ≡ replicate 10 none)
+    × (map (λ (z : ℤ × ℤ). sampleIn stillCounts (still (z .0) (z .1)) 0 3 0) ((pos 1, pos 0) ∷ (negsuc 0, pos 0) ∷ (pos 0, negsuc 0) ∷ (pos 0, pos 1) ∷ []) ≡ replicate 4 none)
+unfolding inForm tooMany movementLists figureLists fewInMovement fewInFigure groupsBegin figureMosts isRow isNone sameNumber movementMosts tra4.totalFault tra4.isFrame tra4.isZero tra4.rises tra4.keyFine tra4.channelFault tra4.hasStart tra4.startFault tra4.patternFine tra4.patternsFault orElse firstBad frameOf groupOf factorIn factor signedAs lowest whole keyFrame keyValue line sampleFrom pose standing sampleOf inGroup inGroups groupedFaces allOwned lineFrame applies flagOf notAfter better decidingFrom deciding stateBy groupShown shownOf rowAt uvAt cornerOf numberAt numbersAt rowsAt isClear keysBegin patternsBegin movementEnd holdsMovement pointsBegin ownersBegin bonesBegin uvsBegin facesBegin figureEnd holdsFigure onlyIf isFloat allFloat isIndex isAsked isRange valuesFine pairAt channelKeys canSample sampleIn sizeFine cornersFine allNone faceAt ownerAt faceSound pointAt uvRow uvFine uvIn canCorner cornerIn ownersFine ownedCorners patternRows linesFine patternsFine canShow groupFlag shownIn
+still-example = (refl, refl, refl)
+
 pub shown-example : map (λ (at : ℕ). shownIn figureCounts figure moveCounts moves 0 at) (0 ∷ 4 ∷ 5 ∷ []) ≡ some false ∷ some false ∷ none ∷ []
-unfolding inForm tooMany movementLists figureLists fewInMovement fewInFigure groupsBegin figureMosts isRow isNone sameNumber movementMosts tra4.totalFault tra4.isFrame tra4.isZero tra4.rises tra4.keyFine tra4.channelFault tra4.hasStart tra4.startFault tra4.patternFine tra4.patternsFault orElse firstBad frameOf groupOf factorIn factor signedAs lowest whole keyFrame keyValue line sampleFrom sampleOf inGroup inGroups groupedFaces allOwned lineFrame applies flagOf notAfter better decidingFrom deciding stateBy groupShown shownOf rowAt uvAt cornerOf numberAt numbersAt rowsAt isClear keysBegin patternsBegin movementEnd holdsMovement pointsBegin ownersBegin bonesBegin uvsBegin facesBegin figureEnd holdsFigure onlyIf isFloat allFloat isIndex isAsked isRange valuesFine pairAt channelKeys canSample sampleIn sizeFine cornersFine allNone faceAt ownerAt faceSound pointAt uvRow uvFine uvIn canCorner cornerIn ownersFine ownedCorners patternRows linesFine patternsFine canShow groupFlag shownIn
+unfolding inForm tooMany movementLists figureLists fewInMovement fewInFigure groupsBegin figureMosts isRow isNone sameNumber movementMosts tra4.totalFault tra4.isFrame tra4.isZero tra4.rises tra4.keyFine tra4.channelFault tra4.hasStart tra4.startFault tra4.patternFine tra4.patternsFault orElse firstBad frameOf groupOf factorIn factor signedAs lowest whole keyFrame keyValue line sampleFrom pose standing sampleOf inGroup inGroups groupedFaces allOwned lineFrame applies flagOf notAfter better decidingFrom deciding stateBy groupShown shownOf rowAt uvAt cornerOf numberAt numbersAt rowsAt isClear keysBegin patternsBegin movementEnd holdsMovement pointsBegin ownersBegin bonesBegin uvsBegin facesBegin figureEnd holdsFigure onlyIf isFloat allFloat isIndex isAsked isRange valuesFine pairAt channelKeys canSample sampleIn sizeFine cornersFine allNone faceAt ownerAt faceSound pointAt uvRow uvFine uvIn canCorner cornerIn ownersFine ownedCorners patternRows linesFine patternsFine canShow groupFlag shownIn
 shown-example = refl
 
 pub corner-example : map (λ (k : ℕ). cornerIn figureCounts figure 0 k) (1 ∷ 2 ∷ 3 ∷ []) ≡ some (record { position = pos 1500000 ∷ pos 0 ∷ pos 0 ∷ []; owner = pos 0; uv = none; material = pos 0 }) ∷ some (record { position = pos 0 ∷ negsuc 0 ∷ pos 0 ∷ []; owner = negsuc 0; uv = none; material = pos 0 }) ∷ none ∷ []
-unfolding inForm tooMany movementLists figureLists fewInMovement fewInFigure groupsBegin figureMosts isRow isNone sameNumber movementMosts tra4.totalFault tra4.isFrame tra4.isZero tra4.rises tra4.keyFine tra4.channelFault tra4.hasStart tra4.startFault tra4.patternFine tra4.patternsFault orElse firstBad frameOf groupOf factorIn factor signedAs lowest whole keyFrame keyValue line sampleFrom sampleOf inGroup inGroups groupedFaces allOwned lineFrame applies flagOf notAfter better decidingFrom deciding stateBy groupShown shownOf rowAt uvAt cornerOf numberAt numbersAt rowsAt isClear keysBegin patternsBegin movementEnd holdsMovement pointsBegin ownersBegin bonesBegin uvsBegin facesBegin figureEnd holdsFigure onlyIf isFloat allFloat isIndex isAsked isRange valuesFine pairAt channelKeys canSample sampleIn sizeFine cornersFine allNone faceAt ownerAt faceSound pointAt uvRow uvFine uvIn canCorner cornerIn ownersFine ownedCorners patternRows linesFine patternsFine canShow groupFlag shownIn
+unfolding inForm tooMany movementLists figureLists fewInMovement fewInFigure groupsBegin figureMosts isRow isNone sameNumber movementMosts tra4.totalFault tra4.isFrame tra4.isZero tra4.rises tra4.keyFine tra4.channelFault tra4.hasStart tra4.startFault tra4.patternFine tra4.patternsFault orElse firstBad frameOf groupOf factorIn factor signedAs lowest whole keyFrame keyValue line sampleFrom pose standing sampleOf inGroup inGroups groupedFaces allOwned lineFrame applies flagOf notAfter better decidingFrom deciding stateBy groupShown shownOf rowAt uvAt cornerOf numberAt numbersAt rowsAt isClear keysBegin patternsBegin movementEnd holdsMovement pointsBegin ownersBegin bonesBegin uvsBegin facesBegin figureEnd holdsFigure onlyIf isFloat allFloat isIndex isAsked isRange valuesFine pairAt channelKeys canSample sampleIn sizeFine cornersFine allNone faceAt ownerAt faceSound pointAt uvRow uvFine uvIn canCorner cornerIn ownersFine ownedCorners patternRows linesFine patternsFine canShow groupFlag shownIn
 corner-example = refl
 
 -- ---- the deciding line, with lines as frame, group and flag

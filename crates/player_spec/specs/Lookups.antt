@@ -3,7 +3,7 @@ use mathlib.Core.List.{List, [], _∷_}
 use mathlib.Core.Bool.{Bool, true, false, not, _&&_, _||_}
 use mathlib.Core.Option.{Option, none, some}
 use Prim.Native.Nat.{ℕ, zero, suc, _+_, _*_}
-use lib.Dec.{leb, ltb}
+use lib.Dec.{eqb, leb, ltb}
 use lib.IntN.{ℤ, pos, negsuc, natAbs}
 use Rattle.table_references.specs.References.{isRow, isNone, sameNumber}
 use Rattle.table_references.specs.Index.{isIndex}
@@ -40,9 +40,9 @@ allFloat (z ∷ zs) = isFloat z && allFloat zs
 unfoldable pub isAsked : ℤ → ℕ → Bool
 isAsked total at = isClear (totalFault total) && ltb at (natAbs total)
 
--- a first row and a count of at least one, which lie among n rows
+-- a first row and a count, which lie among n rows; where the count is 0, of a channel that is left out, the row is 0 too
 unfoldable pub isRange : ℕ → ℤ → ℤ → Bool
-isRange n (pos f) (pos zero) = false
+isRange n (pos f) (pos zero) = eqb f 0
 isRange n (pos f) (pos (suc c)) = leb (f + suc c) n
 isRange n (pos f) (negsuc c) = false
 isRange n (negsuc f) c = false
@@ -70,7 +70,7 @@ module _ (n : MovementCounts) (table : List ℤ) where
       && valuesFine (channelKeys bone channel)
 
   unfoldable pub sampleIn : ℕ → ℕ → ℕ → Option Fraction
-  sampleIn bone channel at = onlyIf (canSample bone channel at) (sampleOf (channelKeys bone channel) at)
+  sampleIn bone channel at = onlyIf (canSample bone channel at) (sampleOf channel (channelKeys bone channel) at)
 
 -- ---- a face's row: material, size, four vertices, four uvs, group
 

@@ -1,5 +1,5 @@
 -- A channel's sample at a frame, from its keys as the text writes them (document 01, "Playing").
-use mathlib.Core.List.{List, [], _∷_}
+use mathlib.Core.List.{List, [], _∷_, map}
 use mathlib.Core.Bool.{true, false}
 use Prim.Native.Nat.{ℕ, _-_}
 use lib.Dec.{leb}
@@ -25,7 +25,15 @@ unfoldable pub sampleFrom : Key → List Key → ℕ → Fraction
 sampleFrom k [] at = whole (keyValue k)
 sampleFrom k (n ∷ ks) at = elim (leb (keyFrame n) at) [ true ↦ sampleFrom n ks at | false ↦ line k n at ]
 
--- a channel has at least one key, the first at frame 0
-unfoldable pub sampleOf : Channel → ℕ → Fraction
-sampleOf [] at = whole (pos 0)
-sampleOf (k ∷ ks) at = sampleFrom k ks at
+-- document 004's standing pose by channel number, in millionths: translate 0, 0, 0, scale 100, 100, 100, rotate 0, 0, 1, roll 0
+unfoldable pub pose : List ℤ
+pose = map pos (0 ∷ 0 ∷ 0 ∷ 100000000 ∷ 100000000 ∷ 100000000 ∷ 0 ∷ 0 ∷ 1000000 ∷ 0 ∷ [])
+
+-- what a channel that is left out stands for (document 02, (x))
+unfoldable pub standing : ℕ → ℤ
+standing channel = getD pose channel (pos 0)
+
+-- the channel of a number, by its keys: one that is left out has none, and else the first is at frame 0
+unfoldable pub sampleOf : ℕ → Channel → ℕ → Fraction
+sampleOf channel [] at = whole (standing channel)
+sampleOf channel (k ∷ ks) at = sampleFrom k ks at

@@ -7,10 +7,11 @@ use borrow.Author.Tests.{ltb-true, ltb-false, leb-true, leb-false, le-leb, lt-le
 use lib.Dec.{leb, ltb}
 use lib.IntN.{ℤ, pos, negsuc, natAbs}
 use lib.Signed.{ltZ}
-use Rattle.tra4_text.specs.Rules.{totalFault}
+use Rattle.tra4_text.specs.Rules.{totalFault, isZero}
 use Rattle.refusal.specs.Faults.{isClear}
 use Rattle.player_spec.specs.Lookups.{isFloat, isAsked, isRange}
 use Rattle.text_numerals.specs.Numbers.{inForm}
+use Rattle.tra4_text.proofs.Zero.{zero-is}
 
 -- ---- a number of at least one
 
@@ -57,33 +58,39 @@ range-first n (negsuc f) (pos zero) e = refl
 range-first n (negsuc f) (pos (suc c)) e = refl
 range-first n (negsuc f) (negsuc c) e = refl
 
-pub range-count : (n : ℕ) (f c : ℤ) → ltZ c (pos 1) ≡ true → isRange n f c ≡ false
+pub range-count : (n : ℕ) (f c : ℤ) → ltZ c (pos 0) ≡ true → isRange n f c ≡ false
 unfolding isRange
-range-count n (pos f) (pos zero) e = refl
-range-count n (pos f) (pos (suc c)) e = absurd (let l = ltb-true (suc c) 1 e in omega arith)
+range-count n f (pos c) e = absurd (let l = ltb-true c 0 e in omega arith)
 range-count n (pos f) (negsuc c) e = refl
-range-count n (negsuc f) (pos zero) e = refl
-range-count n (negsuc f) (pos (suc c)) e = refl
 range-count n (negsuc f) (negsuc c) e = refl
 
+-- of no rows
+pub range-none : (n : ℕ) (f c : ℤ) → isZero c ≡ true → isZero f ≡ isRange n f c
+unfolding isRange isZero
+range-none n f c e = rw (zero-is c e) (go f)
+  where
+    go : (z : ℤ) → isZero z ≡ isRange n z (pos 0)
+    go (pos z) = refl
+    go (negsuc z) = refl
+
 module _ (n : ℕ) where
-  pub range-beyond : (f c : ℤ) → ltZ f (pos 0) ≡ false → ltZ c (pos 1) ≡ false → n < natAbs f → isRange n f c ≡ false
-  unfolding isRange
-  range-beyond (pos f) (pos zero) e h l = refl
+  pub range-beyond : (f c : ℤ) → ltZ f (pos 0) ≡ false → isZero c ≡ false → n < natAbs f → isRange n f c ≡ false
+  unfolding isRange isZero
+  range-beyond (pos f) (pos zero) e h l = absurd (true≢false h)
   range-beyond (pos f) (pos (suc c)) e h l = lt-leb (f + suc c) n (omega arith)
   range-beyond (pos f) (negsuc c) e h l = refl
   range-beyond (negsuc f) c e h l = let z : _≡_ {A = ℕ} 0 1 = cc in absurd (omega (arith, z))
 
-  pub range-within : (f c : ℤ) → ltZ f (pos 0) ≡ false → ltZ c (pos 1) ≡ false → natAbs f ≤ n → isRange n f c ≡ leb (natAbs c) (n - natAbs f)
-  unfolding isRange
-  range-within (pos f) (pos zero) e h l = absurd (let m = ltb-false zero 1 h in omega arith)
-  range-within (pos f) (pos (suc c)) e h l = go (leb (suc c) (n - f)) refl
+  pub range-within : (f c : ℤ) → ltZ f (pos 0) ≡ false → ltZ c (pos 0) ≡ false → isZero c ≡ false → natAbs f ≤ n → isRange n f c ≡ leb (natAbs c) (n - natAbs f)
+  unfolding isRange isZero
+  range-within (pos f) (pos zero) e h z l = absurd (true≢false z)
+  range-within (pos f) (pos (suc c)) e h z l = go (leb (suc c) (n - f)) refl
     where
       go : (v : Bool) → leb (suc c) (n - f) ≡ v → leb (f + suc c) n ≡ leb (suc c) (n - f)
       go true o = rw o (le-leb (f + suc c) n (let m = leb-true (suc c) (n - f) o in omega arith))
       go false o = rw o (lt-leb (f + suc c) n (let m = leb-false (suc c) (n - f) o in omega arith))
-  range-within (pos f) (negsuc c) e h l = let z : _≡_ {A = ℕ} 0 1 = cc in absurd (omega (arith, z))
-  range-within (negsuc f) c e h l = let z : _≡_ {A = ℕ} 0 1 = cc in absurd (omega (arith, z))
+  range-within (pos f) (negsuc c) e h z l = absurd (true≢false h)
+  range-within (negsuc f) c e h z l = absurd (true≢false e)
 
 -- ---- a float, by its size
 

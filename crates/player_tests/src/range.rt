@@ -2,15 +2,18 @@
 ghost use mathlib.Core.Path.{_≡_};
 ghost use Rattle.player_spec.specs.Lookups.{isRange};
 
-// Whether a first row and a count of at least one lie among n rows.
+// Whether a first row and a count lie among n rows; where the count is 0, of a channel that is left out, the row is 0 too.
 pub fn is_range(n: usize, first: i64, count: i64) -> bool
     ensures { λ r. ⌜ r ≡ isRange n first count ⌝ }
 {
     if first < 0 {
         return false;
     }
-    if count < 1 {
+    if count < 0 {
         return false;
+    }
+    if count == 0 {
+        return first == 0;
     }
     let f = first as usize;
     let c = count as usize;

@@ -28,9 +28,9 @@ use Rattle.tra4_text.specs.Answer.{movementOutcome, movementAnswer, movementTab
 use Rattle.movement_bridge.proofs.Taken.{taken}
 use Rattle.player_spec.specs.Lookups.{onlyIf}
 use Rattle.player_spec.specs.Answers.{numbered}
-use Rattle.player_laws.proofs.Keys.{on-key-at, between-at, past-last-at, sample-lowest}
+use Rattle.player_laws.proofs.Keys.{on-key-at, between-at, past-last-at, sample-lowest, sample-none}
 use Rattle.movement_bridge.specs.Counts.{channelOf}
-use Rattle.movement_bridge.proofs.Sampling.{channel-sound, channel-whole}
+use Rattle.movement_bridge.proofs.Sampling.{channel-sound}
 use Rattle.movement_bridge.proofs.Tables.{table-read}
 use Rattle.figure_bridge.specs.Rows.{faceOf}
 use Rattle.figure_bridge.proofs.Texts.{figure-table}
@@ -131,15 +131,15 @@ module _ (F : List ℕ) (table : List ℤ) (M : List ℕ) (moves : List ℤ) (f 
 
   -- ---- what exists
 
-  laws : (bone channel : ℕ) → bone < length (m .bones) → channel < 10 → SampleLaws (channelOf m bone channel)
+  laws : (bone channel : ℕ) → bone < length (m .bones) → channel < 10 → SampleLaws channel (channelOf m bone channel)
   laws bone channel h k =
       let sound = channel-sound M moves m (parts .movement) bone channel h k in
       record {
-        some-key = channel-whole M moves m (parts .movement) bone channel h k .some-key;
-        on-key = λ i l. on-key-at (m .totalFrames) _ sound i l;
-        between = λ i at l a b. between-at (m .totalFrames) _ sound i l at a b;
-        past-last = λ i at l a. past-last-at (m .totalFrames) _ sound i l at a;
-        lowest = λ at. sample-lowest (m .totalFrames) _ at sound;
+        on-key = λ i l. on-key-at channel (m .totalFrames) _ sound i l;
+        between = λ i at l a b. between-at channel (m .totalFrames) _ sound i l at a b;
+        past-last = λ i at l a. past-last-at channel (m .totalFrames) _ sound i l at a;
+        left-out = λ at l. sample-none channel _ at l;
+        lowest = λ at. sample-lowest channel (m .totalFrames) _ at sound;
       }
 
   played : Played F table M moves f m

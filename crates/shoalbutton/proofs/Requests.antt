@@ -1,19 +1,36 @@
 -- The requests, by the laws of the crates that they are about.
 use mathlib.Core.Path.{_≡_, refl}
-use mathlib.Core.List.{List}
+use mathlib.Core.List.{List, [], map}
 use mathlib.Core.Bool.{Bool, true, false, _&&_}
 use mathlib.Core.Option.{none, some}
-use Prim.Native.Nat.{ℕ}
-use Rattle.text_numerals.specs.Numbers.{INT, fixedOf, numberOf}
+use Prim.Native.Nat.{ℕ, _<_}
+use lib.IntN.{ℤ}
+use lib.ListN.{length}
+use Rattle.text_bytes.specs.Bytes.{bytes, between, isDigit}
+use Rattle.text_runs.specs.Runs.{run}
+use Rattle.text_numerals.specs.Numbers.{value, INT, FLOAT, decimalFrom, decimal, signed, notEmpty, allDigits, millionths, floatOf, numberFrom, afterDigits, unsigned, negative, unsignedPart, fixedOf, inMantissa, mantissa, withExponent, numberOf}
+use Rattle.refusal.specs.Outcomes.{accepted}
 use Rattle.text_numerals.proofs.Exponents.{exponent-taken, exponent-power, exponent-wrong, exponent-new, exponent-free}
 use Rattle.bac6_text.specs.Figure.{Bone, Face}
-use Rattle.tra4_text.specs.Movement.{Pattern}
+use Rattle.tra4_text.specs.Movement.{Pattern, Movement}
+use Rattle.tra4_text.specs.Grammar.{channelNames}
+use Rattle.tra4_text.specs.Rules.{movementCounts}
+use Rattle.tra4_text.specs.Answer.{movementAnswer, movementTable}
+use Rattle.player_spec.specs.Fractions.{whole}
+use Rattle.player_spec.specs.Samples.{pose, standing, sampleOf}
+use Rattle.player_spec.specs.Lookups.{sampleIn}
 use Rattle.player_spec.specs.Deciding.{deciding, stateBy}
 use Rattle.player_spec.specs.Faces.{allOwned, groupShown, shownOf}
 use Rattle.tra4_text.proofs.Patterns.{patterns-taken, startless, started}
 use Rattle.player_spec.proofs.Greatest.{deciding-greatest, unfallen}
 use Rattle.player_laws.proofs.Exchanged.{rule-exchanged, state-exchanged}
-use Rattle.shoalbutton.specs.Requests.{Exponents, AnyOrder}
+use Rattle.tra4_text.proofs.LeftOut.{bone-ends, channel-kept, blank-range, laid-range}
+use Rattle.player_laws.proofs.Keys.{sample-pose}
+use Rattle.player_laws.proofs.LeftOut.{blank-sound, other-row, below-zero}
+use Rattle.movement_bridge.specs.Counts.{channelOf}
+use Rattle.movement_bridge.proofs.Sampling.{pair-none, sample-left-out}
+use Rattle.pair_bridge.specs.Playing.{framesOf}
+use Rattle.shoalbutton.specs.Requests.{Exponents, AnyOrder, standingPose, LeftOut}
 
 int-same : (word : List ℕ) → numberOf INT word ≡ fixedOf INT word
 unfolding numberOf
@@ -46,4 +63,38 @@ any-order =
       rule = λ total before after p q e. rule-exchanged total p q after before e;
       state = state-exchanged;
       unfallen = unfallen;
+    }
+
+pose-keywords : map (λ p. p .0) standingPose ≡ channelNames
+unfolding channelNames
+pose-keywords = refl
+
+pose-decimals : map (λ p. numberOf FLOAT (bytes (p .1))) standingPose ≡ map value pose
+unfolding bytes between isDigit run decimalFrom decimal signed notEmpty allDigits millionths floatOf numberFrom afterDigits unsigned negative unsignedPart fixedOf inMantissa mantissa withExponent numberOf pose
+pose-decimals = refl
+
+no-keys : (channel at : ℕ) → sampleOf channel [] at ≡ whole (standing channel)
+unfolding sampleOf
+no-keys channel at = refl
+
+left-out-sampled : (text : List ℕ) (table : List ℤ) (m : Movement) → movementAnswer text (length table) ≡ accepted m → (bone channel at : ℕ) → bone < length (m .bones) → channel < 10 → at < framesOf m → channelOf m bone channel ≡ [] → sampleIn (movementCounts m) (movementTable text table) bone channel at ≡ some (whole (standing channel))
+unfolding framesOf
+left-out-sampled = sample-left-out
+
+pub left-out : LeftOut
+left-out =
+    record {
+      ends = bone-ends;
+      kept = channel-kept;
+      blank = blank-range;
+      laid = laid-range;
+      keywords = pose-keywords;
+      decimals = pose-decimals;
+      default = no-keys;
+      written = sample-pose;
+      pair = pair-none;
+      sampled = left-out-sampled;
+      blank-sound = blank-sound;
+      other-row = other-row;
+      below-zero = below-zero;
     }

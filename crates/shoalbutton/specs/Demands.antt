@@ -25,7 +25,7 @@ use Rattle.tra4_text.specs.Answer.{movementAnswer, movementTable}
 use Rattle.table_counts.specs.declared.counts.FigureCounts.{FigureCounts}
 use Rattle.table_counts.specs.declared.counts.MovementCounts.{MovementCounts}
 use Rattle.player_spec.specs.Fractions.{whole}
-use Rattle.player_spec.specs.Samples.{keyFrame, keyValue, sampleOf}
+use Rattle.player_spec.specs.Samples.{keyFrame, keyValue, standing, sampleOf}
 use Rattle.player_spec.specs.Faces.{cornerOf, shownOf}
 use Rattle.player_spec.specs.Lookups.{sampleIn, cornerIn, shownIn}
 use Rattle.player_spec.specs.Answers.{numbered}
@@ -93,13 +93,14 @@ pub record Demand2 : Type 0 where
 
 -- ---- 3: "For every loaded pair, every frame, bone, channel, face and corner, the player's answer equals the one worked out exactly from the two texts alone."
 
--- a channel's exact sample: on a key the key's value, between two keys not below the smaller nor above the larger, past the last the last's; in lowest terms
-pub record SampleLaws (c : Channel) : Type 0 where
-  pub some-key : 0 < length c
-  pub on-key : (i : ℕ) → i < length c → sampleOf c (keyFrame (keyAt c i)) ≡ whole (keyValue (keyAt c i))
-  pub between : (i at : ℕ) → suc i < length c → keyFrame (keyAt c i) ≤ at → at < keyFrame (keyAt c (suc i)) → Between (keyValue (keyAt c i)) (keyValue (keyAt c (suc i))) (sampleOf c at)
-  pub past-last : (i at : ℕ) → suc i ≡ length c → keyFrame (keyAt c i) ≤ at → sampleOf c at ≡ whole (keyValue (keyAt c i))
-  pub lowest : (at : ℕ) → LowestTerms (sampleOf c at)
+-- the exact sample of the channel of a number: on a key the key's value, between two keys not below the smaller nor above the larger, past the last the last's, and of a channel
+-- without keys, which is one that is left out, the standing pose; in lowest terms
+pub record SampleLaws (channel : ℕ) (c : Channel) : Type 0 where
+  pub on-key : (i : ℕ) → i < length c → sampleOf channel c (keyFrame (keyAt c i)) ≡ whole (keyValue (keyAt c i))
+  pub between : (i at : ℕ) → suc i < length c → keyFrame (keyAt c i) ≤ at → at < keyFrame (keyAt c (suc i)) → Between (keyValue (keyAt c i)) (keyValue (keyAt c (suc i))) (sampleOf channel c at)
+  pub past-last : (i at : ℕ) → suc i ≡ length c → keyFrame (keyAt c i) ≤ at → sampleOf channel c at ≡ whole (keyValue (keyAt c i))
+  pub left-out : (at : ℕ) → length c ≡ 0 → sampleOf channel c at ≡ whole (standing channel)
+  pub lowest : (at : ℕ) → LowestTerms (sampleOf channel c at)
 
 -- the two texts, and what the two lent tables held
 module _ (F : List ℕ) (table : List ℤ) (M : List ℕ) (moves : List ℤ) where
@@ -118,13 +119,13 @@ module _ (F : List ℕ) (table : List ℤ) (M : List ℕ) (moves : List ℤ) whe
 
   pub record Played (f : Figure) (m : Movement) : Type 0 where
     -- what is in the files
-    pub sample : (bone channel at : ℕ) → bone < length (m .bones) → channel < 10 → at < framesOf m → numbered (sampleIn k U bone channel at) ≡ (0, 0, 0, some (sampleOf (channelOf m bone channel) at))
+    pub sample : (bone channel at : ℕ) → bone < length (m .bones) → channel < 10 → at < framesOf m → numbered (sampleIn k U bone channel at) ≡ (0, 0, 0, some (sampleOf channel (channelOf m bone channel) at))
     pub shown : (face at : ℕ) → face < length (facesOf f) → at < framesOf m → numbered (shownIn n T k U face at) ≡ (0, 0, 0, some (shownOf (f .bones) (m .patterns) (groupedFaceOf f face) at))
     pub corner : (face i : ℕ) → face < length (facesOf f) → i < faceOf f face .size → numbered (cornerIn n T face i) ≡ (0, 0, 0, some (cornerOf f (faceOf f face) i))
     pub label : (bone : ℕ) → bone < length (m .bones) → numbered (labelIn F n T M k U bone) ≡ (0, 0, 0, some (labelOf (getD (figureNames f) bone []) (getD (movementNames m) bone [])))
     -- as many bones in the one as in the other
     pub bones : length (f .bones) ≡ length (m .bones)
-    pub laws : (bone channel : ℕ) → bone < length (m .bones) → channel < 10 → SampleLaws (channelOf m bone channel)
+    pub laws : (bone channel : ℕ) → bone < length (m .bones) → channel < 10 → SampleLaws channel (channelOf m bone channel)
     -- whatever is asked: 21 exactly for what is not in the files
     pub every-sample : (bone channel at : ℕ) → sampleIn k U bone channel at ≡ sampleAsked m bone channel at
     pub every-shown : (face at : ℕ) → shownIn n T k U face at ≡ shownAsked f m face at

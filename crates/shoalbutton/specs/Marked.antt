@@ -11,7 +11,7 @@ use Rattle.tra4_text.specs.Movement.{Channel}
 use Rattle.player_spec.specs.Fractions.{Fraction}
 use Rattle.player_spec.specs.Samples.{sampleOf}
 
--- a word where a number of a form is wanted; the child and brother flags of bones; keys by frame and word, and a frame
+-- a word where a number of a form is wanted; the child and brother flags of bones; the keys of roll by frame and word, and a frame
 pub data Case : Type 0 where
   word : Form → String → Case
   bones : List Flags → Case
@@ -50,7 +50,7 @@ saysSample r = sample (r .numerator) (r .denominator)
 unfoldable pub ruled : Case → Says
 ruled (word f w) = saysNumber (numberOf f (bytes w))
 ruled (bones fs) = saysBones (bonesFault fs) (parentsIn (wholeList fs))
-ruled (keys ks at) = saysSample (sampleOf (channel ks) at)
+ruled (keys ks at) = saysSample (sampleOf 9 (channel ks) at)
 
 abbrev pub T : ℤ
 T = pos 1

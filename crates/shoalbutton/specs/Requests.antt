@@ -1,22 +1,40 @@
 -- Document 02's requests, as statements over the definitions that the calls of this crate equal. proofs/Requests.antt gives them.
 use mathlib.Core.Path.{_≡_}
 use mathlib.Core.Logic.{_↔_, _⊎_}
-use mathlib.Core.List.{List, _∷_, _++_}
+use mathlib.Core.List.{List, [], _∷_, _++_, map}
 use mathlib.Core.Bool.{true, false, _&&_}
 use mathlib.Core.Option.{Option, none, some}
-use Prim.Native.Nat.{ℕ}
-use lib.IntN.{ℤ, natAbs}
-use lib.ListN.{length}
+use Prim.Native.Nat.{ℕ, _+_, _<_}
+use Prim.Native.String.{String}
+use lib.IntN.{ℤ, pos, negsuc, natAbs}
+use lib.ListN.{length, getD}
+use Rattle.text_bytes.specs.Bytes.{bytes}
+use Rattle.text_tokens.specs.Tokens.{Lexeme}
+use Rattle.text_kinds.specs.Kinds.{isClosing}
+use Rattle.parse_spec.specs.Readers.{got, tokenOf, rest}
+use Rattle.parse_spec.specs.Fields.{fieldsIn, fields}
 use Rattle.refusal.specs.Faults.{clear, fault}
+use Rattle.refusal.specs.Outcomes.{accepted}
 use Rattle.refusal.specs.FirstBad.{all, firstBad}
 use Rattle.text_numerals.specs.Numbers.{value, wrong, INT, FLOAT, fixedOf, exponentOf, numberOf}
 use Rattle.text_numerals.specs.Exponents.{hasExponent, Power, Makes}
-use Rattle.tra4_text.specs.Movement.{Pattern, groupOf}
-use Rattle.tra4_text.specs.Rules.{patternFine, hasStart, patternsFault}
+use Rattle.tra4_text.specs.Movement.{Key, Channel, Pattern, groupOf, Movement}
+use Rattle.tra4_text.specs.Grammar.{channelNames, channelKinds, keysIn}
+use Rattle.tra4_text.specs.Rules.{patternFine, hasStart, patternsFault, movementCounts}
+use Rattle.tra4_text.specs.Layout.{keyRanges}
+use Rattle.tra4_text.specs.Answer.{movementAnswer, movementTable}
+use Rattle.table_counts.specs.declared.counts.MovementCounts.{MovementCounts}
+use Rattle.table_columns.specs.Parts.{numberAt}
+use Rattle.table_movement.specs.Sections.{holdsMovement}
+use Rattle.player_spec.specs.Fractions.{whole}
+use Rattle.player_spec.specs.Samples.{pose, standing, sampleOf}
+use Rattle.player_spec.specs.Lookups.{isAsked, pairAt, sampleIn}
 use Rattle.player_spec.specs.Deciding.{lineFrame, Line, deciding, stateBy, Decides}
 use Rattle.player_spec.specs.InOrder.{neverFalls, lastFlag}
 use Rattle.player_spec.specs.Faces.{allOwned, shownOf}
 use Rattle.bac6_text.specs.Figure.{Bone, Face}
+use Rattle.movement_bridge.specs.Counts.{channelOf}
+use Rattle.pair_bridge.specs.Playing.{framesOf}
 
 -- ---- (vii): "A FLOAT may now end in `e`, an optional `-` and one digit 0 to 6. It is accepted if the value is a whole number of millionths, at most 9,999,999,999,999 either way."
 
@@ -51,3 +69,46 @@ pub record AnyOrder : Type 0 where
   pub state : (g at : ℕ) (before after : List Pattern) (p q : Pattern) → (natAbs (groupOf p) ≡ natAbs (groupOf q) → lineFrame p ≡ lineFrame q → ⊥) → stateBy (deciding g at (before ++ (p ∷ q ∷ after))) ≡ stateBy (deciding g at (before ++ (q ∷ p ∷ after)))
   -- lines whose frames never fall show what they did
   pub unfallen : (g at : ℕ) (ps : List Pattern) → neverFalls 0 ps ≡ true → stateBy (deciding g at ps) ≡ lastFlag g at false ps
+
+-- ---- (x): "A missing channel now means 004's standing pose: 0 for translation and roll, 100 for scale, 0, 0, 1 for rotate. Its first key row and key count are 0, and Sample gives the default at all frames below the total."
+
+-- document 004's standing pose, by keyword and decimal
+abbrev pub standingPose : List (String × String)
+standingPose =
+    ("translate.x", "0")
+    ∷ ("translate.y", "0")
+    ∷ ("translate.z", "0")
+    ∷ ("scale.x", "100")
+    ∷ ("scale.y", "100")
+    ∷ ("scale.z", "100")
+    ∷ ("rotate.x", "0")
+    ∷ ("rotate.y", "0")
+    ∷ ("rotate.z", "1")
+    ∷ ("roll", "0")
+    ∷ []
+
+-- a channel's pair, first key row and key count, is 0 and 0
+abbrev pub IsBlank : MovementCounts → List ℤ → ℕ → ℕ → Type 0
+IsBlank n table bone channel = (numberAt table (pairAt n table bone channel) ≡ pos 0) × (numberAt table (pairAt n table bone channel + 1) ≡ pos 0)
+
+-- `fields channelKinds` reads the chunks of a bone's channels: `none` for one that is left out
+pub record LeftOut : Type 0 where
+  -- a bone may end whatever channels have stood, and however few
+  pub ends : (n : ℕ) (fs : List (Option Channel)) (ms : List Lexeme) → isClosing (tokenOf ms) ≡ true → fieldsIn n channelKinds fs ms ≡ got fs (rest ms)
+  -- one that stands has a key, whatever its value, so that a channel without keys is one that is left out
+  pub kept : (ms ls : List Lexeme) (fs : List (Option Channel)) → fields channelKinds ms ≡ got fs ls → (channel : ℕ) → keysIn (getD fs channel none) ≡ [] ↔ getD fs channel none ≡ none
+  -- in the table: 0 and 0, and the channels after it count on; of one with keys the row that they begin at, and how many they are
+  pub blank : (row : ℕ) (cs : List Channel) → keyRanges row ([] ∷ cs) ≡ pos 0 ∷ pos 0 ∷ keyRanges row cs
+  pub laid : (row : ℕ) (k : Key) (c : Channel) (cs : List Channel) → keyRanges row ((k ∷ c) ∷ cs) ≡ pos row ∷ pos (length (k ∷ c)) ∷ keyRanges (row + length (k ∷ c)) cs
+  -- what it stands for: the decimal of its keyword, as FLOAT reads it, and the sample of a channel written out with one key of that value
+  pub keywords : map (λ p. p .0) standingPose ≡ channelNames
+  pub decimals : map (λ p. numberOf FLOAT (bytes (p .1))) standingPose ≡ map value pose
+  pub default : (channel at : ℕ) → sampleOf channel [] at ≡ whole (standing channel)
+  pub written : (channel at : ℕ) → sampleOf channel ((pos 0 ∷ standing channel ∷ []) ∷ []) at ≡ sampleOf channel [] at
+  -- of every text that is taken, whatever its table held: a channel is left out exactly where its pair is 0 and 0, and Sample then gives the default at each frame
+  pub pair : (text : List ℕ) (table : List ℤ) (m : Movement) → movementAnswer text (length table) ≡ accepted m → (bone channel : ℕ) → bone < length (m .bones) → channel < 10 → channelOf m bone channel ≡ [] ↔ IsBlank (movementCounts m) (movementTable text table) bone channel
+  pub sampled : (text : List ℕ) (table : List ℤ) (m : Movement) → movementAnswer text (length table) ≡ accepted m → (bone channel at : ℕ) → bone < length (m .bones) → channel < 10 → at < framesOf m → channelOf m bone channel ≡ [] → sampleIn (movementCounts m) (movementTable text table) bone channel at ≡ some (whole (standing channel))
+  -- of any table: the pair 0 and 0 is sound, and with count 0 no other; a number below 0 is not
+  pub blank-sound : (n : MovementCounts) (table : List ℤ) (bone channel at : ℕ) → holdsMovement n table ≡ true → bone < n .bones → channel < 10 → isAsked (numberAt table 0) at ≡ true → IsBlank n table bone channel → sampleIn n table bone channel at ≡ some (whole (standing channel))
+  pub other-row : (n : MovementCounts) (table : List ℤ) (bone channel at : ℕ) → (numberAt table (pairAt n table bone channel) ≡ pos 0 → ⊥) → numberAt table (pairAt n table bone channel + 1) ≡ pos 0 → sampleIn n table bone channel at ≡ none
+  pub below-zero : (n : MovementCounts) (table : List ℤ) (bone channel at z : ℕ) → (numberAt table (pairAt n table bone channel) ≡ negsuc z) ⊎ (numberAt table (pairAt n table bone channel + 1) ≡ negsuc z) → sampleIn n table bone channel at ≡ none

@@ -23,10 +23,9 @@ use Rattle.tra4_text.specs.Movement.{Channel, Bone}
 use Rattle.tra4_text.specs.Grammar.{channelKinds, keysIn, bone}
 use Rattle.tra4_text.specs.Rules.{allKeys}
 use Rattle.tra4_text.specs.Layout.{nameNumbers, keyRanges, boneRow}
-use Rattle.tra4_channels.specs.Internal.Held.{Held, AllHeld}
+use Rattle.tra4_channels.specs.Internal.Held.{Held}
 use Rattle.tra4_bone.specs.Internal.Laying.{gathered, renumbered}
 use Rattle.tra4_bone.specs.Internal.Into.{Kept, kept, keyCount, boneKept, keptBy, boneInto}
-use Rattle.tra4_bone.proofs.Whole.{AllRead, read-all, keys-in-some}
 use Rattle.tra4_bone.proofs.Gathered.{held-ranged, held-count, held-over}
 
 -- ---- a bone by its parts
@@ -72,24 +71,6 @@ module _ (i : ℕ) (s : Kept) where
           (join text d e e gs x (fields channelKinds) (λ hs. pure (keptBy i s name (map keysIn hs))) from-name (ap (λ (y : Kept). from text e (pure y)) h))
           ∙ sym (from-same text c _ _ bone-parts)
 
--- ---- every channel has been read
-
-module _ (text : List ℕ) (at : ℕ) (e : Cursor) (gs : List (Option Channel)) (q : reads text e gs ≡ fields channelKinds (lexAt text at)) (o : e .refusal ≡ 0) where
-  all : AllRead 10 gs
-  all = read-all text e (lexAt text at) gs q o
-
-  keys : map keysIn gs ≡ all .channels
-  keys = ap (map keysIn) (all .are) ∙ keys-in-some (all .channels)
-
-  pub all-some : gs ≡ map some (map keysIn gs)
-  all-some = all .are ∙ ap (map some) (sym keys)
-
-  pub all-ten : length (map keysIn gs) ≡ 10
-  all-ten = ap length keys ∙ all .count
-
-  pub all-held : {seen : List Bool} {ranges keys : List ℤ} {n : ℕ} {over : Bool} → Held gs seen ranges keys n over → AllHeld ranges keys n over
-  all-held {seen} h = record { channels = map keysIn gs; ten = all-ten; seen = seen; held = rw all-some at h }
-
 -- ---- set down, or too many
 
 pub over-kept : (i : ℕ) (over : Bool) (rows keys rows′ keys′ : List ℤ) (n n′ : ℕ) (name : ℕ × ℕ) (cs : List Channel) → over ≡ true → kept over rows′ n′ keys′ ≡ keptBy i (kept over rows n keys) name cs
@@ -106,19 +87,22 @@ module _ (i : ℕ) (rows keys : List ℤ) (count : ℕ) (name : ℕ × ℕ) (cs 
   by-fit h = rw (le-leb (count + length (allKeys cs)) 4096 h, keptBy)
 
 -- the same by what the code holds
-module _ (i : ℕ) (rows keys : List ℤ) (count p s : ℕ) (cs : List Channel) (seen : List Bool) (ranges scratch : List ℤ) (n : ℕ) (ten : length cs ≡ 10) where
-  pub set-over : Held (map some cs) seen ranges scratch n true → (rows′ keys′ : List ℤ) (m : ℕ) → kept true rows′ m keys′ ≡ keptBy i (kept false rows count keys) (p, s) cs
-  set-over h rows′ keys′ m = by-over i rows keys count (p, s) cs (omega (arith, held-over cs seen ranges scratch n h)) rows′ keys′ m
+module _ (i : ℕ) (rows keys : List ℤ) (count p s : ℕ) (fs : List (Option Channel)) (ranges scratch : List ℤ) (n : ℕ) where
+  abbrev cs : List Channel
+  cs = map keysIn fs
 
-  module _ (h : Held (map some cs) seen ranges scratch n false) where
+  pub set-over : Held fs ranges scratch n true → (rows′ keys′ : List ℤ) (m : ℕ) → kept true rows′ m keys′ ≡ keptBy i (kept false rows count keys) (p, s) cs
+  set-over h rows′ keys′ m = by-over i rows keys count (p, s) cs (omega (arith, held-over fs ranges scratch n h)) rows′ keys′ m
+
+  module _ (h : Held fs ranges scratch n false) where
     pub set-beyond : 4096 - n < count → (rows′ keys′ : List ℤ) (m : ℕ) → kept true rows′ m keys′ ≡ keptBy i (kept false rows count keys) (p, s) cs
-    set-beyond l rows′ keys′ m = by-over i rows keys count (p, s) cs (omega (arith, held-count cs seen ranges scratch n h, h .most, l)) rows′ keys′ m
+    set-beyond l rows′ keys′ m = by-over i rows keys count (p, s) cs (omega (arith, held-count fs ranges scratch n h, h .most, l)) rows′ keys′ m
 
     pub set-fit : count ≤ 4096 - n → (j : ℕ) → min j (length (overlayAt i (pos p ∷ pos s ∷ []) rows)) ≡ min (i + 2) (length (overlayAt i (pos p ∷ pos s ∷ []) rows)) → kept false (overlayAt j (renumbered count ranges) (overlayAt i (pos p ∷ pos s ∷ []) rows)) (count + n) (overlayAt (count * 2) (gathered ranges scratch) keys) ≡ keptBy i (kept false rows count keys) (p, s) cs
     set-fit l j e =
-        let r = held-ranged cs seen ranges scratch n ten h in
-        rw (← held-count cs seen ranges scratch n h, r .numbers count, r .content, overlayAt-same j (i + 2) (keyRanges count cs) (overlayAt i (pos p ∷ pos s ∷ []) rows) e, ← overlayAt-append i (pos p ∷ pos s ∷ []) (keyRanges count cs) rows)
-        (by-fit i rows keys count (p, s) cs (omega (arith, held-count cs seen ranges scratch n h, h .most, l)))
+        let r = held-ranged fs ranges scratch n h in
+        rw (← held-count fs ranges scratch n h, r .numbers count, r .content, overlayAt-same j (i + 2) (keyRanges count cs) (overlayAt i (pos p ∷ pos s ∷ []) rows) e, ← overlayAt-append i (pos p ∷ pos s ∷ []) (keyRanges count cs) rows)
+        (by-fit i rows keys count (p, s) cs (omega (arith, held-count fs ranges scratch n h, h .most, l)))
 
     -- by the tables that the code leaves
     pub set-laid : count ≤ 4096 - n → (j : ℕ) (a b : ℤ) (row′ rows′ rows″ keys′ : List ℤ) → a ≡ pos p → b ≡ pos s → rows′ ≡ overlayAt i (a ∷ b ∷ []) rows → min j (length rows′) ≡ min (i + 2) (length rows′) → row′ ≡ renumbered count ranges → rows″ ≡ overlayAt j row′ rows′ → keys′ ≡ overlayAt (count * 2) (gathered ranges scratch) keys → kept false rows″ (count + n) keys′ ≡ keptBy i (kept false rows count keys) (p, s) cs

@@ -2,4 +2,3 @@
 pub mod Gathered
 pub mod Keeping
 pub mod Ranges
-pub mod Whole

@@ -1,7 +1,7 @@
 -- Laws of ranges, range by range: each definition at an index is its part for the two numbers there, and the same two on.
 use mathlib.Core.Path.{_≡_, refl, ap, ap₂, sym, _∙_}
 use mathlib.Core.List.{List, [], _∷_, _++_, append-assoc, append-nil}
-use Prim.Native.Nat.{ℕ, suc, _+_, _*_, _-_, _≤_, _<_}
+use Prim.Native.Nat.{ℕ, zero, suc, _+_, _*_, _-_, _≤_, _<_}
 use native.Mathlib.Omega.{arith}
 use lib.Dec.{T}
 use lib.IntN.{ℤ, pos, natAbs}
@@ -13,6 +13,7 @@ use mir.Val.{Fits, SFits, toZ, ofZ}
 use mir.Facts.{toZ-ofZ, fits-natAbs}
 use Rattle.table_rows.specs.Internal.Overlay.{overlayAt}
 use Rattle.table_rows.proofs.Tables.{overlayAt-none, overlayAt-append, overlayAt-length}
+use Rattle.tra4_text.specs.Layout.{firstRow}
 use Rattle.tra4_bone.specs.Internal.Laying.{rangeRows, gathered, rangesTotal, renumbered, RangeIn, Within}
 
 -- a natural number is what a cast gives
@@ -35,6 +36,22 @@ pub part-is : (f c : ℤ) (keys : List ℤ) (a e : ℕ) → a ≡ natAbs f → e
 unfolding rangeRows
 part-is f c keys a e p q = let d : natAbs f * 2 + natAbs c * 2 - natAbs f * 2 ≡ natAbs c * 2 = omega arith in rw (p, q, d) refl
 
+-- where a range's rows begin
+pub first-none : (row count : ℕ) → count ≡ 0 → 0 ≡ firstRow row count
+unfolding firstRow
+first-none row zero e = refl
+first-none row (suc count) e = absurd (omega arith)
+
+pub first-some : (row count : ℕ) → (count ≡ 0 → ⊥) → row ≡ firstRow row count
+unfolding firstRow
+first-some row zero h = absurd (h refl)
+first-some row (suc count) h = refl
+
+pub first-small : (first row count : ℕ) → first ≡ firstRow row count → row ≤ 4096 → first ≤ 4096
+unfolding firstRow
+first-small first row zero e h = omega arith
+first-small first row (suc count) e h = omega arith
+
 -- two numbers in front
 gathered-two : (f c : ℤ) (rs keys : List ℤ) → gathered (f ∷ c ∷ rs) keys ≡ rangeRows f c keys ++ gathered rs keys
 unfolding gathered
@@ -44,7 +61,7 @@ total-two : (f c : ℤ) (rs : List ℤ) → rangesTotal (f ∷ c ∷ rs) ≡ nat
 unfolding rangesTotal
 total-two f c rs = refl
 
-renumbered-two : (row : ℕ) (f c : ℤ) (rs : List ℤ) → renumbered row (f ∷ c ∷ rs) ≡ pos row ∷ c ∷ renumbered (row + natAbs c) rs
+renumbered-two : (row : ℕ) (f c : ℤ) (rs : List ℤ) → renumbered row (f ∷ c ∷ rs) ≡ pos (firstRow row (natAbs c)) ∷ c ∷ renumbered (row + natAbs c) rs
 unfolding renumbered
 renumbered-two row f c rs = refl
 
@@ -113,7 +130,11 @@ module _ (ranges₀ keys table₀ : List ℤ) (row i : ℕ) (ranges table : List
         ∙ ap₂ (λ (l : List ℤ) (x : ℤ). l ++ (x ∷ [])) (ap (λ (n : ℕ). take n (set ranges i z)) one ∙ take-suc-set ranges i z (omega arith)) (getD-set-other ranges i (i + 1) z (pos 0) (λ e. omega arith))
         ∙ append-assoc (take i ranges) (z ∷ []) (countAt ranges i ∷ [])
 
-    next-is : length keys ≡ 8192 → Left ranges₀ keys table₀ row (i + 2) (set ranges i (pos next)) (overlayAt (next * 2) (rangeRows (firstAt ranges i) (countAt ranges i) keys) table) (next + natAbs (countAt ranges i))
+    -- its number
+    abbrev first : ℤ
+    first = pos (firstRow next (natAbs (countAt ranges i)))
+
+    next-is : length keys ≡ 8192 → Left ranges₀ keys table₀ row (i + 2) (set ranges i first) (overlayAt (next * 2) (rangeRows (firstAt ranges i) (countAt ranges i) keys) table) (next + natAbs (countAt ranges i))
     next-is k =
         let f = firstAt ranges i in
         let c = countAt ranges i in
@@ -124,21 +145,21 @@ module _ (ranges₀ keys table₀ : List ℤ) (row i : ℕ) (ranges table : List
         let n = rows-length 4096 f c keys range-here k in
         let e : (next + natAbs c) * 2 ≡ next * 2 + length (rangeRows f c keys) = rw n (omega arith) in
         record {
-          width = length-set ranges i (pos next) ∙ h .width;
+          width = length-set ranges i first ∙ h .width;
           span = overlayAt-length (next * 2) (rangeRows f c keys) table ∙ h .span;
-          within = rw (set-rest (pos next)) (within-tail 4096 f c rest (rw s at (h .within)));
-          room = rw (set-rest (pos next)) (omega arith);
+          within = rw (set-rest first) (within-tail 4096 f c rest (rw s at (h .within)));
+          room = rw (set-rest first) (omega arith);
           numbers =
-              rw (set-front (pos next), set-rest (pos next))
-              (append-assoc (take i ranges) (pos next ∷ c ∷ []) (renumbered (next + natAbs c) rest)
+              rw (set-front first, set-rest first)
+              (append-assoc (take i ranges) (first ∷ c ∷ []) (renumbered (next + natAbs c) rest)
               ∙ ap (λ (l : List ℤ). take i ranges ++ l) (sym (ap (renumbered next) s ∙ renumbered-two next f c rest))
               ∙ h .numbers);
           content =
-              rw (set-rest (pos next), e)
+              rw (set-rest first, e)
               (sym (overlayAt-append (next * 2) (rangeRows f c keys) (gathered rest keys) table)
               ∙ ap (λ (l : List ℤ). overlayAt (next * 2) l table) (sym (ap (λ (l : List ℤ). gathered l keys) s ∙ gathered-two f c rest keys))
               ∙ h .content);
         }
 
-    pub left-next : length keys ≡ 8192 → (i′ : ℕ) (ranges′ table′ : List ℤ) (next′ : ℕ) → i′ ≡ i + 2 → ranges′ ≡ set ranges i (pos next) → table′ ≡ overlayAt (next * 2) (rangeRows (firstAt ranges i) (countAt ranges i) keys) table → next′ ≡ next + natAbs (countAt ranges i) → Left ranges₀ keys table₀ row i′ ranges′ table′ next′
+    pub left-next : length keys ≡ 8192 → (i′ : ℕ) (ranges′ table′ : List ℤ) (next′ : ℕ) → i′ ≡ i + 2 → ranges′ ≡ set ranges i first → table′ ≡ overlayAt (next * 2) (rangeRows (firstAt ranges i) (countAt ranges i) keys) table → next′ ≡ next + natAbs (countAt ranges i) → Left ranges₀ keys table₀ row i′ ranges′ table′ next′
     left-next k i′ ranges′ table′ next′ e r t n = rw (e, r, t, n) (next-is k)

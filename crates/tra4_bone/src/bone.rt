@@ -1,14 +1,14 @@
 // A bone: its name and its channels.
 ghost use mathlib.Core.Path.{_≡_};
-ghost use mathlib.Core.Bool.{Bool, false};
+ghost use mathlib.Core.Bool.{false};
 ghost use mathlib.Core.List.{List, map};
-ghost use mathlib.Core.Option.{some};
+ghost use mathlib.Core.Option.{Option};
 ghost use Prim.Native.Nat.{_^_, _<_};
-ghost use lib.ListN.{length};
 ghost use Rattle.parse_cursor.specs.Internal.Cursors.{reads, from};
 ghost use Rattle.tra4_text.specs.Movement.{Channel};
-ghost use Rattle.tra4_channels.specs.Internal.Held.{Held, AllHeld};
-ghost use Rattle.tra4_bone.specs.Internal.Into.{kept, keptBy, boneInto};
+ghost use Rattle.tra4_text.specs.Grammar.{keysIn};
+ghost use Rattle.tra4_channels.specs.Internal.Held.{Held};
+ghost use Rattle.tra4_bone.specs.Internal.Into.{Free, kept, keptBy, boneInto};
 use crate::laying::lay_keys;
 use parse_cursor::Cursor;
 use table_counts::MOST_KEYS;
@@ -28,8 +28,8 @@ fn set_bone(
     key_rows: &mut [i64],
     count: usize,
 ) -> Keyed
-    requires { ⌜ AllHeld (now ranges) (now scratch) (read .count) (read .over) × (place < 2 ^ 63) × (size < 2 ^ 63) ⌝ }
-    ensures { λ r. ⌜ ((cs : List Channel) (seen : List Bool) → length cs ≡ 10 → Held (map some cs) seen (now (ranges .entry)) (now (scratch .entry)) (read .count) (read .over) → kept (r .over) (now («bone_rows» .exit)) (r .count) (now («key_rows» .exit)) ≡ keptBy to (kept false (now («bone_rows» .entry)) count (now («key_rows» .entry))) (place, size) cs) ⌝ }
+    requires { ⌜ ((fs : List (Option Channel)) × Held fs (now ranges) (now scratch) (read .count) (read .over)) × (place < 2 ^ 63) × (size < 2 ^ 63) ⌝ }
+    ensures { λ r. ⌜ ((fs : List (Option Channel)) → Held fs (now (ranges .entry)) (now (scratch .entry)) (read .count) (read .over) → kept (r .over) (now («bone_rows» .exit)) (r .count) (now («key_rows» .exit)) ≡ keptBy to (kept false (now («bone_rows» .entry)) count (now («key_rows» .entry))) (place, size) (map keysIn fs)) ⌝ }
     ensures { λ r. ⌜ r .cursor ≡ read .cursor ⌝ }
 {
     let d = read.cursor;
@@ -59,7 +59,8 @@ fn set_bone(
     }
 }
 
-// A bone after its keyword: its row to the bones from index `to` on, its keys after the `count` that stand in their table.
+// A bone after its keyword: its row to the bones from index `to` on, its keys after the `count` that stand in their table. What the
+// scratch table holds is free: it has the keys in text order meanwhile, and is lent so that it is made once for all bones.
 pub fn bone_tail(
     text: &[u8],
     c: Cursor,
@@ -68,8 +69,10 @@ pub fn bone_tail(
     key_rows: &mut [i64],
     count: usize,
     over: bool,
+    scratch: &mut [i64; 8192],
 ) -> Keyed
-    ensures { λ r. ⌜ reads (now (text .entry)) (r .cursor) (kept (r .over) (now («bone_rows» .exit)) (r .count) (now («key_rows» .exit))) ≡ from (now (text .entry)) c (boneInto to (kept over (now («bone_rows» .entry)) count (now («key_rows» .entry)))) ⌝ }
+    ensures read { λ r. ⌜ reads (now (text .entry)) (r .cursor) (kept (r .over) (now («bone_rows» .exit)) (r .count) (now («key_rows» .exit))) ≡ from (now (text .entry)) c (boneInto to (kept over (now («bone_rows» .entry)) count (now («key_rows» .entry)))) ⌝ }
+    ensures free { λ _. ⌜ Free (now (scratch .exit)) ⌝ }
 {
     let n = parse_names::optional_name(text, c);
     let d = n.cursor;
@@ -81,8 +84,7 @@ pub fn bone_tail(
         };
     }
     let mut ranges = [0i64; 20];
-    let mut scratch = [0i64; 8192];
-    let read = channels(text, d.at, &mut ranges, &mut scratch);
+    let read = channels(text, d.at, &mut ranges, scratch);
     let e = read.cursor;
     let unset = Keyed {
         cursor: e,
@@ -100,7 +102,7 @@ pub fn bone_tail(
         n.place,
         n.length,
         &mut ranges,
-        &scratch,
+        scratch,
         bone_rows,
         to,
         key_rows,

@@ -4,6 +4,7 @@ ghost use Prim.Native.Nat.{_+_, _*_, _≤_, _<_};
 ghost use lib.IntN.{pos, natAbs};
 ghost use lib.ListN.{length, getD, set};
 ghost use Rattle.table_rows.specs.Internal.Overlay.{overlayAt};
+ghost use Rattle.tra4_text.specs.Layout.{firstRow};
 ghost use Rattle.tra4_bone.specs.Internal.Laying.{rangeRows, gathered, rangesTotal, renumbered, RangeIn, Within};
 use table_rows::store;
 
@@ -26,7 +27,7 @@ pub(crate) fn lay_keys(ranges: &mut [i64], keys: &[i64], table: &mut [i64], row:
 fn lay_range(ranges: &mut [i64], at: usize, keys: &[i64], table: &mut [i64], row: usize) -> usize
     requires { ⌜ (at + 1 < length (now ranges)) × RangeIn 4096 (getD (now ranges) at (pos 0)) (getD (now ranges) (at + 1) (pos 0)) × (length (now keys) ≡ 8192) × (row ≤ 4096) ⌝ }
     ensures next { λ r. ⌜ r ≡ row + natAbs (getD (now (ranges .entry)) (at + 1) (pos 0)) ⌝ }
-    ensures number { λ _. ⌜ now (ranges .exit) ≡ set (now (ranges .entry)) at (pos row) ⌝ }
+    ensures number { λ _. ⌜ now (ranges .exit) ≡ set (now (ranges .entry)) at (pos (firstRow row (natAbs (getD (now (ranges .entry)) (at + 1) (pos 0))))) ⌝ }
     ensures content { λ _. ⌜ now (table .exit) ≡ overlayAt (row * 2) (rangeRows (getD (now (ranges .entry)) at (pos 0)) (getD (now (ranges .entry)) (at + 1) (pos 0)) (now (keys .entry))) (now (table .entry)) ⌝ }
 {
     let first = ranges[at] as usize;
@@ -34,6 +35,16 @@ fn lay_range(ranges: &mut [i64], at: usize, keys: &[i64], table: &mut [i64], row
     let from = first * 2;
     let size = count * 2;
     store(table, row * 2, &keys[from..from + size]);
-    ranges[at] = row as i64;
+    ranges[at] = first_row(row, count) as i64;
     row + count
+}
+
+// The first row of so many keys that stand from a row on; of none it is 0.
+fn first_row(row: usize, count: usize) -> usize
+    ensures { λ r. ⌜ r ≡ firstRow row count ⌝ }
+{
+    if count == 0 {
+        return 0;
+    }
+    row
 }

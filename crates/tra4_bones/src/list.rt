@@ -21,33 +21,47 @@ pub struct Boned {
     pub over: bool,
 }
 
-// One bone after its keyword, in row `count`: to the table from index `to` on, which is as good as that row's.
+// One bone after its keyword, in the row after those so far: to the table from index `to` on, which is as good as that row's.
 fn next_bone(
     text: &[u8],
-    c: Cursor,
-    count: usize,
+    so_far: Boned,
     bone_rows: &mut [i64],
     to: usize,
     key_rows: &mut [i64],
-    keys: usize,
-    over: bool,
+    scratch: &mut [i64; 8192],
 ) -> Boned
-    requires { ⌜ (min to (length (now «bone_rows»)) ≡ min (count * 22) (length (now «bone_rows»))) × (count < 2 ^ 63) ⌝ }
-    ensures { λ r. ⌜ reads (now (text .entry)) (r .cursor) (r .count, kept (r .over) (now («bone_rows» .exit)) (r .keys) (now («key_rows» .exit))) ≡ from (now (text .entry)) c (stepped boneStep boneRead (count, kept over (now («bone_rows» .entry)) keys (now («key_rows» .entry)))) ⌝ }
-    ensures { λ r. ⌜ r .count ≡ count + 1 ⌝ }
+    requires { ⌜ (min to (length (now «bone_rows»)) ≡ min («so_far» .count * 22) (length (now «bone_rows»))) × («so_far» .count < 2 ^ 63) ⌝ }
+    ensures { λ r. ⌜ reads (now (text .entry)) (r .cursor) (r .count, kept (r .over) (now («bone_rows» .exit)) (r .keys) (now («key_rows» .exit))) ≡ from (now (text .entry)) («so_far» .cursor) (stepped boneStep boneRead («so_far» .count, kept («so_far» .over) (now («bone_rows» .entry)) («so_far» .keys) (now («key_rows» .entry)))) ⌝ }
+    ensures { λ r. ⌜ r .count ≡ «so_far» .count + 1 ⌝ }
 {
-    let b: Keyed = bone_tail(text, c, bone_rows, to, key_rows, keys, over);
+    let c = so_far.cursor;
+    let b: Keyed = bone_tail(
+        text,
+        c,
+        bone_rows,
+        to,
+        key_rows,
+        so_far.keys,
+        so_far.over,
+        scratch,
+    );
     let d = b.cursor;
     Boned {
         cursor: d,
-        count: count + 1,
+        count: so_far.count + 1,
         keys: b.count,
         over: b.over,
     }
 }
 
 // The bones after the first.
-fn more_bones(text: &[u8], first: Boned, bone_rows: &mut [i64], key_rows: &mut [i64]) -> Boned
+fn more_bones(
+    text: &[u8],
+    first: Boned,
+    bone_rows: &mut [i64],
+    key_rows: &mut [i64],
+    scratch: &mut [i64; 8192],
+) -> Boned
     requires { ⌜ first .count ≡ 1 ⌝ }
     ensures { λ r. ⌜ reads (now (text .entry)) (r .cursor) (r .count, kept (r .over) (now («bone_rows» .exit)) (r .keys) (now («key_rows» .exit))) ≡ from (now (text .entry)) (first .cursor) (moreInto (first .count, kept (first .over) (now («bone_rows» .entry)) (first .keys) (now («key_rows» .entry)))) ⌝ }
 {
@@ -71,7 +85,7 @@ fn more_bones(text: &[u8], first: Boned, bone_rows: &mut [i64], key_rows: &mut [
         if start.refusal != 0 {
             return so_far;
         }
-        let b = next_bone(text, start, count, bone_rows, i, key_rows, keys, over);
+        let b = next_bone(text, so_far, bone_rows, i, key_rows, scratch);
         d = b.cursor;
         if d.refusal != 0 {
             return b;
@@ -89,6 +103,13 @@ pub fn bones(text: &[u8], c: Cursor, bone_rows: &mut [i64], key_rows: &mut [i64]
     ensures { λ r. ⌜ reads (now (text .entry)) (r .cursor) (r .count, kept (r .over) (now («bone_rows» .exit)) (r .keys) (now («key_rows» .exit))) ≡ from (now (text .entry)) c (bonesInto (now («bone_rows» .entry)) (now («key_rows» .entry))) ⌝ }
 {
     let start = parse_cursor::opened(text, c, b"bone");
-    let first = next_bone(text, start, 0, bone_rows, 0, key_rows, 0, false);
-    more_bones(text, first, bone_rows, key_rows)
+    let none = Boned {
+        cursor: start,
+        count: 0,
+        keys: 0,
+        over: false,
+    };
+    let mut scratch = [0i64; 8192];
+    let first = next_bone(text, none, bone_rows, 0, key_rows, &mut scratch);
+    more_bones(text, first, bone_rows, key_rows, &mut scratch)
 }

@@ -24,7 +24,7 @@ abbrev pub Pairs : Channel → Type 0
 Pairs c = Wide 2 c
 
 pub keys-give : GivesOn AnyToken Pairs (many⁺ key)
-keys-give = gives-as channel-gives (λ _ c. c .wide)
+keys-give = gives-as channel-gives (λ _ c. c .whole .wide)
 
 pub flat-pairs : (c : Channel) → Pairs c → length (flat c) ≡ length c * 2
 flat-pairs c h = flat-length 2 c h

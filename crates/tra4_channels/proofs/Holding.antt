@@ -1,6 +1,6 @@
 -- A channel more in what the code holds: the parts of the table below the new keys are kept, and the new keys stand after them.
 use mathlib.Core.Path.{_≡_, refl, ap, sym, _∙_}
-use mathlib.Core.List.{List, map}
+use mathlib.Core.List.{List}
 use mathlib.Core.Bool.{Bool, true, false, false≢true, true≢false}
 use mathlib.Core.Option.{Option, none, some}
 use Prim.Native.Nat.{ℕ, _+_, _*_, _-_, _≤_, _<_}
@@ -10,16 +10,13 @@ use lib.Dec.{eqb}
 use lib.IntN.{ℤ, pos}
 use lib.ListN.{length, getD, set, take, drop, length-set}
 use lib.Seq.{getD-set-same, getD-set-other}
-use Rattle.parse_spec.specs.Fields.{isSome}
 use Rattle.table_rows.specs.Internal.Overlay.{overlayAt}
 use Rattle.table_rows.specs.Flat.{flat}
 use Rattle.table_rows.proofs.Tables.{overlayAt-length, overlayAt-part, overlayAt-below}
 use Rattle.tra4_text.specs.Movement.{Channel}
+use Rattle.tra4_text.specs.Grammar.{keysIn}
 use Rattle.tra4_channels.specs.Internal.Held.{keysRead, Stored, Held}
 use Rattle.tra4_channels.proofs.Counts.{Pairs, flat-pairs, keys-set}
-
-some-same : {A : Type 0} (a b : A) → some a ≡ some b → a ≡ b
-some-same a b e = cc
 
 -- a channel's keys and range are as they were
 stored-still : (keys : List ℤ) (n m : ℕ) (zs : List ℤ) (f g f′ g′ : ℤ) (c : Channel) → f′ ≡ f → g′ ≡ g → n ≤ m → Stored keys n f g c → Stored (overlayAt (n * 2) zs keys) m f′ g′ c
@@ -44,15 +41,21 @@ stored-new keys n c f g p q w h =
       content = ap (λ (m : ℕ). take m (drop (n * 2) (overlayAt (n * 2) (flat c) keys))) (sym l) ∙ overlayAt-part (n * 2) (flat c) keys (rw l h);
     }
 
-module _ (fs : List (Option Channel)) (seen : List Bool) (ranges keys : List ℤ) (n : ℕ) (over : Bool) (k : ℕ) (l : length fs ≡ 10) (b : k < 10) (u : getD fs k none ≡ none) (h : Held fs seen ranges keys n over) (c : Channel) where
+module _ (fs : List (Option Channel)) (ranges keys : List ℤ) (n : ℕ) (over : Bool) (k : ℕ) (b : k < 10) (u : getD fs k none ≡ none) (h : Held fs ranges keys n over) (c : Channel) where
+  here : k < length fs
+  here = rw (h .ten) b
+
+  ten-still : length (set fs k (some c)) ≡ 10
+  ten-still = length-set fs k (some c) ∙ h .ten
+
   counted-more : keysRead (set fs k (some c)) ≡ keysRead fs + length c
-  counted-more = keys-set fs k c (omega arith) u
+  counted-more = keys-set fs k c here u
 
   -- too many, before or now: nothing is told of the table
-  too-many : 4096 < keysRead fs + length c → Held (set fs k (some c)) (map isSome (set fs k (some c))) ranges (overlayAt (n * 2) (flat c) keys) n true
+  too-many : 4096 < keysRead fs + length c → Held (set fs k (some c)) ranges (overlayAt (n * 2) (flat c) keys) n true
   too-many m =
       record {
-        flags = refl;
+        ten = ten-still;
         width = h .width;
         room = overlayAt-length (n * 2) (flat c) keys ∙ h .room;
         most = h .most;
@@ -63,10 +66,10 @@ module _ (fs : List (Option Channel)) (seen : List Bool) (ranges keys : List ℤ
 
   -- the table with the keys, and how many they are
   module _ (keys′ : List ℤ) (m : ℕ) (t : overlayAt (n * 2) (flat c) keys ≡ keys′) (q : length c ≡ m) where
-    pub held-over : over ≡ true → Held (set fs k (some c)) (map isSome (set fs k (some c))) ranges keys′ n over
+    pub held-over : over ≡ true → Held (set fs k (some c)) ranges keys′ n over
     held-over e = rw (e, ← t) (too-many (omega (arith, h .many e)))
 
-    pub held-many : over ≡ false → 4096 - n < m → Held (set fs k (some c)) (map isSome (set fs k (some c))) ranges keys′ n true
+    pub held-many : over ≡ false → 4096 - n < m → Held (set fs k (some c)) ranges keys′ n true
     held-many e f = rw (← t) (too-many (omega (arith, q, h .counted e, h .most)))
 
   -- room for all
@@ -74,16 +77,17 @@ module _ (fs : List (Option Channel)) (seen : List Bool) (ranges keys : List ℤ
     abbrev ranges′ : List ℤ
     ranges′ = set (set ranges (k * 2) (pos n)) (k * 2 + 1) (pos (length c))
 
-    all-held : Held (set fs k (some c)) (map isSome (set fs k (some c))) ranges′ (overlayAt (n * 2) (flat c) keys) (n + length c) false
+    all-held : Held (set fs k (some c)) ranges′ (overlayAt (n * 2) (flat c) keys) (n + length c) false
+    unfolding keysIn
     all-held =
         record {
-          flags = refl;
+          ten = ten-still;
           width = length-set (set ranges (k * 2) (pos n)) (k * 2 + 1) (pos (length c)) ∙ length-set ranges (k * 2) (pos n) ∙ h .width;
           room = overlayAt-length (n * 2) (flat c) keys ∙ h .room;
           most = omega (arith, h .most);
           counted = λ _. counted-more ∙ ap (λ (x : ℕ). x + length c) (h .counted e);
           many = λ x. absurd (false≢true x);
-          stored = λ _ j a g. go j a g (eqb j k) refl;
+          stored = λ _ j l. go j l (eqb j k) refl;
         }
       where
         first : getD ranges′ (k * 2) (pos 0) ≡ pos n
@@ -95,14 +99,12 @@ module _ (fs : List (Option Channel)) (seen : List Bool) (ranges keys : List ℤ
         others : (i : ℕ) → (i ≡ k * 2 → ⊥) → (i ≡ k * 2 + 1 → ⊥) → getD ranges′ i (pos 0) ≡ getD ranges i (pos 0)
         others i p q = getD-set-other (set ranges (k * 2) (pos n)) (k * 2 + 1) i (pos (length c)) (pos 0) q ∙ getD-set-other ranges (k * 2) i (pos n) (pos 0) p
 
-        go : (j : ℕ) (a : Channel) → getD (set fs k (some c)) j none ≡ some a → (v : Bool) → eqb j k ≡ v → Stored (overlayAt (n * 2) (flat c) keys) (n + length c) (getD ranges′ (j * 2) (pos 0)) (getD ranges′ (j * 2 + 1) (pos 0)) a
-        go j a g true q =
-            let same : j ≡ k = eqb-true _ _ q in
-            let is : c ≡ a = some-same c a (sym (ap (λ (i : ℕ). getD (set fs k (some c)) i none) same ∙ getD-set-same fs k (some c) none (omega arith)) ∙ g) in
-            rw (same, ← is) (stored-new keys n c _ _ first count w (omega (arith, h .room, h .most)))
-        go j a g false q =
+        go : (j : ℕ) → j < 10 → (v : Bool) → eqb j k ≡ v → Stored (overlayAt (n * 2) (flat c) keys) (n + length c) (getD ranges′ (j * 2) (pos 0)) (getD ranges′ (j * 2 + 1) (pos 0)) (keysIn (getD (set fs k (some c)) j none))
+        go j l true q = rw (eqb-true j k q, getD-set-same fs k (some c) none here) (stored-new keys n c _ _ first count w (omega (arith, h .room, h .most)))
+        go j l false q =
             let other = eqb-false _ _ q in
-            stored-still keys n (n + length c) (flat c) _ _ _ _ a (others (j * 2) (λ z. other (omega arith)) (λ z. omega arith)) (others (j * 2 + 1) (λ z. omega arith) (λ z. other (omega arith))) (omega arith) (h .stored e j a (sym (getD-set-other fs k j (some c) none other) ∙ g))
+            rw (getD-set-other fs k j (some c) none other)
+            (stored-still keys n (n + length c) (flat c) _ _ _ _ _ (others (j * 2) (λ z. other (omega arith)) (λ z. omega arith)) (others (j * 2 + 1) (λ z. omega arith) (λ z. other (omega arith))) (omega arith) (h .stored e j l))
 
-  pub held-more : (keys′ : List ℤ) (m : ℕ) → overlayAt (n * 2) (flat c) keys ≡ keys′ → length c ≡ m → Pairs c → over ≡ false → m ≤ 4096 - n → Held (set fs k (some c)) (map isSome (set fs k (some c))) (set (set ranges (k * 2) (pos n)) (k * 2 + 1) (pos m)) keys′ (n + m) over
+  pub held-more : (keys′ : List ℤ) (m : ℕ) → overlayAt (n * 2) (flat c) keys ≡ keys′ → length c ≡ m → Pairs c → over ≡ false → m ≤ 4096 - n → Held (set fs k (some c)) (set (set ranges (k * 2) (pos n)) (k * 2 + 1) (pos m)) keys′ (n + m) over
   held-more keys′ m t q w e f = rw (e, ← t, ← q) (all-held w e (omega arith))

@@ -1,6 +1,6 @@
 -- The keys of a channel: what they make of what the code holds.
 use mathlib.Core.Path.{_≡_, ap, _∙_}
-use mathlib.Core.List.{List, [], _∷_, map}
+use mathlib.Core.List.{List, [], _∷_}
 use mathlib.Core.Bool.{Bool, true, false}
 use Prim.Native.Nat.{ℕ, suc, _+_, _*_, _-_, _≤_, _<_}
 use native.Mathlib.Numerals.{add-one}
@@ -13,7 +13,6 @@ use Rattle.parse_cursor.specs.declared.cursor.Cursor.{Cursor}
 use Rattle.parse_spec.specs.Readers.{_>>=_, many⁺}
 use Rattle.parse_cursor.specs.Internal.Cursors.{reads, from}
 use Rattle.table_rows.specs.Internal.Overlay.{overlayAt}
-use Rattle.parse_spec.specs.Fields.{isSome}
 use Rattle.parse_spec.specs.Internal.Fields.{insideAt}
 use Rattle.parse_lists.specs.Internal.ListsInto.{someInto}
 use Rattle.table_rows.specs.Flat.{flat}
@@ -50,13 +49,13 @@ module _ (text : List ℕ) (c : Cursor) (k : ℕ) (ranges keys : List ℤ) (n : 
     wide = given keys-give text r (lexAt text (c .at)) (found .value) (found .read ∙ from-on text c (many⁺ key) (alive text c r (many⁺ key) (found .value) (found .read) o)) o
 
   pub keys-refused : (r .refusal ≡ 0 → ⊥) → (t : List ℤ × List ℤ × ℕ × Bool) → KeysRead text c k (ranges, keys, n, over) r t
-  keys-refused off t fs l u h = record { value = found .value; read = read-inside; kept = λ o. absurd (off o) }
+  keys-refused off t fs u h = record { value = found .value; read = read-inside; kept = λ o. absurd (off o) }
 
   pub keys-over : over ≡ true → KeysRead text c k (ranges, keys, n, over) r (ranges, keys′, n, over)
-  keys-over e fs l u h = record { value = found .value; read = read-inside; kept = λ o. held-over fs (map isSome fs) ranges keys n over k l b u h (found .value) keys′ m (table-is o) (count-is o) e }
+  keys-over e fs u h = record { value = found .value; read = read-inside; kept = λ o. held-over fs ranges keys n over k b u h (found .value) keys′ m (table-is o) (count-is o) e }
 
   pub keys-many : over ≡ false → 4096 - n < m → KeysRead text c k (ranges, keys, n, over) r (ranges, keys′, n, true)
-  keys-many e f fs l u h = record { value = found .value; read = read-inside; kept = λ o. held-many fs (map isSome fs) ranges keys n over k l b u h (found .value) keys′ m (table-is o) (count-is o) e f }
+  keys-many e f fs u h = record { value = found .value; read = read-inside; kept = λ o. held-many fs ranges keys n over k b u h (found .value) keys′ m (table-is o) (count-is o) e f }
 
   pub keys-more : (ranges′ : List ℤ) → over ≡ false → m ≤ 4096 - n → ranges′ ≡ overlayAt (k * 2) (pos n ∷ pos m ∷ []) ranges → KeysRead text c k (ranges, keys, n, over) r (ranges′, keys′, n + m, over)
-  keys-more ranges′ e f g fs l u h = record { value = found .value; read = read-inside; kept = λ o. rw (g, overlayAt-pair (k * 2) (pos n) (pos m) ranges) (held-more fs (map isSome fs) ranges keys n over k l b u h (found .value) keys′ m (table-is o) (count-is o) (wide o) e f) }
+  keys-more ranges′ e f g fs u h = record { value = found .value; read = read-inside; kept = λ o. rw (g, overlayAt-pair (k * 2) (pos n) (pos m) ranges) (held-more fs ranges keys n over k b u h (found .value) keys′ m (table-is o) (count-is o) (wide o) e f) }

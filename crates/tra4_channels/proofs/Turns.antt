@@ -1,12 +1,12 @@
 -- The chunks of a bone's channels, turn by turn: between two, the code holds the channels that have been read, and from them the rest is read.
 use mathlib.Core.Path.{_≡_, refl, ap, sym, _∙_}
-use mathlib.Core.List.{List, [], _∷_, map}
+use mathlib.Core.List.{List, map}
 use mathlib.Core.Bool.{Bool, true, false, false≢true}
-use mathlib.Core.Option.{Option, none, some}
-use Prim.Native.Nat.{ℕ, zero, suc, _-_, _≤_, _<_}
+use mathlib.Core.Option.{Option, none}
+use Prim.Native.Nat.{ℕ, _+_, _*_, _-_, _≤_, _<_}
 use native.Mathlib.Omega.{arith}
-use lib.IntN.{ℤ}
-use lib.ListN.{length, getD, set, replicate}
+use lib.IntN.{ℤ, pos}
+use lib.ListN.{length, getD, set, replicate, getD-replicate}
 use Rattle.text_bytes.specs.Bytes.{bytes, inWord}
 use Rattle.text_runs.specs.Runs.{same}
 use Rattle.text_tokens.specs.Tokens.{lexAt}
@@ -22,16 +22,17 @@ use Rattle.parse_chunks.proofs.Turns.{Listed, Midway, turn-ends, turn-holds, tu
 use Rattle.tra4_text.specs.Movement.{Channel}
 use Rattle.tra4_text.specs.Grammar.{channel, channelNames, channelKinds, keysIn}
 use Rattle.tra4_text.specs.Rules.{allKeys}
-use Rattle.tra4_channels.specs.Internal.Held.{keysRead, Held, KeysRead}
+use Rattle.table_rows.specs.Flat.{flat}
+use Rattle.tra4_channels.specs.Internal.Held.{keysRead, Stored, Held, KeysRead}
 
--- the keywords as one text, no two of them the same, and all ten must stand
+-- the keywords as one text, no two of them the same, and none must stand
 abbrev list : List ℕ
 list = bytes "translate.x translate.y translate.z scale.x scale.y scale.z rotate.x rotate.y rotate.z roll"
 
-abbrev ten : List Bool
-ten = true ∷ true ∷ true ∷ true ∷ true ∷ true ∷ true ∷ true ∷ true ∷ true ∷ []
+abbrev needed : List Bool
+needed = replicate 10 false
 
-channel-listed : Listed channelKinds list ten
+channel-listed : Listed channelKinds list needed
 unfolding channelKinds channelNames channel kind keysOf words onto inWord bytes apart differs same neededOf
 channel-listed = record { keys = refl; differ = refl; must = refl }
 
@@ -40,14 +41,6 @@ unfolding channelKinds channelNames
 channel-count = refl
 
 -- ---- no channel yet
-
-none-some : {A : Type 0} (a : A) → none ≡ some a → ⊥
-none-some a e = let z : _≡_ {A = ℕ} 0 1 = cc in omega arith
-
-none-at : {A : Type 0} (n k : ℕ) → getD {A = Option A} (replicate n none) k none ≡ none
-none-at zero k = refl
-none-at (suc n) zero = refl
-none-at (suc n) (suc k) = none-at n k
 
 unread-is : unread channelKinds ≡ replicate 10 none
 unfolding unread channelKinds channelNames
@@ -61,24 +54,28 @@ none-seen : map (isSome {A = Channel}) (replicate 10 none) ≡ replicate 10 fals
 unfolding isSome
 none-seen = refl
 
-held-none : (ranges keys : List ℤ) → length ranges ≡ 20 → length keys ≡ 8192 → Held (replicate 10 none) (map (isSome {A = Channel}) (replicate 10 none)) ranges keys 0 false
-held-none ranges keys w r =
+none-stored : (keys : List ℤ) (f : Option Channel) (first count : ℤ) → f ≡ none → first ≡ pos 0 → count ≡ pos 0 → Stored keys 0 first count (keysIn f)
+unfolding keysIn flat
+none-stored keys f first count e p q = rw e (record { row = 0; first-is = p; count-is = q; below = omega arith; content = refl })
+
+held-none : (ranges keys : List ℤ) → ranges ≡ replicate 20 (pos 0) → length keys ≡ 8192 → Held (replicate 10 none) ranges keys 0 false
+held-none ranges keys z r =
     record {
-      flags = refl;
-      width = w;
+      ten = refl;
+      width = ap length z;
       room = r;
       most = omega arith;
       counted = λ _. none-read;
       many = λ x. absurd (false≢true x);
-      stored = λ _ k c g. absurd (none-some c (sym (none-at 10 k) ∙ g));
+      stored = λ _ k l. none-stored keys (getD (replicate 10 none) k none) _ _ (getD-replicate 10 k none none l) (rw z (getD-replicate 20 (k * 2) (pos 0) (pos 0) (omega arith))) (rw z (getD-replicate 20 (k * 2 + 1) (pos 0) (pos 0) (omega arith)));
     }
 
 -- ---- between two chunks
 
 abbrev pub Between : List ℕ → ℕ → ℕ → Cursor → List Bool → List ℤ → List ℤ → ℕ → Bool → Type 0
-Between text at left d seen ranges keys n over = Midway text channelKinds (fields channelKinds (lexAt text at)) left d seen (λ fs. Held fs (map isSome fs) ranges keys n over)
+Between text at left d seen ranges keys n over = Midway text channelKinds (fields channelKinds (lexAt text at)) left d seen (λ fs. Held fs ranges keys n over)
 
-pub between-start : (text : List ℕ) (at : ℕ) (seen : List Bool) (ranges keys : List ℤ) → seen ≡ replicate 10 false → length ranges ≡ 20 → length keys ≡ 8192 → Between text at 10 (record { refusal = 0; at = at }) seen ranges keys 0 false
+pub between-start : (text : List ℕ) (at : ℕ) (seen : List Bool) (ranges keys : List ℤ) → seen ≡ replicate 10 false → ranges ≡ replicate 20 (pos 0) → length keys ≡ 8192 → Between text at 10 (record { refusal = 0; at = at }) seen ranges keys 0 false
 unfolding fields channelKinds channelNames
 between-start text at seen ranges keys e w r =
     record {
@@ -90,11 +87,11 @@ between-start text at seen ranges keys e w r =
     }
 
 -- a chunk of a channel: after its head, its keys
-module _ (text : List ℕ) (at left : ℕ) (d : Cursor) (seen : List Bool) (ranges keys : List ℤ) (n : ℕ) (over : Bool) (m : Between text at left d seen ranges keys n over) (c : Cursor) (k : ℕ) (h : reads text c k ≡ from text d (headIn (words list) ten seen left)) where
+module _ (text : List ℕ) (at left : ℕ) (d : Cursor) (seen : List Bool) (ranges keys : List ℤ) (n : ℕ) (over : Bool) (m : Between text at left d seen ranges keys n over) (c : Cursor) (k : ℕ) (h : reads text c k ≡ from text d (headIn (words list) needed seen left)) where
   wide : length seen ≡ 10
   wide = ap length (sym (m .flags)) ∙ flags-length (m .fs) ∙ m .size ∙ channel-count
 
-  pub channels-end : 10 ≤ k → Reached text c (fields channelKinds (lexAt text at)) (λ gs. Held gs (map isSome gs) ranges keys n over)
+  pub channels-end : 10 ≤ k → Reached text c (fields channelKinds (lexAt text at)) (λ gs. Held gs ranges keys n over)
   channels-end e = turn-ends channel-listed m c k h (rw wide e)
 
   module _ (e : k < 10) (q : (c .refusal ≡ 0 → ⊥) → k ≡ length seen) where
@@ -110,5 +107,5 @@ module _ (text : List ℕ) (at left : ℕ) (d : Cursor) (seen : List Bool) (rang
 
     pub channel-on : (r : Cursor) (s : List ℤ × List ℤ × ℕ × Bool) → KeysRead text c k (ranges, keys, n, over) r s → (seen′ : List Bool) → seen′ ≡ set seen k true → Between text at (left - 1) r seen′ (s .0) (s .1) (s .2) (s .3)
     channel-on r s y seen′ f =
-        let z = y (m .fs) (m .size ∙ channel-count) (turn-unread channel-listed m c k h below q) (turn-holds channel-listed m c k h below q) in
-        turn-on channel-listed m c k h below r (z .value) (z .read) seen′ f (λ fs. Held fs (map isSome fs) (s .0) (s .1) (s .2) (s .3)) (z .kept)
+        let z = y (m .fs) (turn-unread channel-listed m c k h below q) (turn-holds channel-listed m c k h below q) in
+        turn-on channel-listed m c k h below r (z .value) (z .read) seen′ f (λ fs. Held fs (s .0) (s .1) (s .2) (s .3)) (z .kept)

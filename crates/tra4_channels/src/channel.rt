@@ -1,10 +1,10 @@
-// A bone's ten channels, in any order, each once: their keys to a table in text order, and where each channel's stand.
+// A bone's channels, in any order, each at most once: their keys to a table in text order, and where each channel's stand.
 ghost use mathlib.Core.Path.{_≡_};
-ghost use mathlib.Core.List.{map};
 ghost use Prim.Native.Nat.{_<_, _≤_};
-ghost use lib.ListN.{length};
+ghost use lib.IntN.{pos};
+ghost use lib.ListN.{length, replicate};
 ghost use Rattle.text_tokens.specs.Tokens.{lexAt};
-ghost use Rattle.parse_spec.specs.Fields.{isSome, fields};
+ghost use Rattle.parse_spec.specs.Fields.{fields};
 ghost use Rattle.tra4_text.specs.Grammar.{channelKinds};
 ghost use Rattle.parse_chunks.specs.Internal.Heads.{Reached};
 ghost use Rattle.tra4_channels.specs.Internal.Held.{Held, KeysRead};
@@ -63,10 +63,10 @@ fn channel_keys(
     }
 }
 
-// The chunks of the channels up to the closing bracket of their bone, all ten of which must have stood.
+// The chunks of the channels up to the closing bracket of their bone, with ranges that are 0 and stay so for a channel that is left out.
 fn channel_chunks(text: &[u8], at: usize, ranges: &mut [i64], keys: &mut [i64]) -> Keyed
-    requires { ⌜ (length (now ranges) ≡ 20) × (length (now keys) ≡ 8192) ⌝ }
-    ensures { λ r. ⌜ Reached (now (text .entry)) (r .cursor) (fields channelKinds (lexAt (now (text .entry)) at)) (λ gs. Held gs (map isSome gs) (now (ranges .exit)) (now (keys .exit)) (r .count) (r .over)) ⌝ }
+    requires { ⌜ (now ranges ≡ replicate 20 (pos 0)) × (length (now keys) ≡ 8192) ⌝ }
+    ensures { λ r. ⌜ Reached (now (text .entry)) (r .cursor) (fields channelKinds (lexAt (now (text .entry)) at)) (λ gs. Held gs (now (ranges .exit)) (now (keys .exit)) (r .count) (r .over)) ⌝ }
 {
     let mut seen = [false; 10];
     let mut d = Cursor { refusal: 0, at };
@@ -78,7 +78,7 @@ fn channel_chunks(text: &[u8], at: usize, ranges: &mut [i64], keys: &mut [i64]) 
             text,
             d,
             b"translate.x translate.y translate.z scale.x scale.y scale.z rotate.x rotate.y rotate.z roll",
-            &[true, true, true, true, true, true, true, true, true, true],
+            &[false; 10],
             &mut seen,
             left,
         );
@@ -100,9 +100,10 @@ fn channel_chunks(text: &[u8], at: usize, ranges: &mut [i64], keys: &mut [i64]) 
 }
 
 // The channels of a bone up to its closing bracket: their keys to a table, in the order of the text, and the first row and the count
-// of each channel's to the ranges. What the table holds past the last key is free.
+// of each channel's to the ranges, 0 and 0 of one that is left out. What the table holds past the last key is free.
 pub fn channels(text: &[u8], at: usize, ranges: &mut [i64; 20], keys: &mut [i64; 8192]) -> Keyed
-    ensures { λ r. ⌜ Reached (now (text .entry)) (r .cursor) (fields channelKinds (lexAt (now (text .entry)) at)) (λ gs. Held gs (map isSome gs) (now (ranges .exit)) (now (keys .exit)) (r .count) (r .over)) ⌝ }
+    ensures { λ r. ⌜ Reached (now (text .entry)) (r .cursor) (fields channelKinds (lexAt (now (text .entry)) at)) (λ gs. Held gs (now (ranges .exit)) (now (keys .exit)) (r .count) (r .over)) ⌝ }
 {
+    *ranges = [0; 20];
     channel_chunks(text, at, ranges, keys)
 }

@@ -1,4 +1,4 @@
--- Worked movements, by computation: the table of a whole text, what refuses each text at its place, and both sides of the rules 8 and 14.
+-- Worked movements, by computation: the tables of whole texts, channels left out among them, what refuses each text at its place, and both sides of the rules 8 and 14.
 use mathlib.Core.Path.{_≡_, refl}
 use mathlib.Core.List.{List, [], _∷_, _++_, map}
 use Prim.Native.Nat.{ℕ}
@@ -18,7 +18,7 @@ use Rattle.table_rows.specs.Flat.{flat}
 use Rattle.tra4_text.specs.Movement.{Movement, frameOf, groupOf}
 use Rattle.tra4_text.specs.Grammar.{repeatedIn, repeated, repeated⁺, key, channelNames, channel, channelKinds, keysIn, bone, word, truth, pattern, movement}
 use Rattle.tra4_text.specs.Rules.{channelsOf, allKeys, keyRows, countsOf, movementCounts, totalFault, isFrame, isZero, rises, keyFine, channelFault, keysFault, patternFine, hasStart, startFault, patternsFault, movementFault}
-use Rattle.tra4_text.specs.Layout.{nameNumbers, keyRanges, boneRow, boneRows, layoutOf}
+use Rattle.tra4_text.specs.Layout.{nameNumbers, firstRow, keyRanges, boneRow, boneRows, layoutOf}
 use Rattle.tra4_text.specs.Answer.{movementOutcome, movementAnswer, movementTable}
 use Rattle.refusal.specs.FirstBad.{firstBad}
 use Rattle.refusal.specs.Rules.{orElse, tooMany}
@@ -48,6 +48,22 @@ walked =
     ++ replicate 18 (pos 0)
     ++ map pos (0 ∷ 0 ∷ 1 ∷ 3 ∷ 1 ∷ 0 ∷ 3 ∷ 0 ∷ 0 ∷ [])
 
+-- ---- channels left out: of a bone all, all but roll and scale.y, all but rotate.z, which count on
+
+abbrev still : List ℕ
+still = bytes ";TRA\n(Head(traVersion 4.0))(Figure(totalFrame 1)(bone))"
+
+abbrev sparse : List ℕ
+sparse = bytes ";TRA\n(Head(traVersion 4.0))(Figure(totalFrame 3)(bone(roll(kf 0 1)(kf 2 2))(scale.y(kf 0 100)))(bone)(bone(name \"ear\")(rotate.z(kf 0 1))))"
+
+abbrev laidOut : List ℤ
+laidOut =
+    map pos (3 ∷ 0 ∷ 0 ∷ [])
+    ++ map pos (0 ∷ 0 ∷ 0 ∷ 0 ∷ 0 ∷ 0 ∷ 0 ∷ 0 ∷ 0 ∷ 0 ∷ 0 ∷ 1 ∷ 0 ∷ 0 ∷ 0 ∷ 0 ∷ 0 ∷ 0 ∷ 0 ∷ 0 ∷ 1 ∷ 2 ∷ [])
+    ++ replicate 22 (pos 0)
+    ++ map pos (113 ∷ 3 ∷ 0 ∷ 0 ∷ 0 ∷ 0 ∷ 0 ∷ 0 ∷ 0 ∷ 0 ∷ 0 ∷ 0 ∷ 0 ∷ 0 ∷ 0 ∷ 0 ∷ 0 ∷ 0 ∷ 3 ∷ 1 ∷ 0 ∷ 0 ∷ [])
+    ++ map pos (0 ∷ 100000000 ∷ 0 ∷ 1000000 ∷ 2 ∷ 2000000 ∷ 0 ∷ 1000000 ∷ [])
+
 -- ---- a text that goes on after nine channels, at offset 221, and what refuses it: number and place; of a text that is taken 0 and its total
 
 abbrev front : List ℕ
@@ -63,14 +79,19 @@ abbrev cases : List (String × (ℕ × ℕ))
 cases =
     ("(roll(kf 0 0))))", (0, 45))
     -- the shape
-    ∷ (")", (5, 221))
+    ∷ (")", (5, 222))
+    ∷ ("))", (0, 43))
     ∷ ("(roll)", (5, 226))
     ∷ ("(scale.x", (5, 222))
     ∷ ("(name \"x\")", (5, 222))
     ∷ ("(roll(kf 0 0)(kgf", (5, 235))
     ∷ ("(roll(kf 0 0))(", (5, 235))
     ∷ ("(roll(kf 0 0)))(Bone", (5, 237))
-    ∷ ("(roll(kf 0 0)))(bone)", (5, 241))
+    ∷ ("(roll(kf 0 0)))(bone)", (5, 242))
+    ∷ ("(roll(kf 0 0)))(bone))", (0, 67))
+    ∷ ("(roll(kf 0 0)))(bone(roll)", (5, 246))
+    ∷ ("(roll(kf 0 0)))(bone(roll(kf 0 0))(roll", (5, 256))
+    ∷ ("(roll(kf 0 0)))(bone(roll(kf 0 0))(name", (5, 256))
     ∷ ("(roll(kf 0 0)))(DynamicPolygons))", (0, 45))
     ∷ ("(roll(kf 0 0)))(DynamicPolygons)(bone", (5, 253))
     ∷ ("(roll(kf 0 0)))(DynamicPolygons(kgf 0 0 yes", (5, 261))
@@ -99,9 +120,9 @@ cases =
     ∷ ("(roll(kf 1 0)))(DynamicPolygons(kgf 1 0 true)))", (15, 9))
     ∷ []
 
-pub worked : (movementTable walk (replicate 101 (pos 9)) ≡ walked ++ (pos 9 ∷ [])) × (movementAnswer walk 99 ≡ rejected 17 100) × (map (λ c. reply (movementAnswer (front ++ bytes (c .0)) 100)) cases ≡ map (λ c. c .1) cases)
-unfolding rowOf cells bytes isBlank between isLetter classOf inLine inString isDigit isContent run same lexeme tokens lex isKeyword decimalFrom decimal signed notEmpty allDigits intMost wholeOf intOf millionths floatOf numberFrom afterDigits unsigned negative unsignedPart fixedOf inMantissa mantissa withExponent numberOf refusalOf faultIn markOf blankOrEnd begins marked textFault after _>>=_ _>>_ pure stop tokenOf rest isOpening isClosing isEnd take-if open-bracket close-bracket wordOf text-end openedOf opened closed numberIn numberAt number numbers versionAt version absent nameAt string oneFrom oneOf starts optional trailing manyIn many many⁺ headOf head kind isSome unread complete kindFrom fieldsIn fields flat frameOf groupOf repeatedIn repeated repeated⁺ key channelNames channel channelKinds keysIn bone word truth pattern movement orElse channelsOf allKeys keyRows countsOf movementCounts movementLists movementMosts tooMany totalFault isFrame isZero rises keyFine channelFault keysFault patternFine hasStart startFault firstBad patternsFault movementFault nameNumbers keyRanges boneRow boneRows layoutOf ruled shaped checked outcome movementOutcome fitted movementAnswer laid movementTable
-worked = (refl, refl, refl)
+pub worked : (movementTable walk (replicate 101 (pos 9)) ≡ walked ++ (pos 9 ∷ [])) × (movementAnswer walk 99 ≡ rejected 17 100) × (movementTable still (replicate 26 (pos 9)) ≡ pos 1 ∷ replicate 24 (pos 0) ++ (pos 9 ∷ [])) × (movementTable sparse (replicate 77 (pos 9)) ≡ laidOut) × (map (λ c. reply (movementAnswer (front ++ bytes (c .0)) 100)) cases ≡ map (λ c. c .1) cases)
+unfolding rowOf cells bytes isBlank between isLetter classOf inLine inString isDigit isContent run same lexeme tokens lex isKeyword decimalFrom decimal signed notEmpty allDigits intMost wholeOf intOf millionths floatOf numberFrom afterDigits unsigned negative unsignedPart fixedOf inMantissa mantissa withExponent numberOf refusalOf faultIn markOf blankOrEnd begins marked textFault after _>>=_ _>>_ pure stop tokenOf rest isOpening isClosing isEnd take-if open-bracket close-bracket wordOf text-end openedOf opened closed numberIn numberAt number numbers versionAt version absent nameAt string oneFrom oneOf starts optional trailing manyIn many many⁺ headOf head kind isSome unread complete kindFrom fieldsIn fields flat frameOf groupOf repeatedIn repeated repeated⁺ key channelNames channel channelKinds keysIn bone word truth pattern movement orElse channelsOf allKeys keyRows countsOf movementCounts movementLists movementMosts tooMany totalFault isFrame isZero rises keyFine channelFault keysFault patternFine hasStart startFault firstBad patternsFault movementFault nameNumbers firstRow keyRanges boneRow boneRows layoutOf ruled shaped checked outcome movementOutcome fitted movementAnswer laid movementTable
+worked = (refl, refl, refl, refl, refl)
 
 -- ---- the lists' mosts, and the total's range
 

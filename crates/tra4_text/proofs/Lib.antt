@@ -3,6 +3,7 @@ pub mod Repeated
 pub mod Whole
 pub mod Names
 pub mod Patterns
+pub mod LeftOut
 pub mod Layouts
 pub mod Claims
 pub mod Zero

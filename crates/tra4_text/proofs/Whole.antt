@@ -1,7 +1,6 @@
--- What every movement that the grammar gives is: ten channels a bone, each with a key, keys and pattern lines of their width, values and flags in range, and names that are strings of the text; by one law a reader.
+-- What every movement that the grammar gives is: ten channels a bone, each that stands with a key, keys and pattern lines of their width, values and flags in range, and names that are strings of the text; by one law a reader.
 use mathlib.Core.Path.{_≡_, refl, _∙_}
 use mathlib.Core.List.{List, [], _∷_, _++_, map}
-use mathlib.Core.Bool.{true, false≢true}
 use mathlib.Core.Option.{Option, none, some}
 use Prim.Native.Nat.{ℕ, zero, suc, _<_}
 use Prim.Native.String.{String}
@@ -15,7 +14,7 @@ use Rattle.text_numerals.specs.Numbers.{INT, FLOAT}
 use Rattle.text_tokens.specs.Tokens.{Lexeme}
 use Rattle.text_bytes.proofs.Every.{every-as}
 use Rattle.parse_spec.specs.Readers.{Name, absent, Reader, pure, starts, many⁺}
-use Rattle.parse_spec.specs.Fields.{kind, isSome, complete, fields}
+use Rattle.parse_spec.specs.Fields.{kind, fields}
 use Rattle.parse_spec.proofs.Given.{GivesOn, Gives, free, Naming, AnyName, any-names, pure-gives, later-gives, either-gives, bind-gives, then-gives, gives-as, leaves-on, both-give, closed-gives, close-leaves, opened-leaves, end-leaves, head-leaves, more-give, many-gives, some-give, trailing-gives, name-gives}
 use Rattle.parse_spec.proofs.FieldFits.{AllGive, AllFit, Whole, fields-fit}
 use Rattle.parse_spec.proofs.Ranges.{InForm, number-gives, numbers-give, row-of-gives, choice-below, some-stand}
@@ -31,6 +30,10 @@ FloatValue k = InForm FLOAT (getD k 1 (pos 0))
 pub record WholeChannel (c : Channel) : Type 0 where
   pub wide : Wide 2 c
   pub values : Every FloatValue c
+
+-- one that stands in the text
+pub record Written (c : Channel) : Type 0 where
+  pub whole : WholeChannel c
   pub some-key : 0 < length c
 
 pub record WholeBone (b : Bone) : Type 0 where
@@ -73,8 +76,8 @@ module _ {Q : Lexeme → Type 0} where
   unfolding key
   key-gives = gives-as (row-of-gives (bytes "kf") 1 FLOAT 1) (λ k h. (h .0, second k (h .0) (h .1)))
 
-  pub channel-gives : GivesOn Q WholeChannel (many⁺ key)
-  channel-gives = gives-as (both-give (some-give key-gives) (some-stand (leaves-on key-gives))) (λ c h. record { wide = every-as (λ _ k. k .0) c (h .0); values = every-as (λ _ k. k .1) c (h .0); some-key = h .1 })
+  pub channel-gives : GivesOn Q Written (many⁺ key)
+  channel-gives = gives-as (both-give (some-give key-gives) (some-stand (leaves-on key-gives))) (λ c h. record { whole = record { wide = every-as (λ _ k. k .0) c (h .0); values = every-as (λ _ k. k .1) c (h .0) }; some-key = h .1 })
 
   truth-gives : GivesOn Q Flag truth
   unfolding truth word
@@ -102,26 +105,29 @@ module _ {Q : Lexeme → Type 0} where
 
 -- ---- the channels of a bone
 
--- each channel must stand
-all-stand : (i : ℕ) (ns : List String) (fs : List (Option Channel)) → AllFit (λ _. WholeChannel) i fs → complete (map channel ns) fs ≡ true → length fs ≡ length ns → Every WholeChannel (map keysIn fs)
-unfolding complete channel kind isSome keysIn
-all-stand i ns [] h e l = tt
-all-stand i [] (f ∷ fs) h e l = absurd (omega arith)
-all-stand i (n ∷ ns) (none ∷ fs) h e l = absurd (false≢true e)
-all-stand i (n ∷ ns) (some c ∷ fs) h e l = (h .0, all-stand (suc i) ns fs (h .1) e (omega arith))
+-- those that stand, and those that are left out
+all-whole : (i : ℕ) (fs : List (Option Channel)) → AllFit (λ _. Written) i fs → Every WholeChannel (map keysIn fs)
+unfolding keysIn
+all-whole i [] h = tt
+all-whole i (none ∷ fs) h = (record { wide = tt; values = tt }, all-whole (suc i) fs h)
+all-whole i (some c ∷ fs) h = (h .0 .whole, all-whole (suc i) fs (h .1))
 
-names-give : (Q : Lexeme → Type 0) (i : ℕ) (ns : List String) → AllGive (λ _. WholeChannel) Q i (map channel ns)
+names-give : (Q : Lexeme → Type 0) (i : ℕ) (ns : List String) → AllGive (λ _. Written) Q i (map channel ns)
 unfolding channel kind
 names-give Q i [] = tt
 names-give Q i (n ∷ ns) = (channel-gives, names-give Q (suc i) ns)
 
-ten : (gs : List (Option Channel)) → Whole (λ _. WholeChannel) channelKinds gs → (length gs ≡ 10) × Every WholeChannel (map keysIn gs)
+-- what the chunks of a bone's channels leave
+pub fields-written : {Q : Lexeme → Type 0} → GivesOn Q (Whole (λ _. Written) channelKinds) (fields channelKinds)
+unfolding channelKinds
+fields-written {Q} = fields-fit (λ _. Written) channelKinds (names-give Q 0 channelNames)
+
+ten : (gs : List (Option Channel)) → Whole (λ _. Written) channelKinds gs → (length gs ≡ 10) × Every WholeChannel (map keysIn gs)
 unfolding channelKinds channelNames
-ten gs w = (w .count, all-stand 0 channelNames gs (w .fit) (w .stand) (w .count))
+ten gs w = (w .count, all-whole 0 gs (w .fit))
 
 channels-give : {Q : Lexeme → Type 0} → GivesOn Q (λ gs. (length gs ≡ 10) × Every WholeChannel (map keysIn gs)) (fields channelKinds)
-unfolding channelKinds
-channels-give {Q} = gives-as (fields-fit (λ _. WholeChannel) channelKinds (names-give Q 0 channelNames)) ten
+channels-give = gives-as fields-written ten
 
 pub wide-keys : (cs : List Channel) → Every WholeChannel cs → Every (Wide 2) cs
 wide-keys [] h = tt

@@ -45,14 +45,14 @@ channelNames =
     ∷ "roll"
     ∷ []
 
--- a channel must stand, and has at least one key
+-- a channel may be left out (document 02, (x)); one that stands has at least one key
 unfoldable pub channel : String → Kind Channel
-channel k = kind k true (many⁺ key)
+channel k = kind k false (many⁺ key)
 
 unfoldable pub channelKinds : List (Kind Channel)
 channelKinds = map channel channelNames
 
--- the keys of a channel; one that must stand is not absent
+-- the keys of a channel; one that is left out has none
 unfoldable pub keysIn : Option Channel → Channel
 keysIn none = []
 keysIn (some c) = c

@@ -1,6 +1,6 @@
 -- A movement's numbers in document 01's columns, lists without gaps.
 use mathlib.Core.List.{List, [], _∷_, _++_}
-use Prim.Native.Nat.{ℕ, _+_}
+use Prim.Native.Nat.{ℕ, zero, suc, _+_}
 use lib.ListN.{length}
 use lib.IntN.{ℤ, pos}
 unfoldable pub use Rattle.parse_spec.specs.Places.{nameNumbers}
@@ -8,10 +8,15 @@ use Rattle.table_rows.specs.Flat.{flat}
 use Rattle.tra4_text.specs.Movement.{Channel, Bone, Movement}
 use Rattle.tra4_text.specs.Rules.{allKeys, keyRows}
 
--- each channel's first key row and key count, where the first of them begins at a key row
+-- the first row of so many keys that stand from a row on; of none it is 0
+unfoldable pub firstRow : ℕ → ℕ → ℕ
+firstRow row zero = 0
+firstRow row (suc count) = row
+
+-- each channel's first key row and key count, both 0 of a channel that is left out, where the keys begin at a row and count on from channel to channel
 unfoldable pub keyRanges : ℕ → List Channel → List ℤ
 keyRanges row [] = []
-keyRanges row (c ∷ cs) = pos row ∷ pos (length c) ∷ keyRanges (row + length c) cs
+keyRanges row (c ∷ cs) = pos (firstRow row (length c)) ∷ pos (length c) ∷ keyRanges (row + length c) cs
 
 unfoldable pub boneRow : ℕ → Bone → List ℤ
 boneRow row b = nameNumbers (b .name) ++ keyRanges row (b .channels)

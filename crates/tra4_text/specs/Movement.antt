@@ -22,7 +22,7 @@ frameOf row = getD row 0 (pos 0)
 unfoldable pub groupOf : Pattern → ℤ
 groupOf p = getD p 1 (pos 0)
 
--- `channels` are the ten by number, each known by its keyword (`channelNames`), its keys in text order
+-- `channels` are the ten by number, each known by its keyword (`channelNames`), its keys in text order; one that is left out is empty
 pub record Bone : Type 0 where
   pub name : Name
   pub channels : List Channel

@@ -8,7 +8,7 @@ use lib.IntN.{ℤ}
 use Rattle.tra4_text.specs.Movement.{Key, frameOf}
 use Rattle.tra4_text.specs.Rules.{keyFine}
 use Rattle.player_spec.specs.Fractions.{Fraction, whole}
-use Rattle.player_spec.specs.Samples.{keyFrame, keyValue, line}
+use Rattle.player_spec.specs.Samples.{keyFrame, keyValue, line, standing}
 use Rattle.player_spec.specs.Lookups.{isFloat}
 
 -- a key that may follow another, if there is one
@@ -30,7 +30,7 @@ unfoldable pub passFrom : ℤ → ℕ → Key → Option Fraction → List Key �
 passFrom total at k d [] = some (orLast d k)
 passFrom total at k d (n ∷ ks) = elim (mayFollow total (some k) n) [ true ↦ passFrom total at n (decided d k n at) ks | false ↦ none ]
 
--- all keys
-unfoldable pub passOver : ℤ → ℕ → List Key → Option Fraction
-passOver total at [] = none
-passOver total at (k ∷ ks) = elim (mayFollow total none k) [ true ↦ passFrom total at k none ks | false ↦ none ]
+-- all keys; where there are none, the standing pose
+unfoldable pub passOver : ℤ → ℕ → ℕ → List Key → Option Fraction
+passOver total channel at [] = some (whole (standing channel))
+passOver total channel at (k ∷ ks) = elim (mayFollow total none k) [ true ↦ passFrom total at k none ks | false ↦ none ]

@@ -42,10 +42,16 @@ pub record Ready (p : Pass) (total : ℤ) (at : ℕ) : Type 0 where
 unfoldable pub finished : Pass → Option Fraction
 finished p = ifFine (p .fine) (some (orLast (stateOf p) (keyOf p)))
 
--- rows of two numbers, at least one, under a sound total
+-- after one key, at frame 0
+pub record Begun (p : Pass) (value : ℤ) : Type 0 where
+  pub is-fine : p .fine ≡ true
+  pub start : p .before ≡ 0
+  pub here : p .value ≡ value
+  pub unknown : p .known ≡ false
+
+-- rows of two numbers, under a sound total
 pub record KeyRows (keys : List ℤ) (count : ℕ) (total : ℤ) : Type 0 where
   pub rows : length keys ≡ count * 2
-  pub some-row : 0 < count
   pub most : count ≤ 4096
   pub positive : total ≡ pos (natAbs total)
   pub above : 0 < natAbs total

@@ -44,6 +44,10 @@ keptBy i (some s) name cs =
       | false ↦ none
     ]
 
+-- a table whose numbers are free: nothing is said of them
+abbrev pub Free : List ℤ → Type 0
+Free numbers = Unit {0}
+
 -- one bone after its keyword
 unfoldable pub boneInto : ℕ → Kept → Reader Kept
 boneInto i s = bone >>= λ b. pure (boneKept i s b)

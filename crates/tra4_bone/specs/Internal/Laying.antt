@@ -4,6 +4,7 @@ use mathlib.Core.List.{List, [], _∷_, _++_}
 use Prim.Native.Nat.{ℕ, _+_, _*_, _≤_}
 use lib.IntN.{ℤ, pos, natAbs}
 use lib.ListN.{take, drop}
+use Rattle.tra4_text.specs.Layout.{firstRow}
 
 -- the rows of two numbers that a range names
 unfoldable pub rangeRows : ℤ → ℤ → List ℤ → List ℤ
@@ -21,11 +22,11 @@ rangesTotal [] = 0
 rangesTotal (f ∷ []) = 0
 rangesTotal (f ∷ c ∷ ranges) = natAbs c + rangesTotal ranges
 
--- the ranges of those rows where they are laid one after the other from a row on
+-- the ranges of those rows where they are laid one after the other from a row on; one of no rows begins at 0
 unfoldable pub renumbered : ℕ → List ℤ → List ℤ
 renumbered row [] = []
 renumbered row (f ∷ []) = f ∷ []
-renumbered row (f ∷ c ∷ ranges) = pos row ∷ c ∷ renumbered (row + natAbs c) ranges
+renumbered row (f ∷ c ∷ ranges) = pos (firstRow row (natAbs c)) ∷ c ∷ renumbered (row + natAbs c) ranges
 
 -- a range lies within the first n rows
 pub record RangeIn (n : ℕ) (f c : ℤ) : Type 0 where

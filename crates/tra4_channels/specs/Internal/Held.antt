@@ -8,7 +8,6 @@ use lib.IntN.{ℤ, pos}
 use lib.ListN.{length, getD, set, take, drop}
 use Rattle.parse_cursor.specs.declared.cursor.Cursor.{Cursor}
 use Rattle.parse_cursor.specs.Internal.Cursors.{from}
-use Rattle.parse_spec.specs.Fields.{isSome}
 use Rattle.parse_spec.specs.Internal.Fields.{insideAt}
 use Rattle.parse_chunks.specs.Internal.Heads.{Reached}
 use Rattle.table_rows.specs.Flat.{flat}
@@ -28,24 +27,17 @@ pub record Stored (keys : List ℤ) (n : ℕ) (first count : ℤ) (c : Channel) 
   pub below : row + length c ≤ n
   pub content : take (length c * 2) (drop (row * 2) keys) ≡ flat c
 
--- the channels that have been read: which they are, and how many keys they have, each channel's standing in the table; or there are too many
-pub record Held (fs : List (Option Channel)) (seen : List Bool) (ranges keys : List ℤ) (n : ℕ) (over : Bool) : Type 0 where
-  pub flags : map isSome fs ≡ seen
+-- the channels that have been read: how many keys they have, and each channel's, none of one that has not been read, standing in the table; or there are too many
+pub record Held (fs : List (Option Channel)) (ranges keys : List ℤ) (n : ℕ) (over : Bool) : Type 0 where
+  pub ten : length fs ≡ 10
   pub width : length ranges ≡ 20
   pub room : length keys ≡ 8192
   pub most : n ≤ 4096
   pub counted : over ≡ false → keysRead fs ≡ n
   pub many : over ≡ true → 4096 < keysRead fs
-  pub stored : over ≡ false → (k : ℕ) (c : Channel) → getD fs k none ≡ some c → Stored keys n (getD ranges (k * 2) (pos 0)) (getD ranges (k * 2 + 1) (pos 0)) c
+  pub stored : over ≡ false → (k : ℕ) → k < 10 → Stored keys n (getD ranges (k * 2) (pos 0)) (getD ranges (k * 2 + 1) (pos 0)) (keysIn (getD fs k none))
 
 -- the keys of channel k, which has not been read, whatever other channels the code's state stands for
 abbrev pub KeysRead : List ℕ → Cursor → ℕ → List ℤ × List ℤ × ℕ × Bool → Cursor → List ℤ × List ℤ × ℕ × Bool → Type 0
 KeysRead text c k s r t =
-    (fs : List (Option Channel)) → length fs ≡ 10 → getD fs k none ≡ none → Held fs (map isSome fs) (s .0) (s .1) (s .2) (s .3) → Reached text r (from text c (insideAt channelKinds k)) (λ a. Held (set fs k (some a)) (map isSome (set fs k (some a))) (t .0) (t .1) (t .2) (t .3))
-
--- every channel has been read
-pub record AllHeld (ranges keys : List ℤ) (n : ℕ) (over : Bool) : Type 0 where
-  pub channels : List Channel
-  pub ten : length channels ≡ 10
-  pub seen : List Bool
-  pub held : Held (map some channels) seen ranges keys n over
+    (fs : List (Option Channel)) → getD fs k none ≡ none → Held fs (s .0) (s .1) (s .2) (s .3) → Reached text r (from text c (insideAt channelKinds k)) (λ a. Held (set fs k (some a)) (t .0) (t .1) (t .2) (t .3))

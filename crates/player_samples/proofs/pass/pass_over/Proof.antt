@@ -1,4 +1,4 @@
--- `pass_over` tests the first key and then one key a turn: the invariant says that the keys left, over the state as it is, are the whole pass.
+-- `pass_over` gives the pose where there is no key, else tests the first and then one key a turn: the invariant says that the keys left, over the state as it is, are the whole pass.
 use mathlib.Core.Path.{_≡_, refl, ap, sym, _∙_}
 use mathlib.Core.Bool.{true}
 use Prim.Native.Nat.{_+_, _*_, _-_, _≤_}
@@ -17,48 +17,66 @@ use Rattle.table_columns.specs.Parts.{rowsAt}
 use Rattle.player_spec.specs.Lookups.{isFloat}
 use Rattle.player_samples.specs.Internal.Pass.{passFrom, passOver}
 use Rattle.player_samples.specs.Internal.Passing.{keyOf, stateOf, thenFrom, Ready}
-use Rattle.player_samples.proofs.Walked.{left-more, first-late, first-wide, first-on, ended, stopped, goes-on, float-below}
+use Rattle.player_samples.proofs.Walked.{at-rest, left-more, first-late, first-wide, first-on, ended, stopped, goes-on, float-below}
 use Rattle.tra4_text.proofs.Zero.{zero-no, zero-yes}
 use Rattle.player_samples.proofs.pass.pass_over.Statement.{statement}
 use Rattle.player_samples.proofs.pass.pass_over.Tie as tie
 
 abbrev Inv-loop : tie.InvT-loop
-Inv-loop keys count total at first p₀ i₀ p i =
-    (passOver (toZ w64 total) at (rowsAt 2 keys 0 count) ≡ passFrom (toZ w64 total) at (keyOf p) (stateOf p) (rowsAt 2 keys (i * 2) (count - i)))
+Inv-loop keys count channel total at first p₀ i₀ p i =
+    (passOver (toZ w64 total) channel at (rowsAt 2 keys 0 count) ≡ passFrom (toZ w64 total) at (keyOf p) (stateOf p) (rowsAt 2 keys (i * 2) (count - i)))
     × (p .fine ≡ true)
     × Ready p (toZ w64 total) at
     × (i ≤ count)
 
 abbrev μ-loop : tie.MeasureT-loop
-μ-loop keys count total at first p₀ i₀ p i = count - i
+μ-loop keys count channel total at first p₀ i₀ p i = count - i
+
+standing-requires : tie.Need-standing-requires Inv-loop μ-loop
+standing-requires c κs = search needs
+
+begun-requires : tie.Need-begun-requires Inv-loop μ-loop
+begun-requires c κs = search needs
+
+returns : tie.Need-returns Inv-loop μ-loop
+returns c =
+    let s = c .before in
+    let z = toZ-ofZ {w = w64} (record { sfits = s .standing .ok }) ∙ s .standing .ensures in
+    at-rest _ _ _ _ (s .before .before .pre) _ _ (s .before .if1 .taken) (rw z at (c .begun .ensures))
 
 shared-slice-copy-out-first : tie.Need-shared-slice-copy-out-first Inv-loop μ-loop
 shared-slice-copy-out-first c = search needs
 
-shared-slice-copy-out-if1 : tie.Need-shared-slice-copy-out-if1 Inv-loop μ-loop
-shared-slice-copy-out-if1 c = search needs
+begun-requires-2 : tie.Need-begun-requires-2 Inv-loop μ-loop
+begun-requires-2 c κs = search needs
 
-returns : tie.Need-returns Inv-loop μ-loop
-returns c = first-late _ _ _ _ (c .before .before .before .pre) _ refl (zero-no _ (c .if1 .taken))
+shared-slice-copy-out-if2 : tie.Need-shared-slice-copy-out-if2 Inv-loop μ-loop
+shared-slice-copy-out-if2 c = search needs
+
+returns-2 : tie.Need-returns-2 Inv-loop μ-loop
+returns-2 c = let o = c .before .before .before .before in first-late _ _ _ _ (o .before .pre) _ (o .if1 .left) _ refl (zero-no _ (c .if2 .taken))
 
 is-float-requires : tie.Need-is-float-requires Inv-loop μ-loop
 is-float-requires c κs = search needs
 
-returns-2 : tie.Need-returns-2 Inv-loop μ-loop
-returns-2 c =
-    let s = c .before .before .before .before .before in
-    first-wide _ _ _ _ (s .pre) _ refl (zero-yes _ (record { sfits = c .before .before .before .if12 .given }) (c .before .before .if1 .left)) (sym (c .before .is-float .ensures ∙ ap isFloat (toZ-ofZ {w = w64} {z = getD (now (s .args .keys)) (1) (pos 0)} (record { sfits = c .before .before .before .before .first .given }))) ∙ not-true _ (c .if2 .taken))
+returns-3 : tie.Need-returns-3 Inv-loop μ-loop
+returns-3 c =
+    let o = c .before .before .before .before .before .before in
+    let s = o .before in
+    first-wide _ _ _ _ (s .pre) _ (o .if1 .left) _ refl (zero-yes _ (record { sfits = c .before .before .before .if22 .given }) (c .before .before .if2 .left)) (sym (c .before .is-float .ensures ∙ ap isFloat (toZ-ofZ {w = w64} {z = getD (now (s .args .keys)) (1) (pos 0)} (record { sfits = c .before .before .before .before .before .first .given }))) ∙ not-true _ (c .if3 .taken))
 
 loop-holds : tie.Need-loop-holds Inv-loop μ-loop
 loop-holds c =
-    let s = c .before .before .before .before .before in
+    let o = c .before .before .before .before .before .before in
+    let s = o .before in
     let t = toZ-ofZ (s .fits .total) in
-    let v = toZ-ofZ {w = w64} {z = getD (now (s .args .keys)) (1) (pos 0)} (record { sfits = c .before .before .before .before .first .given }) in
-    let float = sym (c .before .is-float .ensures ∙ ap isFloat v) ∙ not-false _ (c .if2 .left) in (
-      rw t (first-on _ _ _ _ (s .pre) _ refl v refl (zero-yes _ (record { sfits = c .before .before .before .if12 .given }) (c .before .before .if1 .left)) float),
-      refl,
-      record { frames = rw t (s .pre .frames); last = omega arith; value = rw v (float-below _ float); open-yet = λ k. omega arith },
-      (let h = s .pre .some-row in omega arith),
+    let v = toZ-ofZ {w = w64} {z = getD (now (s .args .keys)) (1) (pos 0)} (record { sfits = c .before .before .before .before .before .first .given }) in
+    let float = sym (c .before .is-float .ensures ∙ ap isFloat v) ∙ not-false _ (c .if3 .left) in
+    let b = rw v at (c .before .before .before .before .begun2 .ensures) in (
+      rw t (first-on _ _ _ _ (s .pre) _ (o .if1 .left) _ b (zero-yes _ (record { sfits = c .before .before .before .if22 .given }) (c .before .before .if2 .left)) float),
+      b .is-fine,
+      record { frames = rw t (s .pre .frames); last = omega (arith, b .start); value = rw (b .here) (float-below _ float); open-yet = λ k. omega (arith, b .start) },
+      omega (arith, o .if1 .left),
     )
 
 mul-step : tie.Need-mul-step Inv-loop μ-loop
@@ -86,9 +104,9 @@ step-requires : tie.Need-step-requires Inv-loop μ-loop
 step-requires c κs = c .before .before .before .loop .inv .2
 
 -- a turn: the keys left are one fewer
-stepped : (m : tie.After-step Inv-loop μ-loop) → let a = m .before .before .before .before .before .before .before .before .before .before .args in let l = m .before .before .before .before .loop in passOver (a .total) (a .at) (rowsAt 2 (now (a .keys)) 0 (a .count)) ≡ thenFrom (a .total) (a .at) (m .step .result) (rowsAt 2 (now (a .keys)) ((l .i + 1) * 2) (a .count - (l .i + 1)))
+stepped : (m : tie.After-step Inv-loop μ-loop) → let a = m .before .before .before .before .before .before .before .before .before .before .before .before .args in let l = m .before .before .before .before .loop in passOver (a .total) (a .channel) (a .at) (rowsAt 2 (now (a .keys)) 0 (a .count)) ≡ thenFrom (a .total) (a .at) (m .step .result) (rowsAt 2 (now (a .keys)) ((l .i + 1) * 2) (a .count - (l .i + 1)))
 stepped m =
-    let s = m .before .before .before .before .before .before .before .before .before .before in
+    let s = m .before .before .before .before .before .before .before .before .before .before .before .before in
     let a = s .args in
     let l = m .before .before .before .before .loop in
     let t = toZ-ofZ (s .fits .total) in
@@ -97,8 +115,8 @@ stepped m =
     ∙ ap (λ (ks : List Key). passFrom (a .total) (a .at) (keyOf (l .p)) (stateOf (l .p)) ks) (left-more (now (a .keys)) (a .count) (a .total) (a .at) (s .pre) (l .i) (m .before .before .before .loop-test .taken))
     ∙ (rw (t, toZ-ofZ {w = w64} {z = getD (now (a .keys)) (l .i * 2) (pos 0)} (record { sfits = m .before .before .step-arg .given }), toZ-ofZ {w = w64} {z = getD (now (a .keys)) (l .i * 2 + 1) (pos 0)} (record { sfits = m .before .step-arg2 .given })) at (m .step .ensures .0 rest))
 
-returns-3 : tie.Need-returns-3 Inv-loop μ-loop
-returns-3 c = let m = c .before .before in stopped _ _ _ _ (not-true _ (c .if3 .taken)) ∙ sym (stepped m)
+returns-4 : tie.Need-returns-4 Inv-loop μ-loop
+returns-4 c = let m = c .before .before in stopped _ _ _ _ (not-true _ (c .if4 .taken)) ∙ sym (stepped m)
 
 add-i : tie.Need-add-i Inv-loop μ-loop
 add-i c = search needs
@@ -109,14 +127,14 @@ loop-less c = (let h = c .before .before .before .before .before .loop-test .tak
 loop-again : tie.Need-loop-again Inv-loop μ-loop
 loop-again c =
     let m = c .before .before in
-    let s = m .before .before .before .before .before .before .before .before .before .before in
+    let s = m .before .before .before .before .before .before .before .before .before .before .before .before in
     let t = toZ-ofZ (s .fits .total) in
-    let fine = not-false _ (c .if3 .left) in
+    let fine = not-false _ (c .if4 .left) in
     (rw t (stepped m ∙ goes-on _ _ _ _ fine), fine, rw t (rw t at (m .step .ensures .1 fine)), let h = m .before .before .before .loop-test .taken in omega arith)
 
-returns-4 : tie.Need-returns-4 Inv-loop μ-loop
-returns-4 c =
-    let s = c .before .before .before .before .before .before .before in
+returns-5 : tie.Need-returns-5 Inv-loop μ-loop
+returns-5 c =
+    let s = c .before .before .before .before .before .before .before .before .before in
     let l = c .before .loop in
     let t = toZ-ofZ (s .fits .total) in
     ended _ _ _ _ (s .pre) (l .p) (l .i) (l .inv .1) (let h = c .loop-test .left in omega arith) ∙ sym (rw t at (l .inv .0))
@@ -127,11 +145,15 @@ pass-over-spec =
     (tie.spec
     Inv-loop
     μ-loop
-    shared-slice-copy-out-first
-    shared-slice-copy-out-if1
+    standing-requires
+    begun-requires
     returns
-    is-float-requires
+    shared-slice-copy-out-first
+    begun-requires-2
+    shared-slice-copy-out-if2
     returns-2
+    is-float-requires
+    returns-3
     loop-holds
     mul-step
     mul-step-2
@@ -141,8 +163,8 @@ pass-over-spec =
     mul-step-4
     shared-slice-copy-out-step-2
     step-requires
-    returns-3
+    returns-4
     add-i
     loop-less
     loop-again
-    returns-4)
+    returns-5)

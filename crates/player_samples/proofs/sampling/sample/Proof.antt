@@ -108,7 +108,7 @@ passed m =
     let a = e .before .before .before .before .before .before .before .before .before .before .before .before .before .before .args in
     let t = toZ-ofZ {w = w64} {z = getD (now (a .table)) 0 (pos 0)} (record { sfits = e .before .before .before .before .before .before .before .total .given }) in
     (rw (toZ-ofZ (first-fits (e .before .before .before)), toZ-ofZ (count-fits (e .before .before)), t) at (m .pass-over .ensures))
-    ∙ ap (passOver (getD (now (a .table)) 0 (pos 0)) (a .at)) (rows-part (now (a .table)) (e .before .before .before .before .before .before .before .before .before .before .before .before .before .movement-in .result .keys) (getD (now (e .before .before .before .before .before .before .before .before .before .before .before .before .before .before .args .table)) (e .before .before .before .before .before .before .before .before .before .before .before .before .before .movement-in .result .bones + e .before .before .before .before .before .before .before .before .before .before .before .before .before .before .args .bone * 22 + 2 + e .before .before .before .before .before .before .before .before .before .before .before .before .before .before .args .channel * 2) (pos 0)) (getD (now (e .before .before .before .before .before .before .before .before .before .before .before .before .before .before .args .table)) (e .before .before .before .before .before .before .before .before .before .before .before .before .before .movement-in .result .bones + e .before .before .before .before .before .before .before .before .before .before .before .before .before .before .args .bone * 22 + 2 + e .before .before .before .before .before .before .before .before .before .before .before .before .before .before .args .channel * 2 + 1) (pos 0)) ∙ channel-keys e)
+    ∙ ap (passOver (getD (now (a .table)) 0 (pos 0)) (a .channel) (a .at)) (rows-part (now (a .table)) (e .before .before .before .before .before .before .before .before .before .before .before .before .before .movement-in .result .keys) (getD (now (e .before .before .before .before .before .before .before .before .before .before .before .before .before .before .args .table)) (e .before .before .before .before .before .before .before .before .before .before .before .before .before .movement-in .result .bones + e .before .before .before .before .before .before .before .before .before .before .before .before .before .before .args .bone * 22 + 2 + e .before .before .before .before .before .before .before .before .before .before .before .before .before .before .args .channel * 2) (pos 0)) (getD (now (e .before .before .before .before .before .before .before .before .before .before .before .before .before .before .args .table)) (e .before .before .before .before .before .before .before .before .before .before .before .before .before .movement-in .result .bones + e .before .before .before .before .before .before .before .before .before .before .before .before .before .before .args .bone * 22 + 2 + e .before .before .before .before .before .before .before .before .before .before .before .before .before .before .args .channel * 2 + 1) (pos 0)) ∙ channel-keys e)
     ∙ played (a .n) (now (a .table)) (a .bone) (a .channel) (a .at) (held (e .before .before .before .before .before .before .before .before .before .before .before)) (row (e .before .before .before .before .before .before .before .before .before)) (known (e .before .before .before .before .before .before .before .before)) (asked (e .before .before .before .before .before)) (by-pair (e .before .before .before .before .before) true (ranged e))
 
 movement-in-requires : tie.Need-movement-in-requires

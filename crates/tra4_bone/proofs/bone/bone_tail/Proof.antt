@@ -2,7 +2,7 @@
 use mathlib.Core.Path.{sym}
 use native.Mathlib.Omega.{arith}
 use Rattle.parse_cursor.proofs.Bounds.{place-bounds}
-use Rattle.tra4_bone.proofs.Keeping.{name-refused, channels-refused, bone-read, over-kept, all-some, all-ten, all-held}
+use Rattle.tra4_bone.proofs.Keeping.{name-refused, channels-refused, bone-read, over-kept}
 use borrow.Author.Needs.{needs}
 use Rattle.tra4_bone.proofs.bone.bone_tail.Statement.{statement}
 use Rattle.tra4_bone.proofs.bone.bone_tail.Tie as tie
@@ -11,7 +11,7 @@ optional-name-requires : tie.Need-optional-name-requires
 optional-name-requires c κs = search needs
 
 returns : tie.Need-returns
-returns c = name-refused _ _ _ _ _ _ (c .before .before .before .optional-name .ensures) _ (c .if1 .taken)
+returns c = (name-refused _ _ _ _ _ _ (c .before .before .before .optional-name .ensures) _ (c .if1 .taken), tt)
 
 channels-requires : tie.Need-channels-requires
 channels-requires c κs = search needs
@@ -20,27 +20,24 @@ returns-2 : tie.Need-returns-2
 returns-2 c =
     let h = c .before .before .before in
     let k = h .channels .ensures in
-    channels-refused _ _ _ _ _ _ (h .before .before .before .before .before .before .optional-name .ensures) _ (k .value) (k .read) (h .before .before .before .if1 .left) _ (c .if2 .taken)
+    (channels-refused _ _ _ _ _ _ (h .before .before .before .before .before .before .optional-name .ensures) _ (k .value) (k .read) (h .before .before .before .if1 .left) _ (c .if2 .taken), tt)
 
 returns-3 : tie.Need-returns-3
 returns-3 c =
     let h = c .before .before .before .before in
     let k = h .channels .ensures in
-    bone-read _ _ _ _ _ _ (h .before .before .before .before .before .before .optional-name .ensures) _ (k .value) (k .read) (h .before .before .before .if1 .left) _ (over-kept _ _ _ _ _ _ _ _ _ _ (c .if3 .taken))
+    (bone-read _ _ _ _ _ _ (h .before .before .before .before .before .before .optional-name .ensures) _ (k .value) (k .read) (h .before .before .before .if1 .left) _ (over-kept _ _ _ _ _ _ _ _ _ _ (c .if3 .taken)), tt)
 
 slice-aggregate-set-bone : tie.Need-slice-aggregate-set-bone
 slice-aggregate-set-bone c = sym (c .before .before .before .before .before .channels .ensures .kept (c .before .before .if2 .left) .width)
 
-slice-aggregate-set-bone-2 : tie.Need-slice-aggregate-set-bone-2
-slice-aggregate-set-bone-2 c = sym (c .before .before .before .before .before .before .channels .ensures .kept (c .before .before .before .if2 .left) .room)
-
 set-bone-requires : tie.Need-set-bone-requires
 set-bone-requires c κs =
-    let h = c .before .before .before .before .before .before .before .before in
+    let h = c .before .before .before .before .before .before .before .before .before in
     let k = h .channels .ensures in
-    let o = c .before .before .before .before .before .if2 .left in
+    let o = c .before .before .before .before .before .before .if2 .left in
     let b = place-bounds _ _ _ _ (h .before .before .before .before .before .before .optional-name .ensures) (h .before .before .before .if1 .left) in
-    (all-held _ _ _ (k .value) (k .read) o (k .kept o), omega arith, omega arith)
+    ((k .value, k .kept o), omega arith, omega arith)
 
 same-length : tie.Need-same-length
 same-length c = search needs
@@ -50,13 +47,15 @@ same-length-2 c = search needs
 
 returns-4 : tie.Need-returns-4
 returns-4 c =
-    let h = c .before .before .before .before .before .before .before .before .before .before .before .before in
+    let h = c .before .before .before .before .before .before .before .before .before .before .before .before .before in
     let k = h .channels .ensures in
-    let o = c .before .before .before .before .before .before .before .before .before .if2 .left in
-    let s = c .before .before .before .set-bone .ensures in
-    rw (s .1, c .before .before .before .before .before .before .before .before .if3 .left)
-    (bone-read _ _ _ _ _ _ (h .before .before .before .before .before .before .optional-name .ensures) _ (k .value) (k .read) (h .before .before .before .if1 .left) _
-    (s .0 _ _ (all-ten _ _ _ (k .value) (k .read) o) (rw (all-some _ _ _ (k .value) (k .read) o) at (k .kept o))))
+    let o = c .before .before .before .before .before .before .before .before .before .before .if2 .left in
+    let s = c .before .before .before .set-bone .ensures in (
+      rw (s .1, c .before .before .before .before .before .before .before .before .before .if3 .left)
+          (bone-read _ _ _ _ _ _ (h .before .before .before .before .before .before .optional-name .ensures) _ (k .value) (k .read) (h .before .before .before .if1 .left) _
+          (s .0 _ (k .kept o))),
+      tt,
+    )
 
 pub bone-tail-spec : {M : Type 1} → statement M
 bone-tail-spec =
@@ -68,7 +67,6 @@ bone-tail-spec =
     returns-2
     returns-3
     slice-aggregate-set-bone
-    slice-aggregate-set-bone-2
     set-bone-requires
     same-length
     same-length-2

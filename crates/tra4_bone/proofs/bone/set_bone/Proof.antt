@@ -10,20 +10,20 @@ use Rattle.tra4_bone.proofs.bone.set_bone.Tie as tie
 
 returns : tie.Need-returns
 returns c =
-    ((λ cs seen ten h. set-over _ _ _ _ _ _ cs seen _ _ _ ten (rw (c .if1 .taken) at h) _ _ _), refl)
+    ((λ fs h. set-over _ _ _ _ _ _ fs _ _ _ (rw (c .if1 .taken) at h) _ _ _), refl)
 
 sub-if2 : tie.Need-sub-if2
-sub-if2 c = c .before .before .pre .0 .held .most
+sub-if2 c = c .before .before .pre .0 .1 .most
 
 returns-2 : tie.Need-returns-2
 returns-2 c =
-    ((λ cs seen ten h. set-beyond _ _ _ _ _ _ cs seen _ _ _ ten (rw (c .before .if1 .left) at h) (c .if2 .taken) _ _ _), refl)
+    ((λ fs h. set-beyond _ _ _ _ _ _ fs _ _ _ (rw (c .before .if1 .left) at h) (c .if2 .taken) _ _ _), refl)
 
 lay-keys-requires : tie.Need-lay-keys-requires
 lay-keys-requires c κs =
     let a = c .before .before .before .before .before .pre in
-    let h = rw (c .before .before .before .if1 .left) at (a .0 .held) in
-    (h .width, held-ranged (a .0 .channels) (a .0 .seen) _ _ _ (a .0 .ten) h .within, h .room, omega (arith, held-total (a .0 .channels) (a .0 .seen) _ _ _ (a .0 .ten) h, c .before .before .if2 .left, h .most))
+    let h = rw (c .before .before .before .if1 .left) at (a .0 .1) in
+    (h .width, held-ranged (a .0 .0) _ _ _ h .within, h .room, omega (arith, held-total (a .0 .0) _ _ _ h, c .before .before .if2 .left, h .most))
 
 cast-t23 : tie.Need-cast-t23
 cast-t23 c = search needs
@@ -59,7 +59,7 @@ returns-3 : tie.Need-returns-3
 returns-3 c =
     let l = c .before .before .before .before .before .before .before .before .before .before .before .lay-keys .ensures in
     let a = c .before .before .before .before .before .before .before .before .before .before .before .before .before .before .before .before .before in
-    ((λ cs seen ten h. set-laid _ _ _ _ _ _ cs seen _ _ _ ten (rw (c .before .before .before .before .before .before .before .before .before .before .before .before .before .before .before .if1 .left) at h) (c .before .before .before .before .before .before .before .before .before .before .before .before .before .before .if2 .left) _ _ _ _ _ _ _ (bits-pos (a .args .place) (a .pre .1)) (bits-pos (a .args .size) (a .pre .2)) (c .before .before .before .before .before .before .store .ensures) (c .before .before .before .advance .ensures) (l .0) (c .before .store2 .ensures) (l .1)), refl)
+    ((λ fs h. set-laid _ _ _ _ _ _ fs _ _ _ (rw (c .before .before .before .before .before .before .before .before .before .before .before .before .before .before .before .if1 .left) at h) (c .before .before .before .before .before .before .before .before .before .before .before .before .before .before .if2 .left) _ _ _ _ _ _ _ (bits-pos (a .args .place) (a .pre .1)) (bits-pos (a .args .size) (a .pre .2)) (c .before .before .before .before .before .before .store .ensures) (c .before .before .before .advance .ensures) (l .0) (c .before .store2 .ensures) (l .1)), refl)
 
 pub set-bone-spec : {M : Type 1} → statement M
 set-bone-spec =

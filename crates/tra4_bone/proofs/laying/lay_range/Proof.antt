@@ -11,7 +11,8 @@ use mir.Syntax.{w64}
 use mir.Val.{toZ, ofZ}
 use Rattle.signed.proofs.Signed.{bits-pos, pos-fits}
 use Rattle.table_rows.specs.Internal.Overlay.{overlayAt}
-use Rattle.tra4_bone.proofs.Ranges.{cast-is, cast-fits, part-is}
+use Rattle.tra4_text.specs.Layout.{firstRow}
+use Rattle.tra4_bone.proofs.Ranges.{cast-is, cast-fits, part-is, first-small}
 use Rattle.tra4_bone.proofs.laying.lay_range.Statement.{statement}
 use Rattle.tra4_bone.proofs.laying.lay_range.Tie as tie
 
@@ -81,23 +82,23 @@ part-store-end c =
 store-requires : tie.Need-store-requires
 store-requires c κs = search needs
 
+first-row-requires : tie.Need-first-row-requires
+first-row-requires c κs = search needs
+
 cast-ranges : tie.Need-cast-ranges
 cast-ranges c =
-    let a = c .before .before .before .before in
-    let e = first-is (a .before) in
-    let b = a .before .before .pre .1 .below in
-    let r = a .before .before .pre .3 in
-    pos-fits _ (omega arith)
+    let a = c .before .before .before .before .before in
+    pos-fits _ (omega (arith, first-small _ _ _ (c .first-row .ensures) (a .before .before .pre .3)))
 
-mul-t20 : tie.Need-mul-t20
-mul-t20 c = search needs
+mul-t18 : tie.Need-mul-t18
+mul-t18 c = search needs
 
 slice-set-from-ranges : tie.Need-slice-set-from-ranges
 slice-set-from-ranges c = search needs
 
 add-result : tie.Need-add-result
 add-result c =
-    let a = c .before .before .before .before in
+    let a = c .before .before .before .before .before in
     let e = first-is (a .before) in
     let f = count-is a in
     let b = a .before .before .pre .1 .below in
@@ -112,14 +113,14 @@ same-length-2 c = search needs
 
 returns : tie.Need-returns
 returns c =
-    let a = c .before .before .before .before in
+    let a = c .before .before .before .before .before in
     let s = a .before .before in
     let x = s .args in
     let r = s .pre .3 in (
       ap (λ (n : ℕ). x .row + n) (count-is a),
       (
-        ap (λ (z : ℤ). set (now (x .ranges)) (x .at) z) (bits-pos (x .row) (omega arith)),
-        c .before .store .ensures ∙ ap (λ (l : List ℤ). overlayAt (x .row * 2) l (now (x .table))) (part-is _ _ (now (x .keys)) _ _ (first-is (a .before)) (count-is a)),
+        ap (λ (z : ℤ). set (now (x .ranges)) (x .at) z) (bits-pos _ (omega (arith, first-small _ _ _ (c .first-row .ensures) r)) ∙ ap pos (c .first-row .ensures ∙ ap (firstRow (x .row)) (count-is a))),
+        c .before .before .store .ensures ∙ ap (λ (l : List ℤ). overlayAt (x .row * 2) l (now (x .table))) (part-is _ _ (now (x .keys)) _ _ (first-is (a .before)) (count-is a)),
       ),
     )
 
@@ -143,8 +144,9 @@ lay-range-spec =
     part-store-start
     part-store-end
     store-requires
+    first-row-requires
     cast-ranges
-    mul-t20
+    mul-t18
     slice-set-from-ranges
     add-result
     same-length

@@ -27,8 +27,8 @@ returns : tie.Need-returns
 unfolding bytes
 returns c =
     let m = c .before .before in
-    let n = m .before .before .before .before .before in
-    bones-from _ _ _ _ _ _ _ _ _ (n .before .before .before .opened .ensures) (n .next-bone .ensures .0) (m .more-bones .ensures)
+    let n = m .before .before .before .before .before .before in
+    bones-from _ _ _ _ _ _ _ _ _ (n .before .before .before .before .opened .ensures) (n .next-bone .ensures .0) (m .more-bones .ensures)
 
 pub bones-spec : {M : Type 1} → statement M
 bones-spec =

@@ -20,7 +20,7 @@ use Rattle.tra4_bones.proofs.list.more_bones.Statement.{statement}
 use Rattle.tra4_bones.proofs.list.more_bones.Tie as tie
 
 abbrev Inv-loop : tie.InvT-loop
-Inv-loop text bone-rows₀ key-rows₀ d₀ count₀ keys₀ over₀ i₀ t14 bone-rows key-rows d count keys over i =
+Inv-loop text bone-rows₀ key-rows₀ scratch₀ d₀ count₀ keys₀ over₀ i₀ t15 bone-rows key-rows scratch d count keys over i =
     (from text d₀ (moreInto (count₀, kept over₀ bone-rows₀ keys₀ key-rows₀)) ≡ from text d (moreInto (count, kept over bone-rows keys key-rows)))
     × (length bone-rows ≡ length bone-rows₀)
     × (length key-rows ≡ length key-rows₀)
@@ -28,7 +28,7 @@ Inv-loop text bone-rows₀ key-rows₀ d₀ count₀ keys₀ over₀ i₀ t14 bo
     × (count + length (lexAt text (d .at)) ≤ 2 + length text)
 
 abbrev μ-loop : tie.MeasureT-loop
-μ-loop text bone-rows₀ key-rows₀ d₀ count₀ keys₀ over₀ i₀ t14 bone-rows key-rows d count keys over i =
+μ-loop text bone-rows₀ key-rows₀ scratch₀ d₀ count₀ keys₀ over₀ i₀ t15 bone-rows key-rows scratch d count keys over i =
     length (lexAt text (d .at))
 
 not-present : (v : Bool) → not v ≡ true → v ≡ false
@@ -46,13 +46,13 @@ abbrev After : Type 0
 After = tie.After-next-bone Inv-loop μ-loop
 
 -- a turn: the bones left are one fewer
-turn : (m : After) → from (now (m .before .before .before .before .before .before .before .before .before .before .before .before .before .args .text)) (m .before .before .before .before .before .before .before .before .before .before .loop .d) (moreInto (m .before .before .before .before .before .before .before .before .before .before .loop .count, kept (m .before .before .before .before .before .before .before .before .before .before .loop .over) (m .before .before .before .before .before .before .before .before .before .before .loop .bone-rows) (m .before .before .before .before .before .before .before .before .before .before .loop .keys) (m .before .before .before .before .before .before .before .before .before .before .loop .key-rows))) ≡ from (now (m .before .before .before .before .before .before .before .before .before .before .before .before .before .args .text)) (m .next-bone .result .cursor) (moreInto (m .next-bone .result .count, kept (m .next-bone .result .over) (m .next-bone .last .1 .1 .1 .0) (m .next-bone .result .keys) (m .next-bone .last .1 .1 .1 .1 .1 .0)))
+turn : (m : After) → from (now (m .before .before .before .before .before .before .before .before .before .before .before .before .before .before .args .text)) (m .before .before .before .before .before .before .before .before .before .before .before .loop .d) (moreInto (m .before .before .before .before .before .before .before .before .before .before .before .loop .count, kept (m .before .before .before .before .before .before .before .before .before .before .before .loop .over) (m .before .before .before .before .before .before .before .before .before .before .before .loop .bone-rows) (m .before .before .before .before .before .before .before .before .before .before .before .loop .keys) (m .before .before .before .before .before .before .before .before .before .before .before .loop .key-rows))) ≡ from (now (m .before .before .before .before .before .before .before .before .before .before .before .before .before .before .args .text)) (m .next-bone .result .cursor) (moreInto (m .next-bone .result .count, kept (m .next-bone .result .over) (m .next-bone .last .1 .1 .0) (m .next-bone .result .keys) (m .next-bone .last .1 .1 .1 .1 .0)))
 unfolding moreInto bytes
-turn m = repeats-more "bone" boneStep bone bone-keeps _ _ _ _ (m .before .before .before .before .before .before .before .before .optional .ensures) _ _ _ (m .next-bone .ensures .0) (present _ (m .before .before .before .before .before .if1 .left))
+turn m = repeats-more "bone" boneStep bone bone-keeps _ _ _ _ (m .before .before .before .before .before .before .before .before .before .optional .ensures) _ _ _ (m .next-bone .ensures .0) (present _ (m .before .before .before .before .before .before .if1 .left))
 
-falling : (m : After) → m .next-bone .result .cursor .refusal ≡ 0 → length (lexAt (now (m .before .before .before .before .before .before .before .before .before .before .before .before .before .args .text)) (m .next-bone .result .cursor .at)) < length (lexAt (now (m .before .before .before .before .before .before .before .before .before .before .before .before .before .args .text)) (m .before .before .before .before .before .before .before .before .before .before .loop .d .at))
+falling : (m : After) → m .next-bone .result .cursor .refusal ≡ 0 → length (lexAt (now (m .before .before .before .before .before .before .before .before .before .before .before .before .before .before .args .text)) (m .next-bone .result .cursor .at)) < length (lexAt (now (m .before .before .before .before .before .before .before .before .before .before .before .before .before .before .args .text)) (m .before .before .before .before .before .before .before .before .before .before .before .loop .d .at))
 unfolding bytes
-falling m o = repeats-fall "bone" boneStep bone bone-keeps _ _ _ _ (m .before .before .before .before .before .before .before .before .optional .ensures) _ (present _ (m .before .before .before .before .before .if1 .left)) _ _ (m .next-bone .ensures .0) o
+falling m o = repeats-fall "bone" boneStep bone bone-keeps _ _ _ _ (m .before .before .before .before .before .before .before .before .before .optional .ensures) _ (present _ (m .before .before .before .before .before .before .if1 .left)) _ _ (m .next-bone .ensures .0) o
 
 loop-holds : tie.Need-loop-holds Inv-loop μ-loop
 loop-holds c = let p = c .before .before .pre in (refl, refl, refl, rw p, rw p (omega (arith, lexAt-count (now (c .before .before .args .text)) (c .before .before .args .first .cursor .at))))
@@ -90,9 +90,9 @@ returns-2 c =
 next-bone-requires : tie.Need-next-bone-requires Inv-loop μ-loop
 unfolding bytes
 next-bone-requires c κs =
-    let n = c .before .before .before .before .before .before .before in
+    let n = c .before .before .before .before .before .before .before .before in
     let l = n .before .before .loop in
-    let two = start-falls "bone" boneStep bone bone-keeps (now (n .before .before .before .before .before .args .text)) (l .d) (n .optional .result .cursor) (n .optional .result .present) (n .optional .ensures) (l .count, kept (l .over) (l .bone-rows) (l .keys) (l .key-rows)) (present _ (c .before .before .before .before .if1 .left)) (c .before .before .if2 .left) in
+    let two = start-falls "bone" boneStep bone bone-keeps (now (n .before .before .before .before .before .args .text)) (l .d) (n .optional .result .cursor) (n .optional .result .present) (n .optional .ensures) (l .count, kept (l .over) (l .bone-rows) (l .keys) (l .key-rows)) (present _ (c .before .before .before .before .before .if1 .left)) (c .before .before .before .if2 .left) in
     let some = lexAt-some (now (n .before .before .before .before .before .args .text)) (n .optional .result .cursor .at) in
     (l .inv .3, omega arith)
 
@@ -105,7 +105,7 @@ same-length-6 c = search needs
 returns-3 : tie.Need-returns-3 Inv-loop μ-loop
 returns-3 c =
     let m = c .before .before .before .before .before in
-    passed _ _ _ _ (c .if3 .taken) ∙ sym (m .before .before .before .before .before .before .before .before .before .before .loop .inv .0 ∙ turn m)
+    passed _ _ _ _ (c .if3 .taken) ∙ sym (m .before .before .before .before .before .before .before .before .before .before .before .loop .inv .0 ∙ turn m)
 
 advance-requires : tie.Need-advance-requires Inv-loop μ-loop
 advance-requires c κs = search needs
@@ -116,13 +116,13 @@ loop-less c = falling (c .before .before .before .before .before .before) (c .be
 loop-again : tie.Need-loop-again Inv-loop μ-loop
 loop-again c =
     let m = c .before .before .before .before .before .before in
-    let l = m .before .before .before .before .before .before .before .before .before .before .loop in
+    let l = m .before .before .before .before .before .before .before .before .before .before .before .loop in
     let fewer = falling m (c .before .if3 .left) in
     let one = m .next-bone .ensures .1 in (
       l .inv .0 ∙ turn m,
-      m .next-bone .kept .1 .1 .1 .0 ∙ l .inv .1,
-      m .next-bone .kept .1 .1 .1 .1 .1 .0 ∙ l .inv .2,
-      rows-on (c .advance .result) (l .i) (l .count) _ _ _ (m .next-bone .kept .1 .1 .1 .0) one (l .inv .3) (c .advance .ensures),
+      m .next-bone .kept .1 .1 .0 ∙ l .inv .1,
+      m .next-bone .kept .1 .1 .1 .1 .0 ∙ l .inv .2,
+      rows-on (c .advance .result) (l .i) (l .count) _ _ _ (m .next-bone .kept .1 .1 .0) one (l .inv .3) (c .advance .ensures),
       omega arith,
     )
 

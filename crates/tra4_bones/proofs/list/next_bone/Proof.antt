@@ -19,8 +19,8 @@ same-length-2 c = search needs
 
 returns : tie.Need-returns
 returns c =
-    let b = c .before .before .before in
-    (next-step _ _ _ _ _ _ _ _ _ _ (b .before .before .before .before .pre .0) (b .bone-tail .ensures), refl)
+    let b = c .before .before .before .before in
+    (next-step _ _ _ _ _ _ _ _ _ _ (b .before .before .before .before .before .before .pre .0) (b .bone-tail .ensures .0), refl)
 
 pub next-bone-spec : {M : Type 1} → statement M
 next-bone-spec = tie.close (tie.spec bone-tail-requires add-t15 same-length same-length-2 returns)
