@@ -1,7 +1,7 @@
 -- Sample, Corner and Shown on the tables of taken texts, whatever is asked: the texts' own answer, and 21 exactly for what is not in the files; by cases on what exists.
 use mathlib.Core.Path.{_≡_, refl, ap, sym, _∙_}
 use mathlib.Core.List.{List}
-use mathlib.Core.Bool.{Bool, true, false, _&&_}
+use mathlib.Core.Bool.{Bool, true, false, and-false}
 use mathlib.Core.Option.{Option, none}
 use Prim.Native.Nat.{ℕ, _≤_, _<_}
 use borrow.Author.Tests.{ltb-true, ltb-false}
@@ -43,11 +43,7 @@ use Rattle.pair_bridge.specs.Playing.{framesOf, sampleAsked, cornerAsked
 
 not-below : (total : ℤ) (at : ℕ) → ltb at (natAbs total) ≡ false → isAsked total at ≡ false
 unfolding isAsked
-not-below total at h = rw h (go (isClear (totalFault total)))
-  where
-    go : (b : Bool) → (b && false) ≡ false
-    go true = refl
-    go false = refl
+not-below total at h = rw h (and-false (isClear (totalFault total)))
 
 -- ---- a movement
 

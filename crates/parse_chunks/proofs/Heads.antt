@@ -1,7 +1,7 @@
 -- The head of a chunk in a free order: what each token makes of it, and what a row that it gives says.
 use mathlib.Core.Path.{_≡_, refl, ap, sym, _∙_}
 use mathlib.Core.List.{List}
-use mathlib.Core.Bool.{Bool, true, false, _&&_}
+use mathlib.Core.Bool.{Bool, true, false, and-false}
 use Prim.Native.Nat.{ℕ, zero, suc, _≤_, _<_}
 use native.Mathlib.Omega.{arith}
 use borrow.Author.Tests.{lt-ltb, le-ltb, not-true}
@@ -25,10 +25,6 @@ use Rattle.parse_chunks.specs.Internal.Heads.{unmet, keyIn, openIn, head
 
 -- ---- a keyword whose flag is clear
 
-no-right : (b : Bool) → (b && false) ≡ false
-no-right true = refl
-no-right false = refl
-
 module _ (ws : List (List ℕ)) (seen : List Bool) (t : Token) where
   pub unmet-other : isPlain t ≡ false → unmet ws seen t ≡ false
   unfolding unmet
@@ -36,11 +32,11 @@ module _ (ws : List (List ℕ)) (seen : List Bool) (t : Token) where
 
   pub unmet-past : length seen ≤ indexIn t ws → unmet ws seen t ≡ false
   unfolding unmet
-  unmet-past h = rw (le-ltb (indexIn t ws) (length seen) h) (no-right (isPlain t))
+  unmet-past h = rw (le-ltb (indexIn t ws) (length seen) h) (and-false (isPlain t))
 
   pub unmet-set : getD seen (indexIn t ws) false ≡ true → unmet ws seen t ≡ false
   unfolding unmet
-  unmet-set e = rw (e, no-right (ltb (indexIn t ws) (length seen))) (no-right (isPlain t))
+  unmet-set e = rw (e, and-false (ltb (indexIn t ws) (length seen))) (and-false (isPlain t))
 
   pub unmet-yes : isPlain t ≡ true → indexIn t ws < length seen → getD seen (indexIn t ws) false ≡ false → unmet ws seen t ≡ true
   unfolding unmet

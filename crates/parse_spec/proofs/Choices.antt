@@ -1,14 +1,18 @@
 -- Laws of chunks in a free order: which kind a token picks, and what its chunk does to the fields.
-use mathlib.Core.Path.{_≡_, refl, sym}
+use mathlib.Core.Path.{_≡_, refl, ap, sym}
 use mathlib.Core.List.{List, [], _∷_}
-use mathlib.Core.Bool.{Bool, true, false}
+use mathlib.Core.Bool.{Bool, true, false, false≢true}
 use mathlib.Core.Option.{Option, none, some}
 use Prim.Native.Nat.{ℕ, zero, suc, _≤_, _<_}
 use Prim.Native.String.{String}
 use native.Mathlib.Omega.{arith}
+use borrow.Author.Tests.{eqb-true}
+use lib.Dec.{eqb}
 use lib.ListN.{length, getD, set}
 use Rattle.text_bytes.specs.Bytes.{bytes}
-use Rattle.text_tokens.specs.Tokens.{Lexeme, isKeyword}
+use Rattle.text_runs.specs.Runs.{same}
+use Rattle.text_tokens.specs.Tokens.{Token, opening, closing, ending, quoted, plain, Lexeme, isKeyword}
+use Rattle.text_numerals.proofs.Numerals.{and-true}
 use Rattle.parse_spec.specs.Readers.{Got, got, refused, Reader, after, _>>=_, _>>_, pure, stop, tokenOf, rest, take-if, open-bracket, oneFrom}
 use Rattle.text_kinds.specs.Kinds.{isOpening, isClosing}
 use Rattle.parse_spec.specs.Fields.{Kind, complete, kindFrom, fieldsIn}
@@ -24,6 +28,22 @@ pub after-after : {A B C : Type 0} (g : Got A) (f : A → Reader B) (h : B → R
 unfolding after
 after-after (got a ms) f h = refl
 after-after (refused n p) f h = refl
+
+-- a token that is a keyword
+same-true : (a b : List ℕ) → same a b ≡ true → a ≡ b
+unfolding same
+same-true [] [] e = refl
+same-true [] (y ∷ b) e = absurd (false≢true e)
+same-true (x ∷ a) [] e = absurd (false≢true e)
+same-true (x ∷ a) (y ∷ b) e = let p = and-true (eqb x y) (same a b) e in rw (eqb-true x y (p .0), same-true a b (p .1))
+
+pub keyword-is : (w : List ℕ) (t : Token) → isKeyword w t ≡ true → t ≡ plain w
+unfolding isKeyword
+keyword-is w opening e = absurd (false≢true e)
+keyword-is w closing e = absurd (false≢true e)
+keyword-is w ending e = absurd (false≢true e)
+keyword-is w (quoted bs) e = absurd (false≢true e)
+keyword-is w (plain bs) e = ap plain (same-true bs w e)
 
 -- a list of choices by its head and its tail
 head-of : (b c : Bool) (l m : List Bool) → b ∷ l ≡ c ∷ m → b ≡ c

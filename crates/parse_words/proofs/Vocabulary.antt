@@ -1,19 +1,19 @@
 -- Laws of lists of keywords: words by their runs, and the kind that a token picks.
 use mathlib.Core.Path.{_≡_, refl, ap, sym, _∙_}
 use mathlib.Core.List.{List, [], _∷_}
-use mathlib.Core.Bool.{Bool, true, false, not, false≢true}
+use mathlib.Core.Bool.{Bool, true, false, not}
 use Prim.Native.Nat.{ℕ, suc, _+_, _≤_, _<_}
 use native.Mathlib.Nat.{add-sub-cancel-left}
 use native.Mathlib.Omega.{arith}
-use borrow.Author.Tests.{not-true, eqb-true, leb-true, leb-false, ltb-true, ltb-false, lt-ltb, le-ltb}
+use borrow.Author.Tests.{not-true, leb-true, leb-false, ltb-true, ltb-false, lt-ltb, le-ltb}
 use Prim.Native.String.{String}
-use lib.Dec.{eqb, leb, ltb}
+use lib.Dec.{leb, ltb}
 use lib.ListN.{length, drop, length-drop}
 use lib.Seq.{drop-drop}
 use Rattle.text_bytes.specs.Bytes.{bytes, inWord}
 use Rattle.text_runs.specs.Runs.{same, run, part}
 use lib.IntN.{ℤ, pos}
-use Rattle.text_tokens.specs.Tokens.{Token, opening, closing, ending, quoted, plain, Lexeme, lexeme, isKeyword}
+use Rattle.text_tokens.specs.Tokens.{Token, plain, Lexeme, lexeme, isKeyword}
 use Rattle.text_tokens.specs.declared.token.Span.{Span}
 use Rattle.text_tokens.specs.Internal.Answers.{Next, lexemeOf}
 use Rattle.text_runs.proofs.Runs.{run-yes, run-no, run-take}
@@ -25,25 +25,10 @@ use Rattle.parse_cursor.specs.Internal.Cursors.{reads, from}
 use Rattle.parse_spec.specs.Fields.{Kind}
 use Rattle.parse_spec.specs.Internal.Fields.{hits, single}
 use Rattle.parse_words.specs.Internal.Words.{onto, words, indexIn, keysOf, differs, apart, among, wordIn}
-use Rattle.parse_spec.proofs.Choices.{after-stop, one-yes, one-no}
+use Rattle.parse_spec.proofs.Choices.{after-stop, keyword-is, one-yes, one-no}
 use Rattle.parse_cursor.proofs.Steps.{from-on, from-off, reads-on, next-token, next-stop, next-rest, live}
 
 -- ---- a token that is a keyword
-
-pub same-true : (a b : List ℕ) → same a b ≡ true → a ≡ b
-unfolding same
-same-true [] [] e = refl
-same-true [] (y ∷ b) e = absurd (false≢true e)
-same-true (x ∷ a) [] e = absurd (false≢true e)
-same-true (x ∷ a) (y ∷ b) e = let p = and-true (eqb x y) (same a b) e in rw (eqb-true x y (p .0), same-true a b (p .1))
-
-pub keyword-is : (w : List ℕ) (t : Token) → isKeyword w t ≡ true → t ≡ plain w
-unfolding isKeyword
-keyword-is w opening e = absurd (false≢true e)
-keyword-is w closing e = absurd (false≢true e)
-keyword-is w ending e = absurd (false≢true e)
-keyword-is w (quoted bs) e = absurd (false≢true e)
-keyword-is w (plain bs) e = ap plain (same-true bs w e)
 
 pub index-yes : (t : Token) (w : List ℕ) (ws : List (List ℕ)) → isKeyword w t ≡ true → indexIn t (w ∷ ws) ≡ 0
 unfolding indexIn

@@ -121,10 +121,9 @@ sample-lowest channel total (k ∷ ks) at e = from-lowest k ks at (frames-rise t
 
 -- ---- no keys
 
-pub sample-none : (channel : ℕ) (c : List Key) (at : ℕ) → length c ≡ 0 → sampleOf channel c at ≡ whole (standing channel)
+pub sample-none : (channel : ℕ) (c : List Key) (at : ℕ) → c ≡ [] → sampleOf channel c at ≡ whole (standing channel)
 unfolding sampleOf
-sample-none channel [] at e = refl
-sample-none channel (k ∷ ks) at e = absurd (omega arith)
+sample-none channel c at e = rw e
 
 -- as of a channel that is written out with one key of the pose's value
 pub sample-pose : (channel at : ℕ) → sampleOf channel ((pos 0 ∷ standing channel ∷ []) ∷ []) at ≡ sampleOf channel [] at

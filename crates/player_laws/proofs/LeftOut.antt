@@ -2,7 +2,7 @@
 use mathlib.Core.Path.{_≡_, refl, ap}
 use mathlib.Core.Logic.{_⊎_, inl, inr}
 use mathlib.Core.List.{List}
-use mathlib.Core.Bool.{true, false}
+use mathlib.Core.Bool.{true, false, and-false}
 use mathlib.Core.Option.{none, some}
 use Prim.Native.Nat.{ℕ, zero, suc, _+_, _<_}
 use borrow.Author.Tests.{lt-ltb, ne-eqb}
@@ -15,7 +15,6 @@ use Rattle.table_movement.specs.Sections.{holdsMovement}
 use Rattle.player_spec.specs.Fractions.{whole}
 use Rattle.player_spec.specs.Samples.{standing, sampleOf}
 use Rattle.player_spec.specs.Lookups.{onlyIf, isAsked, isRange, valuesFine, pairAt, channelKeys, canSample, sampleIn}
-use Rattle.player_samples.proofs.Passes.{both-false}
 
 other-no : (n : ℕ) (f : ℤ) → (f ≡ pos 0 → ⊥) → isRange n f (pos 0) ≡ false
 unfolding isRange
@@ -40,13 +39,13 @@ module _ (n : MovementCounts) (table : List ℤ) (bone channel at : ℕ) where
   abbrev count : ℤ
   count = numberAt table (pairAt n table bone channel + 1)
 
-  pub blank-sound : holdsMovement n table ≡ true → bone < n .bones → channel < 10 → isAsked (numberAt table 0) at ≡ true → (first ≡ pos 0) × (count ≡ pos 0) → sampleIn n table bone channel at ≡ some (whole (standing channel))
+  pub zeros-sound : holdsMovement n table ≡ true → bone < n .bones → channel < 10 → isAsked (numberAt table 0) at ≡ true → (first ≡ pos 0) × (count ≡ pos 0) → sampleIn n table bone channel at ≡ some (whole (standing channel))
   unfolding sampleIn canSample channelKeys rowsAt isRange channelFault isClear valuesFine sampleOf onlyIf
-  blank-sound held row known asked z = rw (held, lt-ltb _ _ row, lt-ltb _ _ known, asked, z .0, z .1)
+  zeros-sound held row known asked z = rw (held, lt-ltb _ _ row, lt-ltb _ _ known, asked, z .0, z .1)
 
   no-range : isRange (n .keys) first count ≡ false → sampleIn n table bone channel at ≡ none
   unfolding sampleIn canSample onlyIf
-  no-range h = rw (h, both-false _)
+  no-range h = rw (h, and-false _)
 
   pub other-row : (first ≡ pos 0 → ⊥) → count ≡ pos 0 → sampleIn n table bone channel at ≡ none
   other-row h e = no-range (rw e (other-no (n .keys) first h))

@@ -1,7 +1,7 @@
 -- One pass answers as the definition: none where a key is at fault, else the sample; by induction on the keys left.
 use mathlib.Core.Path.{_≡_, refl, ap, _∙_}
 use mathlib.Core.List.{List, [], _∷_}
-use mathlib.Core.Bool.{Bool, true, false, _&&_}
+use mathlib.Core.Bool.{Bool, true, false, _&&_, and-false}
 use mathlib.Core.Option.{Option, none, some}
 use Prim.Native.Nat.{ℕ, suc}
 use borrow.Author.Tests.{ltb-true, ltb-false, le-leb, lt-leb}
@@ -28,13 +28,9 @@ sound-late : (total : ℤ) (before : Option ℤ) (row : ℕ) (n : Key) (ks : Lis
 unfolding channelFault isClear
 sound-late total before row n ks e = rw (e, channelFault)
 
-pub both-false : (a : Bool) → (a && false) ≡ false
-both-false true = refl
-both-false false = refl
-
 sound-wide : (total : ℤ) (before : Option ℤ) (row : ℕ) (n : Key) (ks : List Key) → isFloat (keyValue n) ≡ false → sound total before row (n ∷ ks) ≡ false
 unfolding valuesFine keyValue
-sound-wide total before row n ks e = rw e (both-false (isClear (channelFault total before row (n ∷ ks))))
+sound-wide total before row n ks e = rw e (and-false (isClear (channelFault total before row (n ∷ ks))))
 
 -- what is known, as a sample
 known : Option Fraction → Key → List Key → ℕ → Fraction

@@ -1,7 +1,7 @@
 -- A pass over rows of a table: each turn is the next row, and the first is tested alone.
 use mathlib.Core.Path.{_≡_, refl, ap, sym, _∙_}
 use mathlib.Core.List.{List, [], _∷_}
-use mathlib.Core.Bool.{Bool, true, false, _&&_}
+use mathlib.Core.Bool.{Bool, true, false, _&&_, and-false}
 use mathlib.Core.Option.{Option, none, some}
 use Prim.Native.Nat.{ℕ, suc, _+_, _*_, _-_, _≤_, _<_}
 use native.Mathlib.Omega.{arith}
@@ -21,7 +21,6 @@ use Rattle.player_samples.specs.Internal.Passing.{keyOf, knownAs, stateO
 use Rattle.table_columns.proofs.Parts.{two-at}
 use Rattle.tra4_text.proofs.Zero.{zero-is}
 use Rattle.player_tests.proofs.Numbers.{float-size}
-use Rattle.player_samples.proofs.Passes.{both-false}
 
 -- ---- the rows left
 
@@ -39,7 +38,7 @@ first-fine (pos t) (pos n) v e h = go (eqb n 0) refl
   where
     go : (b : Bool) → eqb n 0 ≡ b → (leb 0 n && ltb n t && eqb n 0) ≡ eqb n 0
     go true o = rw (eqb-true n 0 o) (rw (lt-ltb 0 t h))
-    go false o = rw o (both-false (leb 0 n && ltb n t))
+    go false o = rw o (and-false (leb 0 n && ltb n t))
 
 not-fine : (r : Pass) → r .fine ≡ false → finished r ≡ none
 unfolding finished ifFine

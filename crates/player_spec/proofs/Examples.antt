@@ -74,23 +74,26 @@ pub roll-example : map (λ (at : ℕ). sampleIn moveCounts moves 0 9 at) (0 ∷ 
 unfolding inForm tooMany movementLists figureLists fewInMovement fewInFigure groupsBegin figureMosts isRow isNone sameNumber movementMosts tra4.totalFault tra4.isFrame tra4.isZero tra4.rises tra4.keyFine tra4.channelFault tra4.hasStart tra4.startFault tra4.patternFine tra4.patternsFault orElse firstBad frameOf groupOf factorIn factor signedAs lowest whole keyFrame keyValue line sampleFrom pose standing sampleOf inGroup inGroups groupedFaces allOwned lineFrame applies flagOf notAfter better decidingFrom deciding stateBy groupShown shownOf rowAt uvAt cornerOf numberAt numbersAt rowsAt isClear keysBegin patternsBegin movementEnd holdsMovement pointsBegin ownersBegin bonesBegin uvsBegin facesBegin figureEnd holdsFigure onlyIf isFloat allFloat isIndex isAsked isRange valuesFine pairAt channelKeys canSample sampleIn sizeFine cornersFine allNone faceAt ownerAt faceSound pointAt uvRow uvFine uvIn canCorner cornerIn ownersFine ownedCorners patternRows linesFine patternsFine canShow groupFlag shownIn
 roll-example = refl
 
--- a bone without channels, in a movement of one frame: the standing pose at frame 0, and no frame 1
+-- a bone without channels, in a movement of one frame: the standing pose at frame 0, and no frame 1. The pair of scale.x may be another, and a key may stand in the table
 abbrev still : ℤ → ℤ → List ℤ
-still first count = (pos 1 ∷ replicate 10 (pos 0)) ++ (first ∷ count ∷ replicate 12 (pos 0))
+still first count = (pos 1 ∷ replicate 10 (pos 0)) ++ (first ∷ count ∷ replicate 12 (pos 0)) ++ (pos 0 ∷ pos 7 ∷ [])
 
-abbrev stillCounts : MovementCounts
-stillCounts = record { bones = 1; keys = 0; patterns = 0 }
+abbrev stillCounts : ℕ → MovementCounts
+stillCounts keys = record { bones = 1; keys = keys; patterns = 0 }
 
 abbrev channels : List ℕ
 channels = 0 ∷ 1 ∷ 2 ∷ 3 ∷ 4 ∷ 5 ∷ 6 ∷ 7 ∷ 8 ∷ 9 ∷ []
 
--- the pair of scale.x is 0 and 0; or it is another, of which none is sound
+abbrev scaleBy : ℕ → List (ℤ × ℤ) → List (Option Fraction)
+scaleBy keys = map (λ (z : ℤ × ℤ). sampleIn (stillCounts keys) (still (z .0) (z .1)) 0 3 0)
+
 pub still-example :
-    (map (λ (c : ℕ). sampleIn stillCounts (still (pos 0) (pos 0)) 0 c 0) channels ≡ map (λ (v : ℕ). some (fraction (pos v) 1)) (0 ∷ 0 ∷ 0 ∷ 100000000 ∷ 100000000 ∷ 100000000 ∷ 0 ∷ 0 ∷ 1000000 ∷ 0 ∷ []))
-    × (map (λ (c : ℕ). sampleIn stillCounts (still (pos 0) (pos 0)) 0 c 1) channels ≡ replicate 10 none)
-    × (map (λ (z : ℤ × ℤ). sampleIn stillCounts (still (z .0) (z .1)) 0 3 0) ((pos 1, pos 0) ∷ (negsuc 0, pos 0) ∷ (pos 0, negsuc 0) ∷ (pos 0, pos 1) ∷ []) ≡ replicate 4 none)
+    (map (λ (c : ℕ). sampleIn (stillCounts 0) (still (pos 0) (pos 0)) 0 c 0) channels ≡ map (λ (v : ℕ). some (fraction (pos v) 1)) (0 ∷ 0 ∷ 0 ∷ 100000000 ∷ 100000000 ∷ 100000000 ∷ 0 ∷ 0 ∷ 1000000 ∷ 0 ∷ []))
+    × (map (λ (c : ℕ). sampleIn (stillCounts 0) (still (pos 0) (pos 0)) 0 c 1) channels ≡ replicate 10 none)
+    × (scaleBy 0 ((pos 1, pos 0) ∷ (negsuc 0, pos 0) ∷ (pos 0, negsuc 0) ∷ (pos 0, pos 1) ∷ []) ≡ replicate 4 none)
+    × (scaleBy 1 ((pos 0, pos 0) ∷ (pos 0, pos 1) ∷ (pos 1, pos 0) ∷ (pos 1, pos 1) ∷ []) ≡ some (fraction (pos 100000000) 1) ∷ some (fraction (pos 7) 1) ∷ none ∷ none ∷ [])
 unfolding inForm tooMany movementLists figureLists fewInMovement fewInFigure groupsBegin figureMosts isRow isNone sameNumber movementMosts tra4.totalFault tra4.isFrame tra4.isZero tra4.rises tra4.keyFine tra4.channelFault tra4.hasStart tra4.startFault tra4.patternFine tra4.patternsFault orElse firstBad frameOf groupOf factorIn factor signedAs lowest whole keyFrame keyValue line sampleFrom pose standing sampleOf inGroup inGroups groupedFaces allOwned lineFrame applies flagOf notAfter better decidingFrom deciding stateBy groupShown shownOf rowAt uvAt cornerOf numberAt numbersAt rowsAt isClear keysBegin patternsBegin movementEnd holdsMovement pointsBegin ownersBegin bonesBegin uvsBegin facesBegin figureEnd holdsFigure onlyIf isFloat allFloat isIndex isAsked isRange valuesFine pairAt channelKeys canSample sampleIn sizeFine cornersFine allNone faceAt ownerAt faceSound pointAt uvRow uvFine uvIn canCorner cornerIn ownersFine ownedCorners patternRows linesFine patternsFine canShow groupFlag shownIn
-still-example = (refl, refl, refl)
+still-example = (refl, refl, refl, refl)
 
 pub shown-example : map (λ (at : ℕ). shownIn figureCounts figure moveCounts moves 0 at) (0 ∷ 4 ∷ 5 ∷ []) ≡ some false ∷ some false ∷ none ∷ []
 unfolding inForm tooMany movementLists figureLists fewInMovement fewInFigure groupsBegin figureMosts isRow isNone sameNumber movementMosts tra4.totalFault tra4.isFrame tra4.isZero tra4.rises tra4.keyFine tra4.channelFault tra4.hasStart tra4.startFault tra4.patternFine tra4.patternsFault orElse firstBad frameOf groupOf factorIn factor signedAs lowest whole keyFrame keyValue line sampleFrom pose standing sampleOf inGroup inGroups groupedFaces allOwned lineFrame applies flagOf notAfter better decidingFrom deciding stateBy groupShown shownOf rowAt uvAt cornerOf numberAt numbersAt rowsAt isClear keysBegin patternsBegin movementEnd holdsMovement pointsBegin ownersBegin bonesBegin uvsBegin facesBegin figureEnd holdsFigure onlyIf isFloat allFloat isIndex isAsked isRange valuesFine pairAt channelKeys canSample sampleIn sizeFine cornersFine allNone faceAt ownerAt faceSound pointAt uvRow uvFine uvIn canCorner cornerIn ownersFine ownedCorners patternRows linesFine patternsFine canShow groupFlag shownIn

@@ -17,16 +17,16 @@ use Rattle.tra4_text.specs.Grammar.{channelNames}
 use Rattle.tra4_text.specs.Rules.{movementCounts}
 use Rattle.tra4_text.specs.Answer.{movementAnswer, movementTable}
 use Rattle.player_spec.specs.Fractions.{whole}
-use Rattle.player_spec.specs.Samples.{pose, standing, sampleOf}
+use Rattle.player_spec.specs.Samples.{pose, standing}
 use Rattle.player_spec.specs.Lookups.{sampleIn}
 use Rattle.player_spec.specs.Deciding.{deciding, stateBy}
 use Rattle.player_spec.specs.Faces.{allOwned, groupShown, shownOf}
 use Rattle.tra4_text.proofs.Patterns.{patterns-taken, startless, started}
 use Rattle.player_spec.proofs.Greatest.{deciding-greatest, unfallen}
 use Rattle.player_laws.proofs.Exchanged.{rule-exchanged, state-exchanged}
-use Rattle.tra4_text.proofs.LeftOut.{bone-ends, channel-kept, blank-range, laid-range}
-use Rattle.player_laws.proofs.Keys.{sample-pose}
-use Rattle.player_laws.proofs.LeftOut.{blank-sound, other-row, below-zero}
+use Rattle.tra4_text.proofs.LeftOut.{bone-ends, channel-read, bone-chunks, channel-kept, zero-range, laid-range}
+use Rattle.player_laws.proofs.Keys.{sample-none, sample-pose}
+use Rattle.player_laws.proofs.LeftOut.{zeros-sound, other-row, below-zero}
 use Rattle.movement_bridge.specs.Counts.{channelOf}
 use Rattle.movement_bridge.proofs.Sampling.{pair-none, sample-left-out}
 use Rattle.pair_bridge.specs.Playing.{framesOf}
@@ -73,10 +73,6 @@ pose-decimals : map (λ p. numberOf FLOAT (bytes (p .1))) standingPose ≡ map v
 unfolding bytes between isDigit run decimalFrom decimal signed notEmpty allDigits millionths floatOf numberFrom afterDigits unsigned negative unsignedPart fixedOf inMantissa mantissa withExponent numberOf pose
 pose-decimals = refl
 
-no-keys : (channel at : ℕ) → sampleOf channel [] at ≡ whole (standing channel)
-unfolding sampleOf
-no-keys channel at = refl
-
 left-out-sampled : (text : List ℕ) (table : List ℤ) (m : Movement) → movementAnswer text (length table) ≡ accepted m → (bone channel at : ℕ) → bone < length (m .bones) → channel < 10 → at < framesOf m → channelOf m bone channel ≡ [] → sampleIn (movementCounts m) (movementTable text table) bone channel at ≡ some (whole (standing channel))
 unfolding framesOf
 left-out-sampled = sample-left-out
@@ -85,16 +81,18 @@ pub left-out : LeftOut
 left-out =
     record {
       ends = bone-ends;
+      read = channel-read;
+      chunks = bone-chunks;
       kept = channel-kept;
-      blank = blank-range;
+      zeros = zero-range;
       laid = laid-range;
       keywords = pose-keywords;
       decimals = pose-decimals;
-      default = no-keys;
+      default = λ channel at. sample-none channel [] at refl;
       written = sample-pose;
       pair = pair-none;
       sampled = left-out-sampled;
-      blank-sound = blank-sound;
+      zeros-sound = zeros-sound;
       other-row = other-row;
       below-zero = below-zero;
     }

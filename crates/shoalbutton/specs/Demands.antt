@@ -99,7 +99,7 @@ pub record SampleLaws (channel : ℕ) (c : Channel) : Type 0 where
   pub on-key : (i : ℕ) → i < length c → sampleOf channel c (keyFrame (keyAt c i)) ≡ whole (keyValue (keyAt c i))
   pub between : (i at : ℕ) → suc i < length c → keyFrame (keyAt c i) ≤ at → at < keyFrame (keyAt c (suc i)) → Between (keyValue (keyAt c i)) (keyValue (keyAt c (suc i))) (sampleOf channel c at)
   pub past-last : (i at : ℕ) → suc i ≡ length c → keyFrame (keyAt c i) ≤ at → sampleOf channel c at ≡ whole (keyValue (keyAt c i))
-  pub left-out : (at : ℕ) → length c ≡ 0 → sampleOf channel c at ≡ whole (standing channel)
+  pub left-out : (at : ℕ) → c ≡ [] → sampleOf channel c at ≡ whole (standing channel)
   pub lowest : (at : ℕ) → LowestTerms (sampleOf channel c at)
 
 -- the two texts, and what the two lent tables held

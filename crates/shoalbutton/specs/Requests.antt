@@ -7,19 +7,20 @@ use mathlib.Core.Option.{Option, none, some}
 use Prim.Native.Nat.{ℕ, _+_, _<_}
 use Prim.Native.String.{String}
 use lib.IntN.{ℤ, pos, negsuc, natAbs}
-use lib.ListN.{length, getD}
+use lib.ListN.{length, getD, set}
 use Rattle.text_bytes.specs.Bytes.{bytes}
-use Rattle.text_tokens.specs.Tokens.{Lexeme}
+use Rattle.text_tokens.specs.Tokens.{Lexeme, isKeyword}
 use Rattle.text_kinds.specs.Kinds.{isClosing}
-use Rattle.parse_spec.specs.Readers.{got, tokenOf, rest}
-use Rattle.parse_spec.specs.Fields.{fieldsIn, fields}
+use Rattle.parse_spec.specs.Readers.{got, _>>=_, pure, tokenOf, rest, many⁺}
+use Rattle.parse_spec.specs.Fields.{kindFrom, fieldsIn, fields}
 use Rattle.refusal.specs.Faults.{clear, fault}
 use Rattle.refusal.specs.Outcomes.{accepted}
 use Rattle.refusal.specs.FirstBad.{all, firstBad}
 use Rattle.text_numerals.specs.Numbers.{value, wrong, INT, FLOAT, fixedOf, exponentOf, numberOf}
 use Rattle.text_numerals.specs.Exponents.{hasExponent, Power, Makes}
+use Rattle.tra4_text.specs.Movement as movements
 use Rattle.tra4_text.specs.Movement.{Key, Channel, Pattern, groupOf, Movement}
-use Rattle.tra4_text.specs.Grammar.{channelNames, channelKinds, keysIn}
+use Rattle.tra4_text.specs.Grammar.{key, channelNames, channelKinds, keysIn, bone}
 use Rattle.tra4_text.specs.Rules.{patternFine, hasStart, patternsFault, movementCounts}
 use Rattle.tra4_text.specs.Layout.{keyRanges}
 use Rattle.tra4_text.specs.Answer.{movementAnswer, movementTable}
@@ -88,17 +89,20 @@ standingPose =
     ∷ []
 
 -- a channel's pair, first key row and key count, is 0 and 0
-abbrev pub IsBlank : MovementCounts → List ℤ → ℕ → ℕ → Type 0
-IsBlank n table bone channel = (numberAt table (pairAt n table bone channel) ≡ pos 0) × (numberAt table (pairAt n table bone channel + 1) ≡ pos 0)
+abbrev pub ZeroPair : MovementCounts → List ℤ → ℕ → ℕ → Type 0
+ZeroPair n table bone channel = (numberAt table (pairAt n table bone channel) ≡ pos 0) × (numberAt table (pairAt n table bone channel + 1) ≡ pos 0)
 
--- `fields channelKinds` reads the chunks of a bone's channels: `none` for one that is left out
+-- `fields channelKinds` reads the chunks of a bone's channels, by `kindFrom` one at a time: `none` for one that is left out
 pub record LeftOut : Type 0 where
   -- a bone may end whatever channels have stood, and however few
   pub ends : (n : ℕ) (fs : List (Option Channel)) (ms : List Lexeme) → isClosing (tokenOf ms) ≡ true → fieldsIn n channelKinds fs ms ≡ got fs (rest ms)
-  -- one that stands has a key, whatever its value, so that a channel without keys is one that is left out
+  -- where the keyword of one that has not stood comes next, its keys are read into its own field, whatever their values
+  pub read : (channel : ℕ) (fs : List (Option Channel)) (ms : List Lexeme) → channel < 10 → length fs ≡ 10 → getD fs channel none ≡ none → isKeyword (bytes (getD channelNames channel "")) (tokenOf ms) ≡ true → kindFrom channelKinds fs ms ≡ (many⁺ key >>= λ c. pure (set fs channel (some c))) (rest ms)
+  -- a bone's channels are those of its chunks, and one that stands has a key: so a channel without keys is one that is left out
+  pub chunks : (ms ls : List Lexeme) (b : movements.Bone) → bone ms ≡ got b ls → (tokens : List Lexeme) × (fs : List (Option Channel)) × (fields channelKinds tokens ≡ got fs ls) × (b .channels ≡ map keysIn fs)
   pub kept : (ms ls : List Lexeme) (fs : List (Option Channel)) → fields channelKinds ms ≡ got fs ls → (channel : ℕ) → keysIn (getD fs channel none) ≡ [] ↔ getD fs channel none ≡ none
   -- in the table: 0 and 0, and the channels after it count on; of one with keys the row that they begin at, and how many they are
-  pub blank : (row : ℕ) (cs : List Channel) → keyRanges row ([] ∷ cs) ≡ pos 0 ∷ pos 0 ∷ keyRanges row cs
+  pub zeros : (row : ℕ) (cs : List Channel) → keyRanges row ([] ∷ cs) ≡ pos 0 ∷ pos 0 ∷ keyRanges row cs
   pub laid : (row : ℕ) (k : Key) (c : Channel) (cs : List Channel) → keyRanges row ((k ∷ c) ∷ cs) ≡ pos row ∷ pos (length (k ∷ c)) ∷ keyRanges (row + length (k ∷ c)) cs
   -- what it stands for: the decimal of its keyword, as FLOAT reads it, and the sample of a channel written out with one key of that value
   pub keywords : map (λ p. p .0) standingPose ≡ channelNames
@@ -106,9 +110,9 @@ pub record LeftOut : Type 0 where
   pub default : (channel at : ℕ) → sampleOf channel [] at ≡ whole (standing channel)
   pub written : (channel at : ℕ) → sampleOf channel ((pos 0 ∷ standing channel ∷ []) ∷ []) at ≡ sampleOf channel [] at
   -- of every text that is taken, whatever its table held: a channel is left out exactly where its pair is 0 and 0, and Sample then gives the default at each frame
-  pub pair : (text : List ℕ) (table : List ℤ) (m : Movement) → movementAnswer text (length table) ≡ accepted m → (bone channel : ℕ) → bone < length (m .bones) → channel < 10 → channelOf m bone channel ≡ [] ↔ IsBlank (movementCounts m) (movementTable text table) bone channel
+  pub pair : (text : List ℕ) (table : List ℤ) (m : Movement) → movementAnswer text (length table) ≡ accepted m → (bone channel : ℕ) → bone < length (m .bones) → channel < 10 → channelOf m bone channel ≡ [] ↔ ZeroPair (movementCounts m) (movementTable text table) bone channel
   pub sampled : (text : List ℕ) (table : List ℤ) (m : Movement) → movementAnswer text (length table) ≡ accepted m → (bone channel at : ℕ) → bone < length (m .bones) → channel < 10 → at < framesOf m → channelOf m bone channel ≡ [] → sampleIn (movementCounts m) (movementTable text table) bone channel at ≡ some (whole (standing channel))
   -- of any table: the pair 0 and 0 is sound, and with count 0 no other; a number below 0 is not
-  pub blank-sound : (n : MovementCounts) (table : List ℤ) (bone channel at : ℕ) → holdsMovement n table ≡ true → bone < n .bones → channel < 10 → isAsked (numberAt table 0) at ≡ true → IsBlank n table bone channel → sampleIn n table bone channel at ≡ some (whole (standing channel))
+  pub zeros-sound : (n : MovementCounts) (table : List ℤ) (bone channel at : ℕ) → holdsMovement n table ≡ true → bone < n .bones → channel < 10 → isAsked (numberAt table 0) at ≡ true → ZeroPair n table bone channel → sampleIn n table bone channel at ≡ some (whole (standing channel))
   pub other-row : (n : MovementCounts) (table : List ℤ) (bone channel at : ℕ) → (numberAt table (pairAt n table bone channel) ≡ pos 0 → ⊥) → numberAt table (pairAt n table bone channel + 1) ≡ pos 0 → sampleIn n table bone channel at ≡ none
   pub below-zero : (n : MovementCounts) (table : List ℤ) (bone channel at z : ℕ) → (numberAt table (pairAt n table bone channel) ≡ negsuc z) ⊎ (numberAt table (pairAt n table bone channel + 1) ≡ negsuc z) → sampleIn n table bone channel at ≡ none

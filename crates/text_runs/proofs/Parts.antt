@@ -1,7 +1,7 @@
 -- Laws of a part of a text, and of the comparison of two lists of bytes, by induction on the lists.
 use mathlib.Core.Path.{_≡_, refl, ap, sym, _∙_}
 use mathlib.Core.List.{List, [], _∷_, _++_}
-use mathlib.Core.Bool.{Bool, true, false, _&&_}
+use mathlib.Core.Bool.{true, false, _&&_, and-false}
 use Prim.Native.Nat.{ℕ, suc, _+_, _-_, _≤_, _<_}
 use native.Mathlib.Nat.{sub-eq-zero-of-le}
 use native.Mathlib.Omega.{arith}
@@ -32,10 +32,6 @@ same-lengths [] [] h = absurd (h refl)
 same-lengths [] (y ∷ b) h = refl
 same-lengths (x ∷ a) [] h = refl
 same-lengths (x ∷ a) (y ∷ b) h = rw (same-lengths a b (λ e. h (ap suc e))) (and-false (eqb x y))
-  where
-    and-false : (t : Bool) → (t && false) ≡ false
-    and-false true = refl
-    and-false false = refl
 
 pub same-refl : (a b : List ℕ) → a ≡ b → same a b ≡ true
 unfolding same

@@ -1,19 +1,16 @@
 -- How many keys the channels have that have been read, and how wide the keys are: by list induction, and by what the readers give.
-use mathlib.Core.Path.{_≡_, refl, _∙_}
+use mathlib.Core.Path.{_≡_, _∙_}
 use mathlib.Core.List.{List, [], _∷_, map}
 use mathlib.Core.Option.{Option, none, some}
 use Prim.Native.Nat.{ℕ, zero, suc, _+_, _*_, _<_}
-use Prim.Native.String.{String}
 use native.Mathlib.Omega.{arith}
 use lib.ListN.{length, getD, set, length-append}
 use Rattle.parse_spec.specs.Readers.{many⁺}
-use Rattle.parse_spec.specs.Fields.{kind}
-use Rattle.parse_spec.specs.Internal.Fields.{insideAt}
 use Rattle.table_rows.specs.Flat.{flat}
 use Rattle.parse_spec.proofs.Given.{GivesOn, AnyToken, gives-as}
 use Rattle.parse_rows.proofs.Widths.{Wide, flat-length}
 use Rattle.tra4_text.specs.Movement.{Channel}
-use Rattle.tra4_text.specs.Grammar.{key, channel, channelNames, channelKinds, keysIn}
+use Rattle.tra4_text.specs.Grammar.{key, keysIn}
 use Rattle.tra4_text.specs.Rules.{allKeys}
 use Rattle.tra4_text.proofs.Whole.{channel-gives}
 use Rattle.tra4_channels.specs.Internal.Held.{keysRead}
@@ -28,18 +25,6 @@ keys-give = gives-as channel-gives (λ _ c. c .whole .wide)
 
 pub flat-pairs : (c : Channel) → Pairs c → length (flat c) ≡ length c * 2
 flat-pairs c h = flat-length 2 c h
-
--- ---- what stands in any channel's chunk
-
-inside-named : (ns : List String) (k : ℕ) → k < length ns → insideAt (map channel ns) k ≡ many⁺ key
-unfolding insideAt channel kind
-inside-named [] k h = absurd (omega arith)
-inside-named (n ∷ ns) zero h = refl
-inside-named (n ∷ ns) (suc k) h = inside-named ns k (omega arith)
-
-pub inside-is : (k : ℕ) → k < 10 → insideAt channelKinds k ≡ many⁺ key
-unfolding channelKinds channelNames
-inside-is k h = inside-named channelNames k h
 
 -- ---- the count
 

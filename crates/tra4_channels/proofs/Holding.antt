@@ -18,6 +18,9 @@ use Rattle.tra4_text.specs.Grammar.{keysIn}
 use Rattle.tra4_channels.specs.Internal.Held.{keysRead, Stored, Held}
 use Rattle.tra4_channels.proofs.Counts.{Pairs, flat-pairs, keys-set}
 
+none-some : {A : Type 0} (a : A) → none ≡ some a → ⊥
+none-some a e = let z : _≡_ {A = ℕ} 0 1 = cc in omega arith
+
 -- a channel's keys and range are as they were
 stored-still : (keys : List ℤ) (n m : ℕ) (zs : List ℤ) (f g f′ g′ : ℤ) (c : Channel) → f′ ≡ f → g′ ≡ g → n ≤ m → Stored keys n f g c → Stored (overlayAt (n * 2) zs keys) m f′ g′ c
 stored-still keys n m zs f g f′ g′ c p q h s =
@@ -48,6 +51,14 @@ module _ (fs : List (Option Channel)) (ranges keys : List ℤ) (n : ℕ) (over :
   ten-still : length (set fs k (some c)) ≡ 10
   ten-still = length-set fs k (some c) ∙ h .ten
 
+  -- of the channels that have not been read now it is none
+  other-none : (j : ℕ) → getD (set fs k (some c)) j none ≡ none → (j ≡ k → ⊥) × (getD fs j none ≡ none)
+  other-none j e = go (eqb j k) refl
+    where
+      go : (v : Bool) → eqb j k ≡ v → (j ≡ k → ⊥) × (getD fs j none ≡ none)
+      go true q = absurd (none-some c (sym e ∙ ap (λ (i : ℕ). getD (set fs k (some c)) i none) (eqb-true j k q) ∙ getD-set-same fs k (some c) none here))
+      go false q = let other = eqb-false j k q in (other, sym (getD-set-other fs k j (some c) none other) ∙ e)
+
   counted-more : keysRead (set fs k (some c)) ≡ keysRead fs + length c
   counted-more = keys-set fs k c here u
 
@@ -62,6 +73,7 @@ module _ (fs : List (Option Channel)) (ranges keys : List ℤ) (n : ℕ) (over :
         counted = λ e. absurd (true≢false e);
         many = λ e. rw counted-more m;
         stored = λ e. absurd (true≢false e);
+        zeros = λ j l e. h .zeros j l (other-none j e .1);
       }
 
   -- the table with the keys, and how many they are
@@ -88,6 +100,7 @@ module _ (fs : List (Option Channel)) (ranges keys : List ℤ) (n : ℕ) (over :
           counted = λ _. counted-more ∙ ap (λ (x : ℕ). x + length c) (h .counted e);
           many = λ x. absurd (false≢true x);
           stored = λ _ j l. go j l (eqb j k) refl;
+          zeros = λ j l e. left j l (other-none j e);
         }
       where
         first : getD ranges′ (k * 2) (pos 0) ≡ pos n
@@ -98,6 +111,11 @@ module _ (fs : List (Option Channel)) (ranges keys : List ℤ) (n : ℕ) (over :
 
         others : (i : ℕ) → (i ≡ k * 2 → ⊥) → (i ≡ k * 2 + 1 → ⊥) → getD ranges′ i (pos 0) ≡ getD ranges i (pos 0)
         others i p q = getD-set-other (set ranges (k * 2) (pos n)) (k * 2 + 1) i (pos (length c)) (pos 0) q ∙ getD-set-other ranges (k * 2) i (pos n) (pos 0) p
+
+        left : (j : ℕ) → j < 10 → (j ≡ k → ⊥) × (getD fs j none ≡ none) → (getD ranges′ (j * 2) (pos 0) ≡ pos 0) × (getD ranges′ (j * 2 + 1) (pos 0) ≡ pos 0)
+        left j l n =
+            let z = h .zeros j l (n .1) in
+            (others (j * 2) (λ q. n .0 (omega arith)) (λ q. omega arith) ∙ z .0, others (j * 2 + 1) (λ q. omega arith) (λ q. n .0 (omega arith)) ∙ z .1)
 
         go : (j : ℕ) → j < 10 → (v : Bool) → eqb j k ≡ v → Stored (overlayAt (n * 2) (flat c) keys) (n + length c) (getD ranges′ (j * 2) (pos 0)) (getD ranges′ (j * 2 + 1) (pos 0)) (keysIn (getD (set fs k (some c)) j none))
         go j l true q = rw (eqb-true j k q, getD-set-same fs k (some c) none here) (stored-new keys n c _ _ first count w (omega (arith, h .room, h .most)))

@@ -22,8 +22,9 @@ use Rattle.parse_cursor.proofs.Counts.{alive}
 use Rattle.table_rows.proofs.Tables.{overlayAt-cons, overlayAt-none}
 use Rattle.tra4_text.specs.Movement.{Channel}
 use Rattle.tra4_text.specs.Grammar.{key, channelKinds}
+use Rattle.tra4_text.proofs.LeftOut.{inside-is}
 use Rattle.tra4_channels.specs.Internal.Held.{KeysRead}
-use Rattle.tra4_channels.proofs.Counts.{Pairs, keys-give, inside-is}
+use Rattle.tra4_channels.proofs.Counts.{Pairs, keys-give}
 use Rattle.tra4_channels.proofs.Holding.{held-over, held-many, held-more}
 
 overlayAt-pair : (i : ℕ) (x y : ℤ) (t : List ℤ) → overlayAt i (x ∷ y ∷ []) t ≡ set (set t i x) (i + 1) y

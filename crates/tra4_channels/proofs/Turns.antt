@@ -67,8 +67,12 @@ held-none ranges keys z r =
       most = omega arith;
       counted = λ _. none-read;
       many = λ x. absurd (false≢true x);
-      stored = λ _ k l. none-stored keys (getD (replicate 10 none) k none) _ _ (getD-replicate 10 k none none l) (rw z (getD-replicate 20 (k * 2) (pos 0) (pos 0) (omega arith))) (rw z (getD-replicate 20 (k * 2 + 1) (pos 0) (pos 0) (omega arith)));
+      stored = λ _ k l. none-stored keys (getD (replicate 10 none) k none) _ _ (getD-replicate 10 k none none l) (zero-pair k l .0) (zero-pair k l .1);
+      zeros = λ k l _. zero-pair k l;
     }
+  where
+    zero-pair : (k : ℕ) → k < 10 → (getD ranges (k * 2) (pos 0) ≡ pos 0) × (getD ranges (k * 2 + 1) (pos 0) ≡ pos 0)
+    zero-pair k l = rw z (getD-replicate 20 (k * 2) (pos 0) (pos 0) (omega arith), getD-replicate 20 (k * 2 + 1) (pos 0) (pos 0) (omega arith))
 
 -- ---- between two chunks
 

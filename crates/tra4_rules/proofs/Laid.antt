@@ -76,7 +76,7 @@ unfolding rowCounts boneRows channelsOf
 rows-counts row [] = refl
 rows-counts row (b ∷ bs) = rw (bone-row-counts row b, rows-counts (row + length (allKeys (b .channels))) bs) (sym (map-append length (b .channels) (channelsOf bs)))
 
--- every bone has its ten channels
+-- every bone has ten lists of keys
 abbrev pub Tenfold : List Bone → Type 0
 Tenfold bs = Every (λ b. length (b .channels) ≡ 10) bs
 

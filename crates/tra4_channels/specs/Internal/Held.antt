@@ -27,7 +27,8 @@ pub record Stored (keys : List ℤ) (n : ℕ) (first count : ℤ) (c : Channel) 
   pub below : row + length c ≤ n
   pub content : take (length c * 2) (drop (row * 2) keys) ≡ flat c
 
--- the channels that have been read: how many keys they have, and each channel's, none of one that has not been read, standing in the table; or there are too many
+-- the channels that have been read: how many keys they have, and each channel's, none of one that has not been read, standing in the table; or there are too many.
+-- The pair of one that has not been read is 0 and 0.
 pub record Held (fs : List (Option Channel)) (ranges keys : List ℤ) (n : ℕ) (over : Bool) : Type 0 where
   pub ten : length fs ≡ 10
   pub width : length ranges ≡ 20
@@ -36,6 +37,7 @@ pub record Held (fs : List (Option Channel)) (ranges keys : List ℤ) (n : ℕ) 
   pub counted : over ≡ false → keysRead fs ≡ n
   pub many : over ≡ true → 4096 < keysRead fs
   pub stored : over ≡ false → (k : ℕ) → k < 10 → Stored keys n (getD ranges (k * 2) (pos 0)) (getD ranges (k * 2 + 1) (pos 0)) (keysIn (getD fs k none))
+  pub zeros : (k : ℕ) → k < 10 → getD fs k none ≡ none → (getD ranges (k * 2) (pos 0) ≡ pos 0) × (getD ranges (k * 2 + 1) (pos 0) ≡ pos 0)
 
 -- the keys of channel k, which has not been read, whatever other channels the code's state stands for
 abbrev pub KeysRead : List ℕ → Cursor → ℕ → List ℤ × List ℤ × ℕ × Bool → Cursor → List ℤ × List ℤ × ℕ × Bool → Type 0
