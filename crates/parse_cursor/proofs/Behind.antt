@@ -10,15 +10,12 @@ use Rattle.parse_cursor.specs.declared.cursor.Cursor.{Cursor}
 use Rattle.parse_spec.specs.Readers.{Got, got, refused, Reader, after, pure}
 use Rattle.parse_cursor.specs.Internal.Cursors.{reads}
 use Rattle.parse_cursor.proofs.Steps.{from-off, reads-on}
-use Rattle.parse_spec.proofs.Many.{not-got, got-value}
+use Rattle.parse_spec.proofs.Many.{not-got, got-value, got-left}
 use Rattle.parse_spec.proofs.Given.{GivesOn, AnyToken, free}
 
 -- what holds of each value that a reader gives
 pub given : {A : Type 0} {P : A → Type 0} {s : Reader A} → GivesOn AnyToken P s → (text : List ℕ) (r : Cursor) (ms : List Lexeme) (a : A) → reads text r a ≡ s ms → r .refusal ≡ 0 → P a
 given h text r ms a e o = free h ms a _ (sym e ∙ reads-on text r a o)
-
-got-left : {A : Type 0} (a b : A) (l k : List Lexeme) → got a l ≡ got b k → l ≡ k
-got-left a b l k e = cc
 
 refused-as : {A B : Type 0} (n p m q : ℕ) → _≡_ {A = Got B} (refused n p) (refused m q) → _≡_ {A = Got A} (refused n p) (refused m q)
 refused-as n p m q e =

@@ -33,6 +33,9 @@ not-got n p a l e = let z : _≡_ {A = ℕ} 0 1 = cc in omega arith
 pub got-value : {A : Type 0} (a b : A) (l k : List Lexeme) → got a l ≡ got b k → a ≡ b
 got-value a b l k e = cc
 
+pub got-left : {A : Type 0} (a b : A) (l k : List Lexeme) → got a l ≡ got b k → l ≡ k
+got-left a b l k e = cc
+
 pub got-rest : {A : Type 0} (a b : A) (l k : List Lexeme) → got a l ≡ got b k → length k ≡ length l
 got-rest a b l k e = let h : k ≡ l = cc in ap length h
 

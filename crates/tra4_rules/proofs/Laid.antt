@@ -3,7 +3,7 @@
 use mathlib.Core.Path.{_≡_, refl, ap, sym, _∙_}
 use mathlib.Core.List.{List, [], _∷_, _++_, map, map-append, append-assoc, append-nil}
 use mathlib.Core.Bool.{Bool, true, false}
-use Prim.Native.Nat.{ℕ, suc, _+_, _-_, _*_, _<_}
+use Prim.Native.Nat.{ℕ, _+_, _-_, _*_, _<_}
 use native.Mathlib.Nat.{zero-add, suc-add, add-zero}
 use native.Mathlib.Omega.{arith}
 use lib.Dec.{leb}
@@ -18,6 +18,7 @@ use Rattle.tra4_text.specs.Movement.{Key, Channel, Bone, Movement}
 use Rattle.tra4_text.specs.Layout.{nameNumbers, keyRanges, boneRow, boneRows}
 use Rattle.refusal.specs.Rules.{tooMany}
 use Rattle.tra4_text.specs.Rules.{channelsOf, allKeys, keyRows, countsOf, movementCounts, movementFault}
+use Rattle.tra4_text.proofs.Layouts.{ranges-length, rows-count}
 use Rattle.tra4_keys.specs.Internal.Rows.{wholeRows}
 use Rattle.table_columns.specs.Parts.{rowsOf}
 use Rattle.tra4_keys.specs.Internal.Keys.{countOf, pairCounts, boneCounts, rowCounts, keyCounts, cut, channelsIn}
@@ -80,11 +81,6 @@ rows-counts row (b ∷ bs) = rw (bone-row-counts row b, rows-counts (row + lengt
 abbrev pub Tenfold : List Bone → Type 0
 Tenfold bs = Every (λ b. length (b .channels) ≡ 10) bs
 
-ranges-length : (row : ℕ) (cs : List Channel) → length (keyRanges row cs) ≡ length cs * 2
-unfolding keyRanges
-ranges-length row [] = omega arith
-ranges-length row (c ∷ cs) = let e = ranges-length (row + length c) cs in omega arith
-
 bones-wide : (row : ℕ) (bs : List Bone) → Tenfold bs → Wide 22 (boneRows row bs)
 unfolding boneRows
 bones-wide row [] h = tt
@@ -93,14 +89,9 @@ bones-wide row (b ∷ bs) h = (wide, bones-wide (row + length (allKeys (b .chann
     wide : length (boneRow row b) ≡ 22
     wide = unfold boneRow nameNumbers in let e = ranges-length row (b .channels) in let t = h .0 in omega arith
 
-bones-length : (row : ℕ) (bs : List Bone) → length (boneRows row bs) ≡ length bs
-unfolding boneRows
-bones-length row [] = refl
-bones-length row (b ∷ bs) = ap suc (bones-length (row + length (allKeys (b .channels))) bs)
-
 pub counts-laid : (bs : List Bone) (rest : List ℤ) → Tenfold bs → keyCounts (length bs) (flat (boneRows 0 bs) ++ rest) ≡ map length (channelsOf bs)
 unfolding keyCounts
-counts-laid bs rest h = rw (← bones-length 0 bs, rows-laid 22 (boneRows 0 bs) rest (bones-wide 0 bs h)) (rows-counts 0 bs)
+counts-laid bs rest h = rw (← rows-count 0 bs, rows-laid 22 (boneRows 0 bs) rest (bones-wide 0 bs h)) (rows-counts 0 bs)
 
 -- ---- channels
 

@@ -31,7 +31,7 @@ all-wide (b ∷ bs) h = rw (keys-append (b .channels) (channelsOf bs)) (wide-app
 
 -- ---- the rows of bones
 
-ranges-length : (row : ℕ) (cs : List Channel) → length (keyRanges row cs) ≡ length cs * 2
+pub ranges-length : (row : ℕ) (cs : List Channel) → length (keyRanges row cs) ≡ length cs * 2
 unfolding keyRanges
 ranges-length row [] = refl
 ranges-length row (c ∷ cs) = omega (arith, ranges-length (row + length c) cs)

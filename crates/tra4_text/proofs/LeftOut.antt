@@ -21,7 +21,7 @@ use Rattle.parse_spec.specs.Internal.Fields.{hits, single, insideAt}
 use Rattle.parse_spec.proofs.Choices.{keyword-is, kind-hit, fields-close}
 use Rattle.parse_spec.proofs.Given.{before, free}
 use Rattle.parse_spec.proofs.FieldFits.{AllFit}
-use Rattle.parse_spec.proofs.Many.{got-value}
+use Rattle.parse_spec.proofs.Many.{got-value, got-left}
 use Rattle.tra4_text.specs.Movement.{Key, Channel, Bone}
 use Rattle.tra4_text.specs.Grammar.{key, channel, channelNames, channelKinds, keysIn, bone}
 use Rattle.tra4_text.specs.Layout.{firstRow, keyRanges}
@@ -80,9 +80,6 @@ unfolding channelKinds channelNames
 channel-read k fs ms h l u e =
     kind-hit ms channelKinds fs 10 k h l u (ap (hits channelKinds) (keyword-is (keyword k) (tokenOf ms) e) ∙ one-picked k h)
     ∙ ap (λ (r : Reader Channel). (r >>= λ c. pure (set fs k (some c))) (rest ms)) (inside-is k h)
-
-got-left : {A : Type 0} (a b : A) (l k : List Lexeme) → got a l ≡ got b k → l ≡ k
-got-left a b l k e = cc
 
 -- a bone's channels are those of its chunks
 pub bone-chunks : (ms ls : List Lexeme) (b : Bone) → bone ms ≡ got b ls → (tokens : List Lexeme) × (fs : List (Option Channel)) × (fields channelKinds tokens ≡ got fs ls) × (b .channels ≡ map keysIn fs)
