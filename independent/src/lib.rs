@@ -18,5 +18,6 @@ pub mod number;
 pub mod pair;
 pub mod play;
 pub mod refusal;
+pub mod steps;
 pub mod subject;
 pub mod token;

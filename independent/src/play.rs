@@ -13,8 +13,9 @@ pub struct Fraction {
 }
 
 impl Fraction {
-    /// Brings a fraction to lowest terms; `denominator` is above 0.
-    fn reduced(numerator: i64, denominator: i64) -> Fraction {
+    /// Brings a fraction to lowest terms; `denominator` is above 0. It is by
+    /// remainders, so that `steps` has another way to be compared with.
+    pub fn reduced(numerator: i64, denominator: i64) -> Fraction {
         let (mut factor, mut rest) = (denominator, numerator.abs() % denominator);
         while rest != 0 {
             (factor, rest) = (rest, factor % rest);
@@ -45,23 +46,44 @@ fn is_frame(movement: &Movement, frame: i64) -> bool {
     0 <= frame && frame < movement.total_frames
 }
 
+/// A channel's value at a frame, not yet in lowest terms.
+#[derive(Clone, Copy, Debug, PartialEq, Eq)]
+pub enum Unreduced {
+    /// From the last key on, or where the channel is left out.
+    Whole(i64),
+    /// Before the last key: `sum` over the frames from the key that is not
+    /// after the frame to the next one.
+    Between { sum: i64, gap: i64 },
+}
+
 /// A channel's value at a frame; one that is left out has its default at all.
-pub fn sample(movement: &Movement, bone: i64, channel: i64, frame: i64) -> Option<Fraction> {
+pub fn unreduced(movement: &Movement, bone: i64, channel: i64, frame: i64) -> Option<Unreduced> {
     let keys = row(&row(&movement.bones, bone)?.channels, channel)?;
     if !is_frame(movement, frame) {
         return None;
     }
     if keys.is_empty() {
-        return Some(Fraction::reduced(*row(&DEFAULTS, channel)?, 1));
+        return Some(Unreduced::Whole(*row(&DEFAULTS, channel)?));
     }
     let before = keys.iter().rev().find(|key| key.frame <= frame)?;
     let after = keys.iter().find(|key| key.frame > frame);
-    let Some(after) = after else {
-        return Some(Fraction::reduced(before.value, 1));
-    };
-    let step = after.frame - before.frame;
-    let numerator = before.value * step + (after.value - before.value) * (frame - before.frame);
-    Some(Fraction::reduced(numerator, step))
+    Some(match after {
+        Some(after) => {
+            let gap = after.frame - before.frame;
+            let rise = (after.value - before.value) * (frame - before.frame);
+            let sum = before.value * gap + rise;
+            Unreduced::Between { sum, gap }
+        }
+        None => Unreduced::Whole(before.value),
+    })
+}
+
+/// The same in lowest terms.
+pub fn sample(movement: &Movement, bone: i64, channel: i64, frame: i64) -> Option<Fraction> {
+    Some(match unreduced(movement, bone, channel, frame)? {
+        Unreduced::Whole(value) => Fraction::reduced(value, 1),
+        Unreduced::Between { sum, gap } => Fraction::reduced(sum, gap),
+    })
 }
 
 /// The bone whose `vertexIndices` name a point, -1 if none.

@@ -262,6 +262,28 @@ fn a_wrong_default_differs() {
     agrees(&["--play", &program, "samples-movements"]);
 }
 
+/// A player that forgets, between keys, the twos that a sum and its gap share.
+#[test]
+fn twos_left_differ() {
+    let program = wrong("twos_left");
+    let report = differs("twos", &["--play", &program, "sound-movements", "1", "60"]);
+    let fraction = |word: &str| {
+        let line = report.lines().find(|line| line.starts_with(word)).unwrap();
+        let line = line.strip_suffix("\\n").unwrap();
+        let mut numbers = line.rsplit("\\t").map(|number| number.parse().unwrap());
+        let denominator: i64 = numbers.next().unwrap();
+        (numbers.next().unwrap(), denominator)
+    };
+    let (lowest, found): ((i64, i64), _) = (fraction("expected: "), fraction("found: "));
+    let factor = found.1 / lowest.1;
+    assert!(factor > 1 && factor.count_ones() == 1, "{report}");
+    assert_eq!(found, (factor * lowest.0, factor * lowest.1));
+    // Of 0 over 4 frames both are halved twice.
+    let report = differs("twos", &["--play", &program, "samples-movements"]);
+    let line = "\nfound:    sample\\t0\\t6\\t1\\t0\\t4\\n\n";
+    assert!(report.contains(line), "{report}");
+}
+
 /// Corners without their owners.
 #[test]
 fn wrong_corners_differ() {

@@ -2,6 +2,7 @@
 
 pub mod bone_damage;
 pub mod bytes;
+pub mod far_keys;
 pub mod figure;
 pub mod figure_damage;
 pub mod figure_limits;

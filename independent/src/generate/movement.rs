@@ -1,5 +1,6 @@
 //! Movements to write: their lists, sound ones, and their pieces.
 
+use super::far_keys::far_keys;
 use super::number;
 use super::piece::{any_name, Piece, Writer};
 use super::render::{any_style, render, Style};
@@ -45,12 +46,14 @@ pub const CHANNELS: [&str; 10] = [
     "roll",
 ];
 
-/// A sound movement: most are small, some have lists at their most.
+/// A sound movement: most are small, some have lists at their most, and some
+/// have keys far apart.
 pub fn sound(rng: &mut Rng) -> Movement {
-    if rng.once_in(40) {
-        return at_limits(rng, 0);
+    match rng.below(40) {
+        0 => at_limits(rng, 0),
+        1 => far_keys(rng),
+        _ => small(rng),
     }
-    small(rng)
 }
 
 pub fn small(rng: &mut Rng) -> Movement {
@@ -60,6 +63,11 @@ pub fn small(rng: &mut Rng) -> Movement {
         16..=19 => (rng.between(1, 2_000), 1),
         _ => (rng.between(1, 40), 1 + rng.below(4)),
     };
+    of_size(rng, total_frames, bones)
+}
+
+/// A movement of so many frames and bones, of few keys and pattern lines.
+pub fn of_size(rng: &mut Rng, total_frames: i64, bones: usize) -> Movement {
     let style = any_style(rng);
     Movement {
         total_frames,
