@@ -93,12 +93,15 @@ module _ (m : Movement) (w : WholeMovement m) (clean : movementFault m ≡ clear
   keys-sound : channelFault (m .totalFrames) none 0 c ≡ clear
   keys-sound = one-clear (m .totalFrames) 0 (s .before) c (s .behind) (subst (λ (cs : List Channel). keysFault (m .totalFrames) 0 cs ≡ clear) (s .splits) (keys-clear m clean))
 
+  keys-values : valuesFine c ≡ true
+  keys-values = values-fine c (whole-one .values)
+
   first-row : f ≡ pos first
   first-row = let z : 0 + length (allKeys (s .before)) ≡ length (allKeys (s .before)) = omega arith in s .first-is ∙ ap (λ (r : ℕ). pos (firstRow r (length c))) z
 
   found-sampled : (bone channel at : ℕ) → holdsMovement (countsRead m) t ≡ true → bone < countsRead m .bones → channel < 10 → numberAt t 0 ≡ m .totalFrames → isAsked (m .totalFrames) at ≡ true → numberAt t (pairAt (countsRead m) t bone channel) ≡ f → numberAt t (pairAt (countsRead m) t bone channel + 1) ≡ n → sampleIn (countsRead m) t bone channel at ≡ some (sampleOf channel c at)
   found-sampled bone channel at held row known is asked p q =
-      sample-is (countsRead m) t bone channel at first (m .totalFrames) c held row known is asked (p ∙ first-row) (q ∙ s .count-is) keys-range keys-stand keys-sound (values-fine c (whole-one .values))
+      sample-is (countsRead m) t bone channel at first (m .totalFrames) c held row known is asked (p ∙ first-row) (q ∙ s .count-is) keys-range keys-stand keys-sound keys-values
 
 -- ---- a channel of a text that is taken
 
@@ -119,9 +122,12 @@ module _ (text : List ℕ) (table : List ℤ) (m : Movement) (e : movementAnswer
       rw (bone-number m w left r g bone (suc (suc (channel * 2))) (5 + bone * 22 + channel * 2) h (omega arith) (omega arith), bone-number m w left r g bone (suc (suc (suc (channel * 2)))) (5 + bone * 22 + channel * 2 + 1) h (omega arith) (omega arith))
       (in-rows 0 (m .bones) bone channel (channel * 2) (w .bones) h k refl)
 
-  -- its frames are sound
+  -- its frames are sound, and its values floats
   pub channel-sound : channelFault (m .totalFrames) none 0 (channelOf m bone channel) ≡ clear
   channel-sound = keys-sound m (whole-read text table m e) (clean-read text table m e) _ _ (table-read text table m e) _ _ _ found
+
+  pub channel-values : valuesFine (channelOf m bone channel) ≡ true
+  channel-values = keys-values m (whole-read text table m e) (clean-read text table m e) _ _ (table-read text table m e) _ _ _ found
 
   -- its pair is 0 and 0 exactly where it is left out
   pub pair-none : channelOf m bone channel ≡ [] ↔ ((numberAt left pair ≡ pos 0) × (numberAt left (pair + 1) ≡ pos 0))

@@ -2,7 +2,7 @@
 use mathlib.Core.Option.{Option}
 use Prim.Native.Nat.{ℕ}
 use Rattle.player_spec.specs.Fractions.{Fraction}
-use Rattle.player_samples.specs.Answers.{sampled}
+use Rattle.player_channel.specs.Answers.{sampled}
 use Rattle.pair_samples.specs.declared.PlayedSample.{PlayedSample}
 
 unfoldable pub sampleTold : PlayedSample → ℕ × ℕ × ℕ × Option Fraction

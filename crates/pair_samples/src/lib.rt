@@ -1,12 +1,12 @@
 // Loads a pair and samples a channel: the two texts are lent with two tables, and the answer speaks of the texts alone.
 ghost use mathlib.Core.Path.{_≡_};
-ghost use Rattle.player_samples.specs.Answers.{sampled};
+ghost use Rattle.player_channel.specs.Answers.{sampled};
 ghost use Rattle.pair_text.specs.Answer.{loading, tableLeft, movesLeft};
 ghost use Rattle.pair_bridge.specs.Playing.{sampleAsked};
 ghost use Rattle.pair_laws.specs.Playing.{played};
 ghost use Rattle.pair_samples.specs.Answers.{sampleTold};
 use pair_load::load;
-use player_samples::Sampled;
+use player_channel::Sampled;
 
 // A refusal's number, place and file, and a refused value; or zeros and the value.
 pub struct PlayedSample {

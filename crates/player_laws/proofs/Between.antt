@@ -11,7 +11,7 @@ use lib.IntN.{ℤ, pos, negsuc, negℤ, natAbs, _+ℤ_, _-ℤ_, _*ℤ_, +ℤ-idr
 use Rattle.player_spec.specs.Fractions.{factor, signedAs, lowest}
 use Rattle.tra4_text.specs.Movement.{Key}
 use Rattle.player_spec.specs.Samples.{keyFrame, keyValue, line}
-use Rattle.player_samples.proofs.Factors.{factor-divides, factor-some}
+use Rattle.player_fractions.proofs.Factors.{factor-divides, factor-some}
 use Rattle.player_laws.specs.Bounds.{AtMost, Bounded, smaller, larger, Between}
 
 -- ---- products with a natural number

@@ -6,10 +6,10 @@ use mathlib.Core.Option.{Option, none, some}
 use Prim.Native.Nat.{ℕ, zero, suc, _*_, _≤_, _<_}
 use native.Mathlib.Omega.{arith}
 use native.Mathlib.Nat.{zero-mul}
-use borrow.Author.Tests.{ltb-true, eqb-true, leb-true}
+use borrow.Author.Tests.{eqb-true, leb-true}
 use lib.Dec.{leb}
 use lib.IntN.{ℤ, pos, negsuc, natAbs}
-use lib.Signed.{ltZ, leZ}
+use lib.Signed.{leZ}
 use lib.ListN.{length, getD, take, drop, drop-of-length-le}
 use lib.Seq.{split-at, drop-cons}
 use Rattle.refusal.specs.Faults.{clear, fault}
@@ -18,7 +18,8 @@ use Rattle.tra4_text.specs.Movement.{Key, Channel, frameOf}
 use Rattle.tra4_text.specs.Rules.{channelFault, keyFine, isFrame, isZero, rises}
 use Rattle.player_spec.specs.Fractions.{factor, lowest, whole}
 use Rattle.player_spec.specs.Samples.{keyFrame, keyValue, line, sampleFrom, standing, sampleOf}
-use Rattle.player_samples.proofs.Factors.{lowest-coprime}
+use Rattle.player_fractions.proofs.Lowest.{lowest-coprime}
+use Rattle.tra4_tests.proofs.Frames.{below-natural}
 use Rattle.player_laws.specs.Bounds.{Between, LowestTerms, keyAt}
 use Rattle.player_laws.proofs.Samples.{Rising, sample-first, sample-later, sample-between-first, sample-between, sample-past, sample-alone}
 use Rattle.player_laws.proofs.Between.{denominator-is, line-between}
@@ -28,12 +29,7 @@ faulty n i e = let z : _≡_ {A = ℕ} 0 1 = cc in omega (arith, z)
 
 -- ---- frames that are sound rise
 
-rises-natural : (a b : ℤ) → leZ (pos 0) a ≡ true → leZ (pos 0) b ≡ true → ltZ a b ≡ true → natAbs a < natAbs b
-rises-natural (pos a) (pos b) h k e = ltb-true a b e
-rises-natural (pos a) (negsuc b) h k e = absurd (false≢true k)
-rises-natural (negsuc a) b h k e = absurd (false≢true h)
-
-step : (total : ℤ) (before : Option ℤ) (i : ℕ) (n : Key) (ks : List Key) → channelFault total before i (n ∷ ks) ≡ clear → (keyFine total before n ≡ true) × (channelFault total (some (frameOf n)) (suc i) ks ≡ clear)
+pub step : (total : ℤ) (before : Option ℤ) (i : ℕ) (n : Key) (ks : List Key) → channelFault total before i (n ∷ ks) ≡ clear → (keyFine total before n ≡ true) × (channelFault total (some (frameOf n)) (suc i) ks ≡ clear)
 unfolding channelFault
 step total before i n ks e = go (keyFine total before n) refl
   where
@@ -51,7 +47,7 @@ rise-after total k i [] h e = tt
 rise-after total k i (n ∷ ks) h e =
     let s = step total (some (frameOf k)) i n ks e in
     let f = fine-frame total (some (frameOf k)) n (s .0) in
-    (rises-natural (frameOf k) (frameOf n) h (f .0) (f .1), rise-after total n (suc i) ks (f .0) (s .1))
+    (below-natural (frameOf k) (frameOf n) h (f .1), rise-after total n (suc i) ks (f .0) (s .1))
 
 pub frames-rise : (total : ℤ) (k : Key) (ks : List Key) → channelFault total none 0 (k ∷ ks) ≡ clear → Rising k ks
 frames-rise total k ks e = let s = step total none 0 k ks e in rise-after total k 1 ks (fine-frame total none k (s .0) .0) (s .1)

@@ -8,7 +8,7 @@ use lib.IntN.{pos, _*ℤ_, *ℤ-zero, +ℤ-idr}
 use Rattle.tra4_text.specs.Movement.{Key}
 use Rattle.player_spec.specs.Fractions.{whole}
 use Rattle.player_spec.specs.Samples.{keyFrame, keyValue, line, sampleFrom, sampleOf}
-use Rattle.player_samples.proofs.Factors.{lowest-multiple}
+use Rattle.player_fractions.proofs.Lowest.{lowest-multiple}
 
 -- frames rise strictly from a key on
 abbrev pub Rising : Key → List Key → Type 0

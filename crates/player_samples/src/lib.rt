@@ -1,8 +1,4 @@
-// A channel's value at a frame.
-mod fraction;
-mod line;
-mod pass;
+// A channel's value at a frame, in a movement's table.
 mod sampling;
 
-pub use sampling::Sampled;
 pub use sampling::sample;

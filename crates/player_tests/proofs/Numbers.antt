@@ -102,3 +102,6 @@ float-size (negsuc n) = go (leb n 9999999999998) refl
     go : (v : Bool) → leb n 9999999999998 ≡ v → leb n 9999999999998 ≡ leb (suc n) 9999999999999
     go true e = rw e (sym (le-leb (suc n) 9999999999999 (let h = leb-true n 9999999999998 e in omega arith)))
     go false e = rw e (sym (lt-leb (suc n) 9999999999999 (let h = leb-false n 9999999999998 e in omega arith)))
+
+pub float-most : (z : ℤ) → isFloat z ≡ true → natAbs z ≤ 9999999999999
+float-most z h = leb-true _ 9999999999999 (sym (float-size z) ∙ h)

@@ -14,9 +14,9 @@ use Rattle.report_text.specs.Output.{output, appended}
 use Rattle.report_lists.specs.Lists.{appendedEach, textOf, shown}
 use Rattle.report_lists.proofs.Texts.{AllFit, line-most, shown-fits}
 use Rattle.player_spec.specs.Fractions.{Fraction}
-use Rattle.player_samples.specs.Answers.{sampled}
-use Rattle.player_samples.specs.declared.sampling.Sampled.{Sampled}
-use Rattle.player_samples.specs.declared.sampling.Sampled.the-variants.{Refused, Value}
+use Rattle.player_channel.specs.Answers.{sampled}
+use Rattle.player_channel.specs.declared.channel.Sampled.{Sampled}
+use Rattle.player_channel.specs.declared.channel.Sampled.the-variants.{Refused, Value}
 use Rattle.report_lists.proofs.Turns.{one-line}
 use Rattle.sample_listing.specs.Samples.{sampleLine}
 use Rattle.report_lists.specs.Refusals.{refusedLine}

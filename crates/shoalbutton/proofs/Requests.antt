@@ -28,9 +28,12 @@ use Rattle.tra4_text.proofs.LeftOut.{bone-ends, channel-read, bone-chunks, chan
 use Rattle.player_laws.proofs.Keys.{sample-none, sample-pose}
 use Rattle.player_laws.proofs.LeftOut.{zeros-sound, other-row, below-zero}
 use Rattle.movement_bridge.specs.Counts.{channelOf}
-use Rattle.movement_bridge.proofs.Sampling.{pair-none, sample-left-out}
+use Rattle.movement_bridge.proofs.Tables.{frame-asked}
+use Rattle.player_laws.proofs.Steps.{sample-reduced, channel-steps, sample-steps, steps-one-more}
+use Rattle.player_fractions.specs.Halving.{unreducedOf, stepsLeft, Enough}
+use Rattle.movement_bridge.proofs.Sampling.{channel-sound, channel-values, pair-none, sample-left-out}
 use Rattle.pair_bridge.specs.Playing.{framesOf}
-use Rattle.shoalbutton.specs.Requests.{Exponents, AnyOrder, standingPose, LeftOut}
+use Rattle.shoalbutton.specs.Requests.{Exponents, AnyOrder, standingPose, LeftOut, NoDivider}
 
 int-same : (word : List ℕ) → numberOf INT word ≡ fixedOf INT word
 unfolding numberOf
@@ -96,3 +99,11 @@ left-out =
       other-row = other-row;
       below-zero = below-zero;
     }
+
+text-sample-steps : (text : List ℕ) (table : List ℤ) (m : Movement) → movementAnswer text (length table) ≡ accepted m → (bone channel at : ℕ) → bone < length (m .bones) → channel < 10 → at < framesOf m → Enough (stepsLeft 200 (unreducedOf channel (channelOf m bone channel) at))
+unfolding framesOf
+text-sample-steps text table m e bone channel at h k l =
+    channel-steps (m .totalFrames) at (frame-asked text table m e at l) channel (channelOf m bone channel) (channel-sound text table m e bone channel h k) (channel-values text table m e bone channel h k)
+
+pub no-divider : NoDivider
+no-divider = record { answer = sample-reduced; steps = sample-steps; text-steps = text-sample-steps; one-more = steps-one-more }

@@ -4,7 +4,7 @@ use mathlib.Core.Logic.{_↔_, _⊎_}
 use mathlib.Core.List.{List, [], _∷_, _++_, map}
 use mathlib.Core.Bool.{true, false, _&&_}
 use mathlib.Core.Option.{Option, none, some}
-use Prim.Native.Nat.{ℕ, _+_, _<_}
+use Prim.Native.Nat.{ℕ, suc, _+_, _<_}
 use Prim.Native.String.{String}
 use lib.IntN.{ℤ, pos, negsuc, natAbs}
 use lib.ListN.{length, getD, set}
@@ -27,12 +27,13 @@ use Rattle.tra4_text.specs.Answer.{movementAnswer, movementTable}
 use Rattle.table_counts.specs.declared.counts.MovementCounts.{MovementCounts}
 use Rattle.table_columns.specs.Parts.{numberAt}
 use Rattle.table_movement.specs.Sections.{holdsMovement}
-use Rattle.player_spec.specs.Fractions.{whole}
+use Rattle.player_spec.specs.Fractions.{Fraction, whole}
 use Rattle.player_spec.specs.Samples.{pose, standing, sampleOf}
-use Rattle.player_spec.specs.Lookups.{isAsked, pairAt, sampleIn}
+use Rattle.player_spec.specs.Lookups.{isAsked, pairAt, channelKeys, sampleIn}
 use Rattle.player_spec.specs.Deciding.{lineFrame, Line, deciding, stateBy, Decides}
 use Rattle.player_spec.specs.InOrder.{neverFalls, lastFlag}
 use Rattle.player_spec.specs.Faces.{allOwned, shownOf}
+use Rattle.player_fractions.specs.Halving.{Unreduced, unreducedOf, reduced, stepsLeft, Enough}
 use Rattle.bac6_text.specs.Figure.{Bone, Face}
 use Rattle.movement_bridge.specs.Counts.{channelOf}
 use Rattle.pair_bridge.specs.Playing.{framesOf}
@@ -116,3 +117,17 @@ pub record LeftOut : Type 0 where
   pub zeros-sound : (n : MovementCounts) (table : List ℤ) (bone channel at : ℕ) → holdsMovement n table ≡ true → bone < n .bones → channel < 10 → isAsked (numberAt table 0) at ≡ true → ZeroPair n table bone channel → sampleIn n table bone channel at ≡ some (whole (standing channel))
   pub other-row : (n : MovementCounts) (table : List ℤ) (bone channel at : ℕ) → (numberAt table (pairAt n table bone channel) ≡ pos 0 → ⊥) → numberAt table (pairAt n table bone channel + 1) ≡ pos 0 → sampleIn n table bone channel at ≡ none
   pub below-zero : (n : MovementCounts) (table : List ℤ) (bone channel at z : ℕ) → (numberAt table (pairAt n table bone channel) ≡ negsuc z) ⊎ (numberAt table (pairAt n table bone channel + 1) ≡ negsuc z) → sampleIn n table bone channel at ≡ none
+
+-- ---- (v): "a sample be brought to lowest terms by halving and subtracting only, in at most 200 such steps. The answers and all statements about them stay."
+
+-- `stepsLeft n` is what is left of n steps once a sample is in lowest terms, one being taken off for each halving of one number and for each subtraction, and none where n are not enough. The code counts in the same way from
+-- 200, and is proved never to fall below zero (`player_channel/src/halving.rt`); that what it has left of them is what the definition leaves for a line's two numbers is the contract of `line` (`player_channel/src/line.rt`)
+pub record NoDivider : Type 0 where
+  -- a sample is a value that is kept, or a number over a denominator, which is brought to lowest terms
+  pub answer : (channel : ℕ) (c : Channel) (at : ℕ) → sampleOf channel c at ≡ reduced (unreducedOf channel c at)
+  -- 200 steps are enough for every sample that is answered, of any table with any counts
+  pub steps : (n : MovementCounts) (table : List ℤ) (bone channel at : ℕ) (r : Fraction) → sampleIn n table bone channel at ≡ some r → Enough (stepsLeft 200 (unreducedOf channel (channelKeys n table bone channel) at))
+  -- and for every sample of a text that is taken
+  pub text-steps : (text : List ℕ) (table : List ℤ) (m : Movement) → movementAnswer text (length table) ≡ accepted m → (bone channel at : ℕ) → bone < length (m .bones) → channel < 10 → at < framesOf m → Enough (stepsLeft 200 (unreducedOf channel (channelOf m bone channel) at))
+  -- of one step more one more is left: so how many are taken does not depend on how many there are
+  pub one-more : (n k : ℕ) (u : Unreduced) → stepsLeft n u ≡ some k → stepsLeft (suc n) u ≡ some (suc k)

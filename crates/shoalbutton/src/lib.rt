@@ -17,11 +17,11 @@ pub use pair_movement::load_movement;
 
 // ---- playing, on any tables and counts
 
+pub use player_channel::Sampled;
 pub use player_corners::Cornered;
 pub use player_corners::corner;
 pub use player_label::label;
 pub use player_label::label_number;
-pub use player_samples::Sampled;
 pub use player_samples::sample;
 pub use player_shown::Visibility;
 pub use player_shown::shown;

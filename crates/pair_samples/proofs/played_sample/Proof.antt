@@ -8,7 +8,7 @@ use Rattle.tra4_text.specs.Movement.{Movement}
 use Rattle.table_counts.specs.declared.counts.MovementCounts.{MovementCounts}
 use Rattle.pair_load.specs.declared.pair.PairAnswer.{PairAnswer}
 use Rattle.player_spec.specs.Lookups.{sampleIn}
-use Rattle.player_samples.specs.Answers.{sampled}
+use Rattle.player_channel.specs.Answers.{sampled}
 use Rattle.pair_bridge.specs.Playing.{sampleAsked}
 use Rattle.pair_samples.specs.Answers.{sampleTold}
 use Rattle.pair_laws.proofs.Loaded.{every-sample}

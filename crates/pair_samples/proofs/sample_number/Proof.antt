@@ -1,5 +1,5 @@
 -- `sample_number` is the answer's number, by its cases.
-use Rattle.player_samples.specs.Answers.{sampled}
+use Rattle.player_channel.specs.Answers.{sampled}
 use borrow.Author.Needs.{needs}
 use Rattle.pair_samples.proofs.sample_number.Statement.{statement}
 use Rattle.pair_samples.proofs.sample_number.Tie as tie

@@ -1,0 +1,4 @@
+-- States of loops and scaffolding: what the proofs of this crate use and no promise of the page cites.
+pub mod Answers
+pub mod Pass
+pub mod Passing

@@ -1,0 +1,1 @@
+// Fractions in lowest terms, and the halvings and subtractions that bring them there: definitions and theorems, and no code.
