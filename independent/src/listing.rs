@@ -5,8 +5,8 @@ use crate::figure::{self, Face, Figure};
 use crate::figure_rules;
 use crate::limits;
 use crate::movement::{self, Movement};
-use crate::pair::{self, PairRefusal};
-use crate::play;
+use crate::pair::{self, Pair, PairRefusal};
+use crate::play::{self, Reason};
 use crate::refusal::Refusal;
 
 /// A row's word, and its numbers as they stand in the table.
@@ -200,8 +200,8 @@ pub fn pair_listing(text: &[u8]) -> String {
     listing
 }
 
-/// Whether each face of a pair is shown at each frame, 1 or 0, or its refusal.
-pub fn shown_listing(text: &[u8]) -> String {
+/// A line for every face and frame of a pair, or its refusal.
+fn face_listing(text: &[u8], line_at: fn(&Pair, i64, i64) -> Option<String>) -> String {
     let pair = match pair::load_input(text) {
         Ok(pair) => pair,
         Err(found) => return refused_pair(found),
@@ -209,10 +209,39 @@ pub fn shown_listing(text: &[u8]) -> String {
     let mut listing = String::new();
     for face in 0..pair.figure.faces.len() as i64 {
         for frame in 0..pair.movement.total_frames {
-            if let Some(shown) = play::shown(&pair.figure, &pair.movement, face, frame) {
-                listing.push_str(&line("shown", &[face, frame, i64::from(shown)]));
-            }
+            listing.extend(line_at(&pair, face, frame));
         }
     }
     listing
+}
+
+/// Whether each face of a pair is shown at each frame, 1 or 0, or its refusal.
+pub fn shown_listing(text: &[u8]) -> String {
+    face_listing(text, |pair, face, frame| {
+        let shown = play::shown(&pair.figure, &pair.movement, face, frame)?;
+        Some(line("shown", &[face, frame, i64::from(shown)]))
+    })
+}
+
+/// The words of the reasons, in the paper's order.
+pub const REASONS: [&str; 4] = ["shown", "corner", "unset", "line"];
+
+/// That each face of a pair is shown at each frame or what hides it, or its
+/// refusal.
+pub fn why_listing(text: &[u8]) -> String {
+    face_listing(text, |pair, face, frame| {
+        let reason = play::why(&pair.figure, &pair.movement, face, frame)?;
+        Some(format!("why\t{face}\t{frame}\t{}\n", reason_fields(reason)))
+    })
+}
+
+/// A reason's word, and its corner or row.
+fn reason_fields(reason: Reason) -> String {
+    let [shown, corner, unset, line] = REASONS;
+    match reason {
+        Reason::Shown => shown.into(),
+        Reason::Corner(number) => format!("{corner}\t{number}"),
+        Reason::Unset => unset.into(),
+        Reason::Line(row) => format!("{line}\t{row}"),
+    }
 }

@@ -1,8 +1,8 @@
-//! Playing: Sample, Shown, Corner and Label, worked out from the lists as the
-//! texts write them. None stands for 21, no such thing.
+//! Playing: Sample, Shown and its reason, Corner and Label, worked out from the
+//! lists as the texts write them. None stands for 21, no such thing.
 
 use crate::figure::Figure;
-use crate::movement::{Movement, DEFAULTS};
+use crate::movement::{Movement, Pattern, DEFAULTS};
 use crate::pair::name_bytes;
 
 /// A fraction of millionths in lowest terms, denominator above 0.
@@ -114,15 +114,57 @@ pub fn shown(figure: &Figure, movement: &Movement, face: i64, frame: i64) -> Opt
     }
 }
 
-/// Whether a group is shown at a frame: the flag of its line of greatest frame
-/// not after it, no if it has none.
+/// Whether a group is shown at a frame: the flag of the line that decides, no
+/// if there is none.
 fn group_shown(movement: &Movement, group: i64, frame: i64) -> bool {
-    let lines = movement.patterns.iter();
-    let deciding = lines
-        .filter(|line| line.group == group && line.frame <= frame)
+    deciding_line(movement, group, frame).is_some_and(|(_, line)| line.flag)
+}
+
+/// A group's line of greatest frame not after a frame, and its row.
+fn deciding_line(movement: &Movement, group: i64, frame: i64) -> Option<(usize, &Pattern)> {
+    let lines = movement.patterns.iter().enumerate();
+    lines
+        .filter(|(_, line)| line.group == group && line.frame <= frame)
         // Lines stand in any order. Of equal frames this takes the later line.
-        .max_by_key(|line| line.frame);
-    deciding.is_some_and(|line| line.flag)
+        .max_by_key(|(_, line)| line.frame)
+}
+
+/// That a face is shown at a frame, or what hides it.
+#[derive(Clone, Copy, Debug, PartialEq, Eq)]
+pub enum Reason {
+    Shown,
+    /// The first corner without a bone.
+    Corner(usize),
+    /// Its group has no line by the frame.
+    Unset,
+    /// The row of the pattern line that decides.
+    Line(usize),
+}
+
+/// Why a face is shown at a frame or is not; corners come before its group. It
+/// does not ask `shown`, so that each can be compared with the other.
+pub fn why(figure: &Figure, movement: &Movement, face: i64, frame: i64) -> Option<Reason> {
+    let face = row(&figure.faces, face)?;
+    if !is_frame(movement, frame) {
+        return None;
+    }
+    let mut owners = face.vertices.iter().map(|&point| owner(figure, point));
+    if let Some(corner) = owners.position(|owner| owner == -1) {
+        return Some(Reason::Corner(corner));
+    }
+    Some(match face.group {
+        Some(group) => group_reason(movement, group as i64, frame),
+        None => Reason::Shown,
+    })
+}
+
+/// The reason of a face whose corners all have a bone.
+fn group_reason(movement: &Movement, group: i64, frame: i64) -> Reason {
+    match deciding_line(movement, group, frame) {
+        None => Reason::Unset,
+        Some((_, line)) if line.flag => Reason::Shown,
+        Some((row, _)) => Reason::Line(row),
+    }
 }
 
 /// A corner of a face.

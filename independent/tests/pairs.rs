@@ -4,7 +4,7 @@
 mod common;
 
 use common::{changed, figure_of, movement_of, Names, FIGURE, MOVEMENT};
-use independent::listing::{pair_listing, shown_listing};
+use independent::listing::{pair_listing, shown_listing, why_listing};
 use independent::many;
 use independent::pair::{load, PairRefusal};
 use independent::refusal::Refusal;
@@ -171,10 +171,11 @@ fn the_order_of_the_files() {
     assert_eq!(pair(&figure, &figure), refused(2, 0, 1));
 }
 
-/// What both programs print of an input that is refused.
-fn both_print(input: &[u8], expected: &str) {
+/// What every program of a pair prints of an input that is refused.
+fn all_print(input: &[u8], expected: &str) {
     assert_eq!(pair_listing(input), expected);
     assert_eq!(shown_listing(input), expected);
+    assert_eq!(why_listing(input), expected);
 }
 
 #[test]
@@ -205,32 +206,32 @@ fn heads() {
         format!("{}/\n", &digits[..7]),
         format!("{}:\n", &digits[..7]),
     ] {
-        both_print(&of_head(&head), first_line);
+        all_print(&of_head(&head), first_line);
     }
     // An input that ends in its head.
     for length in 0..=9 {
-        both_print(&right.as_bytes()[..length], first_line);
+        all_print(&right.as_bytes()[..length], first_line);
     }
-    both_print(b"\xff", first_line);
+    all_print(b"\xff", first_line);
 
     // Up to the input's end and past it.
     let of_length = |length: usize| of_head(&format!("{length:08}\n"));
-    both_print(&of_length(rest.len() + 1), first_line);
-    both_print(&of_length(65_536), first_line);
-    both_print(&of_length(65_537), first_line);
-    both_print(&of_length(99_999_999), first_line);
+    all_print(&of_length(rest.len() + 1), first_line);
+    all_print(&of_length(65_536), first_line);
+    all_print(&of_length(65_537), first_line);
+    all_print(&of_length(99_999_999), first_line);
     let word = format!("refused\t5\t{}\t0\n", rest.find("(Head(tra").unwrap());
-    both_print(&of_length(rest.len()), &word);
-    both_print(&of_length(0), first_line);
-    both_print(b"00000000\n", first_line);
-    both_print(b"00000004\n;BAC", "refused\t5\t4\t0\n");
+    all_print(&of_length(rest.len()), &word);
+    all_print(&of_length(0), first_line);
+    all_print(b"00000000\n", first_line);
+    all_print(b"00000004\n;BAC", "refused\t5\t4\t0\n");
 
     // The figure without its line feed is taken, and the movement is not.
-    both_print(&of_length(figure.len() - 1), "refused\t2\t0\t1\n");
+    all_print(&of_length(figure.len() - 1), "refused\t2\t0\t1\n");
     let cut = format!("refused\t5\t{}\t0\n", figure.len() - 2);
-    both_print(&of_length(figure.len() - 2), &cut);
+    all_print(&of_length(figure.len() - 2), &cut);
     // The movement's `;` ends the figure as a comment.
-    both_print(&of_length(figure.len() + 1), "refused\t2\t0\t1\n");
+    all_print(&of_length(figure.len() + 1), "refused\t2\t0\t1\n");
 }
 
 /// Texts of the most bytes, of one more, and of far more.
@@ -246,15 +247,15 @@ fn long_texts() {
     assert_eq!(pair_listing(&of(&most, &filled(MOVEMENT, 65_536))), taken);
     for length in [65_537, 131_073, 131_074, 131_075, 131_083, 400_000] {
         let long = filled(&figure, length);
-        both_print(&of(&long, MOVEMENT), "refused\t1\t0\t0\n");
-        both_print(&of(&long, ""), "refused\t1\t0\t0\n");
+        all_print(&of(&long, MOVEMENT), "refused\t1\t0\t0\n");
+        all_print(&of(&long, ""), "refused\t1\t0\t0\n");
         // The input ends before the figure does.
         let record = many::record(long.as_bytes());
-        both_print(&record[..record.len() - 1], "refused\t2\t0\t0\n");
+        all_print(&record[..record.len() - 1], "refused\t2\t0\t0\n");
         let long = filled(MOVEMENT, length);
-        both_print(&of(&figure, &long), "refused\t1\t0\t1\n");
-        both_print(&of(&most, &long), "refused\t1\t0\t1\n");
-        both_print(&of("", &long), "refused\t2\t0\t0\n");
+        all_print(&of(&figure, &long), "refused\t1\t0\t1\n");
+        all_print(&of(&most, &long), "refused\t1\t0\t1\n");
+        all_print(&of("", &long), "refused\t2\t0\t0\n");
     }
 }
 

@@ -2,11 +2,12 @@
 
 mod common;
 
-use common::{changed, figure_of, movement_of, FIGURE, MOVEMENT};
+use common::{changed, figure_of, movement_of, movement_of_lines, FIGURE, MOVEMENT};
 use independent::compare::Printer;
 use independent::generate::{text, Kind};
 use independent::listing::{
     corner_listing, figure_listing, movement_listing, pair_listing, sample_listing, shown_listing,
+    why_listing,
 };
 use independent::many;
 use std::io::Write;
@@ -38,13 +39,15 @@ fn one_text_and_many() {
     let corners = env!("CARGO_BIN_EXE_corners");
     let pair = env!("CARGO_BIN_EXE_pair");
     let shown = env!("CARGO_BIN_EXE_shown");
-    let programs: [(&str, Printer); 6] = [
+    let why = env!("CARGO_BIN_EXE_why");
+    let programs: [(&str, Printer); 7] = [
         (figure, figure_listing),
         (movement, movement_listing),
         (play, sample_listing),
         (corners, corner_listing),
         (pair, pair_listing),
         (shown, shown_listing),
+        (why, why_listing),
     ];
     let both = many::pair(figure_of(&[None], 2).as_bytes(), MOVEMENT.as_bytes());
     for (program, listing) in programs {
@@ -124,6 +127,37 @@ fn shown_prints_every_face_and_frame() {
     assert_eq!(output(program, &[], &text), expected);
     let text = many::pair(figure.as_bytes(), MOVEMENT.as_bytes());
     assert_eq!(output(program, &[], &text), "refused\t20\t1\t2\n");
+    assert_eq!(output(program, &[], b"no record"), "refused\t2\t0\t0\n");
+}
+
+/// A face of `Polygons`, one of group 0, one of group 1 without a line, and one
+/// with a corner without a bone.
+#[test]
+fn why_prints_every_face_and_frame() {
+    let figure = changed(
+        FIGURE,
+        "(i3 0 1 2)(i3 -1 -1 -1))))",
+        "(i3 0 1 1)(i3 -1 -1 -1)))(DynamicPolygons(group(face 0(i3 0 1 0)(i3 -1 -1 -1)))
+        (group(face 0(i3 1 1 0)(i3 -1 -1 -1))(face 0(i3 0 1 2)(i3 -1 -1 -1)))))",
+    );
+    let movement = movement_of_lines(3, "0 0 true, 2 0 false, 1 0 true");
+    let text = many::pair(figure.as_bytes(), movement.as_bytes());
+    let lines = |face: i64, reasons: [&str; 3]| -> String {
+        let reasons = reasons.iter().enumerate();
+        reasons
+            .map(|(frame, reason)| format!("why\t{face}\t{frame}\t{reason}\n"))
+            .collect()
+    };
+    let expected = [
+        lines(0, ["shown"; 3]),
+        lines(1, ["shown", "shown", "line\t1"]),
+        lines(2, ["unset"; 3]),
+        lines(3, ["corner\t2"; 3]),
+    ];
+    let program = env!("CARGO_BIN_EXE_why");
+    assert_eq!(output(program, &[], &text), expected.concat());
+    let text = many::pair(FIGURE.as_bytes(), MOVEMENT.as_bytes());
+    assert_eq!(output(program, &[], &text), "refused\t20\t0\t2\n");
     assert_eq!(output(program, &[], b"no record"), "refused\t2\t0\t0\n");
 }
 
