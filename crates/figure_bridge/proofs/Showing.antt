@@ -1,12 +1,12 @@
--- Shown on a figure's and a movement's tables is Shown on their lists, and 21 only where a group face meets a pattern whose group is no row: each number that the lookup reads is the list's, and each other test passes.
+-- Why a face is shown or hidden, on a figure's and a movement's tables, is the reason on their lists, and 21 only where a group face meets a pattern whose group is no row: each number that the lookup reads is the list's, and each other test passes.
 use mathlib.Core.Path.{_≡_, refl, ap₂, sym, _∙_}
-use mathlib.Core.List.{List, [], _∷_, _++_}
-use mathlib.Core.Bool.{Bool, true, false, not, _&&_, _||_}
+use mathlib.Core.List.{List, [], _∷_, _++_, map}
+use mathlib.Core.Bool.{Bool, true, false, _&&_, _||_}
 use mathlib.Core.Option.{Option, none, some}
 use Prim.Native.Nat.{ℕ, _<_}
 use borrow.Author.Tests.{lt-ltb}
 use lib.IntN.{ℤ, pos}
-use lib.ListN.{length, getD}
+use lib.ListN.{length, getD, take}
 use Rattle.refusal.specs.Faults.{clear, isClear}
 use Rattle.text_numerals.proofs.Numerals.{and-true}
 use Rattle.parse_spec.proofs.Given.{Every}
@@ -20,12 +20,12 @@ use Rattle.tra4_text.specs.Movement.{Pattern, groupOf, Movement}
 use Rattle.tra4_text.specs.Rules.{patternsFault}
 use Rattle.table_counts.specs.declared.counts.FigureCounts.{FigureCounts}
 use Rattle.table_counts.specs.declared.counts.MovementCounts.{MovementCounts}
-use Rattle.player_spec.specs.Faces.{allOwned, groupShown, shownOf}
+use Rattle.player_spec.specs.Reasons.{reasonOf, whyOf}
 use Rattle.table_figure.specs.Sections.{holdsFigure}
 use Rattle.table_movement.specs.Sections.{holdsMovement}
 use Rattle.table_columns.specs.Parts.{numberAt}
 use Rattle.table_references.specs.Index.{isIndex}
-use Rattle.player_spec.specs.Lookups.{onlyIf, isAsked, sizeFine, cornersFine, faceAt, ownerAt, ownersFine, ownedCorners, patternRows, linesFine, patternsFine, canShow, groupFlag, shownIn}
+use Rattle.player_spec.specs.Lookups.{onlyIf, isAsked, sizeFine, cornersFine, faceAt, ownerAt, ownersFine, cornerOwners, groupNamed, patternRows, linesFine, patternsFine, canShow, whyIn}
 use Rattle.pair_text.specs.Rules.{groupsFault}
 use Rattle.figure_bridge.specs.Rows.{groupedFaceOf, hasNoGroup}
 use Rattle.figure_bridge.proofs.Tests.{owner-known}
@@ -38,9 +38,9 @@ use Rattle.figure_bridge.proofs.Corners.{figure-holds, face-stands, own
 -- ---- where every test passes but that of the patterns
 
 module _ (n : FigureCounts) (t : List ℤ) (m : MovementCounts) (moves : List ℤ) (face at : ℕ) (g : ℤ) (f : Face) where
-  shown-by : faceAt n t face ≡ faceRow g f → holdsFigure n t ≡ true → holdsMovement m moves ≡ true → face < n .faces → isAsked (numberAt moves 0) at ≡ true → sizeFine (pos (f .size)) ≡ true → cornersFine (n .points) (f .size) (corners 4 (f .vertices)) ≡ true → ownersFine n t (f .size) (corners 4 (f .vertices)) ≡ true → isIndex (n .groups) g ≡ true → shownIn n t m moves face at ≡ onlyIf (isNone g || patternsFine n t m moves) (ownedCorners n t (f .size) (corners 4 (f .vertices)) && groupFlag n t m moves g at)
-  unfolding shownIn canShow
-  shown-by row held moving below asked size vertices owners group =
+  why-by : faceAt n t face ≡ faceRow g f → holdsFigure n t ≡ true → holdsMovement m moves ≡ true → face < n .faces → isAsked (numberAt moves 0) at ≡ true → sizeFine (pos (f .size)) ≡ true → cornersFine (n .points) (f .size) (corners 4 (f .vertices)) ≡ true → ownersFine n t (f .size) (corners 4 (f .vertices)) ≡ true → isIndex (n .groups) g ≡ true → whyIn n t m moves face at ≡ onlyIf (isNone g || patternsFine n t m moves) (reasonOf (map (ownerAt n t) (take (f .size) (corners 4 (f .vertices)))) (groupNamed g) (patternRows n t m moves) at)
+  unfolding whyIn canShow cornerOwners
+  why-by row held moving below asked size vertices owners group =
       rw (row, row-size g f, row-vertices g f, row-group g f, held, moving, lt-ltb face (n .faces) below, asked, size, vertices, owners, group)
 
 -- ---- patterns
@@ -62,10 +62,10 @@ module _ (n : FigureCounts) (t : List ℤ) (m : MovementCounts) (moves : List �
   unfolding patternsFine isClear
   patterns-known ps rows sound flags = rw (rows, sound) (lines-known ps flags)
 
-  flag-shown : (o : Option ℕ) (at : ℕ) (ps : List Pattern) → patternRows n t m moves ≡ ps → groupFlag n t m moves (groupNumber o) at ≡ groupShown o at ps
-  unfolding groupFlag groupNumber groupShown isNone
-  flag-shown none at ps rows = refl
-  flag-shown (some g) at ps rows = rw rows
+group-named : (o : Option ℕ) → groupNamed (groupNumber o) ≡ o
+unfolding groupNamed groupNumber isNone
+group-named none = refl
+group-named (some g) = refl
 
 no-group : (f : Face × Option ℕ) → isNone (groupNumber (f .1)) ≡ hasNoGroup f
 unfolding groupNumber isNone hasNoGroup
@@ -82,16 +82,12 @@ module _ (n : FigureCounts) (t : List ℤ) (bs : List Bone) (e : n .bones ≡ le
       let p = and-true (isRow (n .points) v) (all (isRow (n .points)) vs) h in
       rw (o v (p .0), e, owner-known bs v, owners-fine vs unused (p .1))
 
-  owners-same : (vs unused : List ℤ) → all (isRow (n .points)) vs ≡ true → ownedCorners n t (length vs) (vs ++ unused) ≡ allOwned bs vs
-  unfolding ownedCorners allOwned all
+  owners-same : (vs unused : List ℤ) → all (isRow (n .points)) vs ≡ true → map (ownerAt n t) (take (length vs) (vs ++ unused)) ≡ map (ownerOf bs) vs
+  unfolding all
   owners-same [] unused h = refl
   owners-same (v ∷ vs) unused h =
       let p = and-true (isRow (n .points) v) (all (isRow (n .points)) vs) h in
-      rw (o v (p .0), owners-same vs unused (p .1)) (go (isNone (ownerOf bs v)) refl)
-    where
-      go : (b : Bool) → isNone (ownerOf bs v) ≡ b → (not (isNone (ownerOf bs v)) && allOwned bs vs) ≡ allOwned bs (v ∷ vs)
-      go true q = rw (q, allOwned)
-      go false q = rw (q, allOwned)
+      rw (o v (p .0), owners-same vs unused (p .1))
 
 -- ---- the tables of a figure and a movement
 
@@ -111,13 +107,13 @@ module _ (f : Figure) (w : WholeFigure f) (c : figureFault f ≡ clear) (rest : 
   used-fine : ownersFine (counts f) table (this .0 .size) (corners 4 (this .0 .vertices)) ≡ true
   used-fine = let p = filled (this .0 .vertices) (vertex-corners (this .0) whole) in rw (p .here, ← whole .vertices) (owners-fine (counts f) table (f .bones) refl (owner-of f w c rest) (this .0 .vertices) (p .unused) rows)
 
-  used-same : ownedCorners (counts f) table (this .0 .size) (corners 4 (this .0 .vertices)) ≡ allOwned (f .bones) (this .0 .vertices)
+  used-same : map (ownerAt (counts f) table) (take (this .0 .size) (corners 4 (this .0 .vertices))) ≡ map (ownerOf (f .bones)) (this .0 .vertices)
   used-same = let p = filled (this .0 .vertices) (vertex-corners (this .0) whole) in rw (p .here, ← whole .vertices) (owners-same (counts f) table (f .bones) refl (owner-of f w c rest) (this .0 .vertices) (p .unused) rows)
 
-  pub shown-stands : (n : MovementCounts) (moves : List ℤ) (m : Movement) (at : ℕ) → holdsMovement n moves ≡ true → isAsked (numberAt moves 0) at ≡ true → patternRows (counts f) table n moves ≡ m .patterns → patternsFault (numberAt moves 0) (m .patterns) ≡ clear → Every (λ p. isRow 2 (getD p 2 (pos 0)) ≡ true) (m .patterns) → shownIn (counts f) table n moves face at ≡ onlyIf (hasNoGroup this || isClear (groupsFault (length (f .groups)) (m .patterns))) (shownOf (f .bones) (m .patterns) this at)
-  unfolding groupsFault shownOf
-  shown-stands n moves m at moving asked lines sound flags =
-      shown-by (counts f) table n moves face at (groupNumber (this .1)) (this .0)
+  pub why-stands : (n : MovementCounts) (moves : List ℤ) (m : Movement) (at : ℕ) → holdsMovement n moves ≡ true → isAsked (numberAt moves 0) at ≡ true → patternRows (counts f) table n moves ≡ m .patterns → patternsFault (numberAt moves 0) (m .patterns) ≡ clear → Every (λ p. isRow 2 (getD p 2 (pos 0)) ≡ true) (m .patterns) → whyIn (counts f) table n moves face at ≡ onlyIf (hasNoGroup this || isClear (groupsFault (length (f .groups)) (m .patterns))) (whyOf (f .bones) (m .patterns) this at)
+  unfolding groupsFault whyOf
+  why-stands n moves m at moving asked lines sound flags =
+      why-by (counts f) table n moves face at (groupNumber (this .1)) (this .0)
       (face-stands f w c rest face below)
       (figure-holds f w c rest)
       moving
@@ -129,4 +125,4 @@ module _ (f : Figure) (w : WholeFigure f) (c : figureFault f ≡ clear) (rest : 
       (group-known f face below)
       ∙ ap₂ onlyIf
       (ap₂ _||_ (no-group this) (patterns-known (counts f) table n moves (m .patterns) lines sound flags ∙ sym (first-bad-clear 20 (λ (p : Pattern). isRow (length (f .groups)) (groupOf p)) 0 (m .patterns))))
-      (ap₂ _&&_ used-same (flag-shown (counts f) table n moves (this .1) at (m .patterns) lines))
+      (rw (used-same, group-named (this .1), lines))

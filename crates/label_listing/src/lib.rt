@@ -25,7 +25,7 @@ fn append_label(buf: &mut [u8], n: usize, bone: usize, name: &[u8]) -> usize
     append(buf, end, b"\n")
 }
 
-// Puts each bone's label after the first filled bytes of buf, each line whole or not at all; 283 bytes a bone hold them.
+// Puts each bone's label after the first filled bytes of buf; 283 bytes a bone hold them.
 pub fn append_labels<'a>(
     buf: &mut [u8],
     filled: usize,

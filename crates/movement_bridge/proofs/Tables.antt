@@ -24,7 +24,6 @@ use Rattle.tra4_text.specs.Layout.{nameNumbers, boneRows, layoutOf}
 use Rattle.tra4_text.specs.Answer.{movementOutcome, movementAnswer, movementTable}
 use Rattle.tra4_text.proofs.Whole.{WholeMovement, movement-whole}
 use Rattle.tra4_text.proofs.Layouts.{all-wide, rows-wide, rows-count, layout-length}
-use Rattle.tra4.specs.Answers.{answerOf}
 use Rattle.table_counts.specs.declared.counts.MovementCounts.{MovementCounts}
 use Rattle.table_movement.specs.Sections.{keysBegin, patternsBegin, movementEnd, fewInMovement, holdsMovement}
 use Rattle.table_columns.specs.Parts.{numberAt, rowsAt}

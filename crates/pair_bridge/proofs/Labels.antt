@@ -16,7 +16,6 @@ use Rattle.bac6_text.proofs.Whole.{WholeFigure}
 use Rattle.tra4_text.specs.Movement.{Movement}
 use Rattle.tra4_text.specs.Layout as movements
 use Rattle.tra4_text.proofs.Whole.{WholeMovement}
-use Rattle.tra4.specs.Answers.{answerOf}
 use Rattle.table_movement.specs.Sections.{holdsMovement}
 use Rattle.player_spec.specs.Lookups.{onlyIf}
 use Rattle.player_names.specs.Names.{ifTrue}

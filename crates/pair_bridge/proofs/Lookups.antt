@@ -1,8 +1,8 @@
--- Sample, Corner and Shown on the tables of taken texts, whatever is asked: the texts' own answer, and 21 exactly for what is not in the files; by cases on what exists.
+-- Sample, Corner, Shown and the reason for it on the tables of taken texts, whatever is asked: the texts' own answer, and 21 exactly for what is not in the files; by cases on what exists.
 use mathlib.Core.Path.{_≡_, refl, ap, sym, _∙_}
 use mathlib.Core.List.{List}
-use mathlib.Core.Bool.{Bool, true, false, and-false}
-use mathlib.Core.Option.{Option, none}
+use mathlib.Core.Bool.{Bool, true, false, and-false, _&&_}
+use mathlib.Core.Option.{Option, none, Option·map}
 use Prim.Native.Nat.{ℕ, _≤_, _<_}
 use borrow.Author.Tests.{ltb-true, ltb-false}
 use lib.Dec.{ltb}
@@ -18,28 +18,26 @@ use Rattle.tra4_text.specs.Movement.{Movement}
 use Rattle.tra4_text.specs.Rules.{totalFault, movementCounts}
 use Rattle.tra4_text.specs.Answer.{movementAnswer, movementTable}
 use Rattle.pair_text.specs.Rules.{groupsFault}
-use Rattle.bac6.specs.Answers as bac6
-use Rattle.tra4.specs.Answers as tra4
 use Rattle.player_spec.specs.Fractions.{Fraction}
 use Rattle.table_figure.specs.Sections.{holdsFigure}
 use Rattle.table_columns.specs.Parts.{numberAt}
 use Rattle.player_spec.specs.Faces.{CornerOf}
 use Rattle.player_corners.specs.Internal.CornerRow.{rowCorner}
-use Rattle.player_spec.specs.Lookups.{onlyIf, isAsked, faceSound, faceAt, sampleIn, cornerIn, shownIn}
+use Rattle.player_spec.specs.Lookups.{onlyIf, isAsked, faceSound, faceAt, sampleIn, cornerIn, shownIn, whyIn}
+use Rattle.player_spec.specs.Reasons.{Reason, whyOf}
+use Rattle.player_spec.proofs.WhyShown.{isShown, mapped, shown-of, shown-in}
 use Rattle.player_samples.proofs.Sampled as samples
 use Rattle.player_corners.proofs.CornerTests as corners
-use Rattle.player_shown.proofs.ShownTests as shown
-use Rattle.movement_bridge.specs.Counts as movement
+use Rattle.player_why.proofs.WhyTests as why
 use Rattle.movement_bridge.proofs.Tables.{movement-holds, total-stands}
 use Rattle.movement_bridge.proofs.Sampling.{sample-from-text}
-use Rattle.figure_bridge.specs.Rows as figure
 use Rattle.figure_bridge.specs.Rows.{faceOf, groupedFaceOf}
 use Rattle.figure_bridge.proofs.Parts.{counts}
 use Rattle.figure_bridge.proofs.Grouped.{groupNumber, face-grouped}
 use Rattle.figure_bridge.proofs.FaceRows.{row-size}
 use Rattle.figure_bridge.proofs.Corners.{figure-holds, face-stands}
-use Rattle.figure_bridge.proofs.Texts.{counts-are, figure-taken, whole-figure, figure-table, corner-from-text, shown-from-text}
-use Rattle.pair_bridge.specs.Playing.{framesOf, sampleAsked, cornerAsked, shownAsked}
+use Rattle.figure_bridge.proofs.Texts.{counts-are, figure-taken, whole-figure, figure-table, corner-from-text, why-from-text}
+use Rattle.pair_bridge.specs.Playing.{framesOf, sampleAsked, cornerAsked, shownAsked, whyAsked}
 
 not-below : (total : ℤ) (at : ℕ) → ltb at (natAbs total) ≡ false → isAsked total at ≡ false
 unfolding isAsked
@@ -65,6 +63,14 @@ module _ (text : List ℕ) (table : List ℤ) (m : Movement) (e : movementAnswer
       go false b c p q r = sym (samples.no-bone _ _ bone channel at (movement-holds text table m e) (ltb-false _ _ p)) ∙ rw p
       go true false c p q r = sym (samples.no-channel _ _ bone channel at (movement-holds text table m e) (ltb-true _ _ p) (ltb-false _ _ q)) ∙ rw (p, q)
       go true true false p q r = sym (samples.not-asked _ _ bone channel at (movement-holds text table m e) (ltb-true _ _ p) (ltb-true _ _ q) (frame-past at r)) ∙ rw (p, q, r)
+
+-- ---- Shown by the reason, from the texts
+
+pub asked-shown : (f : Figure) (m : Movement) (face at : ℕ) → shownAsked f m face at ≡ Option·map isShown (whyAsked f m face at)
+unfolding shownAsked whyAsked
+asked-shown f m face at =
+    ap (onlyIf (ltb face (length (facesOf f)) && ltb at (framesOf m))) (shown-of (f .bones) (m .patterns) (groupedFaceOf f face) at)
+    ∙ mapped (ltb face (length (facesOf f)) && ltb at (framesOf m)) (whyOf (f .bones) (m .patterns) (groupedFaceOf f face) at)
 
 -- ---- a figure
 
@@ -103,17 +109,20 @@ module _ (text : List ℕ) (table : List ℤ) (f : Figure) (e : figureAnswer tex
   -- ---- a pair that rule 20 does not refuse
 
   module _ (movementText : List ℕ) (moves : List ℤ) (m : Movement) (d : movementAnswer movementText (length moves) ≡ accepted m) (known : groupsFault (length (f .groups)) (m .patterns) ≡ clear) where
-    abbrev showed : ℕ → ℕ → Option Bool
-    showed face at = shownIn (figureCounts f) (tableAfter text table) (movementCounts m) (movementTable movementText moves) face at
+    abbrev explained : ℕ → ℕ → Option Reason
+    explained face at = whyIn (figureCounts f) (tableAfter text table) (movementCounts m) (movementTable movementText moves) face at
 
-    pub shown-asked : (face at : ℕ) → showed face at ≡ shownAsked f m face at
-    unfolding shownAsked onlyIf
-    shown-asked face at = go (ltb face (length (facesOf f))) (ltb at (framesOf m)) refl refl
+    pub why-asked : (face at : ℕ) → explained face at ≡ whyAsked f m face at
+    unfolding whyAsked onlyIf
+    why-asked face at = go (ltb face (length (facesOf f))) (ltb at (framesOf m)) refl refl
       where
         held : holdsFigure (counts f) (tableAfter text table) ≡ true
         held = rw (counts-are f) at figure-holds-read
 
-        go : (a b : Bool) → ltb face (length (facesOf f)) ≡ a → ltb at (framesOf m) ≡ b → showed face at ≡ shownAsked f m face at
-        go true true p q = shown-from-text text table f e movementText moves m d face at (ltb-true _ _ p) (unfold framesOf in ltb-true _ _ q) known ∙ rw (p, q)
-        go false b p q = rw (counts-are f, p) (sym (shown.no-face _ _ _ _ face at held (movement-holds movementText moves m d) (ltb-false _ _ p)))
-        go true false p q = rw (counts-are f, p, q) (sym (shown.not-asked _ _ _ _ face at held (movement-holds movementText moves m d) (ltb-true _ _ p) (frame-past movementText moves m d at q)))
+        go : (a b : Bool) → ltb face (length (facesOf f)) ≡ a → ltb at (framesOf m) ≡ b → explained face at ≡ whyAsked f m face at
+        go true true p q = why-from-text text table f e movementText moves m d face at (ltb-true _ _ p) (unfold framesOf in ltb-true _ _ q) known ∙ rw (p, q)
+        go false b p q = rw (counts-are f, p) (sym (why.no-face _ _ _ _ face at held (movement-holds movementText moves m d) (ltb-false _ _ p)))
+        go true false p q = rw (counts-are f, p, q) (sym (why.not-asked _ _ _ _ face at held (movement-holds movementText moves m d) (ltb-true _ _ p) (frame-past movementText moves m d at q)))
+
+    pub shown-asked : (face at : ℕ) → shownIn (figureCounts f) (tableAfter text table) (movementCounts m) (movementTable movementText moves) face at ≡ shownAsked f m face at
+    shown-asked face at = shown-in _ _ _ _ face at ∙ ap (Option·map isShown) (why-asked face at) ∙ sym (asked-shown f m face at)

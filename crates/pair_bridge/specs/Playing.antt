@@ -1,4 +1,4 @@
--- What Sample, Shown, Corner and Label answer from the two texts' lists alone (document 01, "Playing"): the meaning of what exists, none of what does not.
+-- What Sample, Shown, Corner and Label answer, and why a face is shown or hidden, from the two texts' lists alone (document 01, "Playing"; document 02, (iii)): the meaning of what exists, none of what does not.
 use mathlib.Core.Bool.{Bool, _&&_}
 use mathlib.Core.List.{List, []}
 use mathlib.Core.Option.{Option}
@@ -12,6 +12,7 @@ use Rattle.tra4_text.specs.Movement.{Movement}
 use Rattle.player_spec.specs.Fractions.{Fraction}
 use Rattle.player_spec.specs.Samples.{sampleOf}
 use Rattle.player_spec.specs.Faces.{CornerOf, cornerOf, shownOf}
+use Rattle.player_spec.specs.Reasons.{Reason, whyOf}
 use Rattle.player_spec.specs.Lookups.{onlyIf}
 use Rattle.pair_text.specs.Rules.{figureNames, movementNames}
 use Rattle.player_label.specs.Labels.{labelOf}
@@ -32,6 +33,10 @@ cornerAsked f face k = onlyIf (ltb face (length (facesOf f)) && ltb k (faceOf f 
 unfoldable pub shownAsked : Figure → Movement → ℕ → ℕ → Option Bool
 shownAsked f m face at =
     onlyIf (ltb face (length (facesOf f)) && ltb at (framesOf m)) (shownOf (f .bones) (m .patterns) (groupedFaceOf f face) at)
+
+unfoldable pub whyAsked : Figure → Movement → ℕ → ℕ → Option Reason
+whyAsked f m face at =
+    onlyIf (ltb face (length (facesOf f)) && ltb at (framesOf m)) (whyOf (f .bones) (m .patterns) (groupedFaceOf f face) at)
 
 unfoldable pub labelAsked : Figure → Movement → ℕ → Option (List ℕ)
 labelAsked f m bone =

@@ -4,27 +4,23 @@ use mathlib.Core.List.{List}
 use Prim.Native.Nat.{ℕ}
 use lib.IntN.{ℤ}
 use lib.ListN.{length, drop}
-use Rattle.refusal.specs.Outcomes.{accepted}
 use Rattle.bac6_text.specs.Figure.{Figure}
 use Rattle.bac6_text.specs.Layout as figures
 use Rattle.bac6_text.specs.Answer.{figureAnswer, tableAfter}
-use Rattle.bac6.specs.Answers as bac6
 use Rattle.tra4_text.specs.Movement.{Movement}
 use Rattle.tra4_text.specs.Answer.{movementAnswer, movementTable}
-use Rattle.tra4.specs.Answers as tra4
 use Rattle.table_counts.specs.declared.counts.FigureCounts.{FigureCounts}
 use Rattle.table_counts.specs.declared.counts.MovementCounts.{MovementCounts}
-use Rattle.player_spec.specs.Lookups.{sampleIn, cornerIn, shownIn}
+use Rattle.player_spec.specs.Lookups.{sampleIn, cornerIn, shownIn, whyIn}
 use Rattle.player_label.specs.Labels.{labelIn}
-use Rattle.movement_bridge.specs.Counts as movement
 use Rattle.movement_bridge.proofs.Tables.{movement-holds, whole-read, table-read}
-use Rattle.figure_bridge.specs.Rows as figure
 use Rattle.figure_bridge.proofs.Texts.{counts-are, figure-taken, whole-figure, figure-table}
-use Rattle.pair_text.specs.Rules.{figureNames}
+use Rattle.refusal.specs.Faults.{clear}
+use Rattle.pair_text.specs.Rules.{figureNames, groupsFault}
 use Rattle.pair_text.specs.Answer.{Loaded, loaded, pairAnswer, figureLeft, movementOf, movementLeft}
 use Rattle.pair_text.proofs.Taken as pairs
-use Rattle.pair_bridge.specs.Playing.{sampleAsked, cornerAsked, shownAsked, labelAsked}
-use Rattle.pair_bridge.proofs.Lookups.{sample-asked, corner-asked, shown-asked}
+use Rattle.pair_bridge.specs.Playing.{sampleAsked, cornerAsked, shownAsked, whyAsked, labelAsked}
+use Rattle.pair_bridge.proofs.Lookups.{sample-asked, corner-asked, shown-asked, why-asked}
 use Rattle.pair_bridge.proofs.Labels.{label-read}
 use Rattle.pair_load.specs.Answers.{pairReply}
 use Rattle.pair_movement.proofs.Standing.{figure-stands, movement-stands}
@@ -66,11 +62,20 @@ module _ (F : List ℕ) (table : List ℤ) (M : List ℕ) (moves : List ℤ) (f 
       ap₂ (λ (n : FigureCounts) (t : List ℤ). cornerIn n t face k) figure-counts table-is
       ∙ corner-asked F table f (parts .figure) face k
 
+  -- a lookup on both tables
+  on-both : {A : Type 0} (look : FigureCounts → List ℤ → MovementCounts → List ℤ → A) → look (reply F table M moves .figure) (tableLeft F table M moves) (reply F table M moves .movement) (movesLeft F table M moves) ≡ look (figureCounts f) (tableAfter F table) (movementCounts m) (movementTable M moves)
+  on-both look =
+      ap₂ (λ (n : FigureCounts) (t : List ℤ). look n t (reply F table M moves .movement) (movesLeft F table M moves)) figure-counts table-is
+      ∙ ap₂ (λ (k : MovementCounts) (u : List ℤ). look (figureCounts f) (tableAfter F table) k u) movement-counts moves-is
+
+  known : groupsFault (length (f .groups)) (m .patterns) ≡ clear
+  known = pairs.groups-kept (figureNames f) (length (f .groups)) m (parts .rules)
+
   pub every-shown : (face at : ℕ) → shownIn (reply F table M moves .figure) (tableLeft F table M moves) (reply F table M moves .movement) (movesLeft F table M moves) face at ≡ shownAsked f m face at
-  every-shown face at =
-      ap₂ (λ (n : FigureCounts) (t : List ℤ). shownIn n t (reply F table M moves .movement) (movesLeft F table M moves) face at) figure-counts table-is
-      ∙ ap₂ (λ (k : MovementCounts) (u : List ℤ). shownIn (figureCounts f) (tableAfter F table) k u face at) movement-counts moves-is
-      ∙ shown-asked F table f (parts .figure) M moves m (parts .movement) (pairs.groups-kept (figureNames f) (length (f .groups)) m (parts .rules)) face at
+  every-shown face at = on-both (λ n t k u. shownIn n t k u face at) ∙ shown-asked F table f (parts .figure) M moves m (parts .movement) known face at
+
+  pub every-why : (face at : ℕ) → whyIn (reply F table M moves .figure) (tableLeft F table M moves) (reply F table M moves .movement) (movesLeft F table M moves) face at ≡ whyAsked f m face at
+  every-why face at = on-both (λ n t k u. whyIn n t k u face at) ∙ why-asked F table f (parts .figure) M moves m (parts .movement) known face at
 
   label-alone : (bone : ℕ) → labelIn F (figureCounts f) (tableAfter F table) M (movementCounts m) (movementTable M moves) bone ≡ labelAsked f m bone
   label-alone bone =
@@ -78,16 +83,16 @@ module _ (F : List ℕ) (table : List ℤ) (M : List ℕ) (moves : List ℤ) (f 
       (label-read F f (whole-figure F table f (parts .figure)) (figure-taken F table f (parts .figure) .shape .clean) (drop (length (figures.layoutOf f)) table) (figure-stands F f (figure-alone F _ f (parts .figure))) M m (whole-read M moves m (parts .movement)) (movementTable M moves) _ (table-read M moves m (parts .movement)) (movement-holds M moves m (parts .movement)) (movement-stands M m (movement-alone M _ m (parts .movement))) bone)
 
   pub every-label : (bone : ℕ) → labelIn F (reply F table M moves .figure) (tableLeft F table M moves) M (reply F table M moves .movement) (movesLeft F table M moves) bone ≡ labelAsked f m bone
-  every-label bone =
-      ap₂ (λ (n : FigureCounts) (t : List ℤ). labelIn F n t M (reply F table M moves .movement) (movesLeft F table M moves) bone) figure-counts table-is
-      ∙ ap₂ (λ (k : MovementCounts) (u : List ℤ). labelIn F (figureCounts f) (tableAfter F table) M k u bone) movement-counts moves-is
-      ∙ label-alone bone
+  every-label bone = on-both (λ n t k u. labelIn F n t M k u bone) ∙ label-alone bone
 
   -- ---- the same of counts and tables that are those of loading
 
   module _ (n : FigureCounts) (t : List ℤ) (k : MovementCounts) (u : List ℤ) (a : n ≡ reply F table M moves .figure) (b : t ≡ tableLeft F table M moves) (c : k ≡ reply F table M moves .movement) (d : u ≡ movesLeft F table M moves) where
     pub shown-of : (face at : ℕ) → shownIn n t k u face at ≡ shownAsked f m face at
     shown-of face at = rw (a, b, c, d) (every-shown face at)
+
+    pub why-of : (face at : ℕ) → whyIn n t k u face at ≡ whyAsked f m face at
+    why-of face at = rw (a, b, c, d) (every-why face at)
 
     pub label-of : (bone : ℕ) → labelIn F n t M k u bone ≡ labelAsked f m bone
     label-of bone = rw (a, b, c, d) (every-label bone)

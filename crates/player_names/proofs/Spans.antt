@@ -21,6 +21,7 @@ use Rattle.table_movement.specs.Sections.{holdsMovement}
 use Rattle.table_columns.specs.Parts.{numberAt, numbersAt}
 use Rattle.table_bones.specs.Internal.Bones.{rowIf, figureBone, movementBone}
 use Rattle.player_spec.specs.Lookups.{onlyIf}
+use Rattle.player_spec.proofs.OnlyIf.{only-some}
 use Rattle.table_figure.proofs.Indices.{bone-place}
 use Rattle.table_movement.proofs.Mosts.{movement-room}
 use Rattle.player_names.specs.Names.{isName, nameSpan, figureSpan, movementSpan, ifTrue, figureNamed, movementNamed}
@@ -83,16 +84,10 @@ ends-within size (pos p) (pos l) e = leb-true (p + l) size (and-true (leb l 255)
 ends-within size (pos p) (negsuc l) e = let z : _≡_ {A = ℕ} 0 1 = cc in absurd (omega (arith, z))
 ends-within size (negsuc p) long e = let z : _≡_ {A = ℕ} 0 1 = cc in absurd (omega (arith, z))
 
--- what is only there if a test holds
-pub only-some : {A : Type 0} (b : Bool) (a s : A) → onlyIf b a ≡ some s → (b ≡ true) × (a ≡ s)
-unfolding onlyIf
-only-some true a s e = (refl, cc)
-only-some false a s e = let z : _≡_ {A = ℕ} 0 1 = cc in absurd (omega (arith, z))
-
 pub span-within : (size : ℕ) (place long : ℤ) (s : ℕ × ℕ) → nameSpan size place long ≡ some s → s .1 ≤ size
 unfolding nameSpan
 span-within size place long s e =
-    let o = only-some (isName size place long) (natAbs place, natAbs place + natAbs long) s e in
+    let o = only-some (isName size place long) (natAbs place, natAbs place + natAbs long) s .0 e in
     let h = ends-within size place long (o .0) in
     let r : natAbs place + natAbs long ≡ s .1 = ap (λ (t : ℕ × ℕ). t .1) (o .1) in
     omega arith

@@ -1,56 +1,21 @@
 // Whether a face is shown at a frame.
 ghost use mathlib.Core.Path.{_≡_};
-ghost use Prim.Native.Nat.{_/_};
-ghost use lib.ListN.{length};
-ghost use Rattle.table_columns.specs.Parts.{rowsAt};
-ghost use Rattle.table_figure.specs.Internal.Found.{Found};
 ghost use Rattle.player_spec.specs.Lookups.{shownIn};
 ghost use Rattle.player_spec.specs.Answers.{numbered};
-ghost use Rattle.player_shown.specs.Internal.Rows.{rowShown};
-ghost use Rattle.player_shown.specs.Answers.{showed, visible};
-use crate::owning::row_owned;
-use crate::visibility::Visibility;
-use crate::visibility::both;
-use crate::visibility::state;
-use player_patterns::deciding_line;
-use player_tests::is_asked;
-use table_columns::FACE_GROUP;
-use table_counts::FACE_WIDTH;
+ghost use Rattle.player_shown.specs.Answers.{showed};
+use player_why::Explained;
+use player_why::why;
 use table_counts::FigureCounts;
 use table_counts::MovementCounts;
-use table_counts::PATTERN_WIDTH;
-use table_figure::FigureSections;
-use table_figure::figure_in;
-use table_movement::movement_in;
-use table_references::is_index;
-use table_references::is_none;
 
-// By a face's row and the pattern lines, in rows of three numbers.
-fn row_shown(
-    table: &[i64],
-    n: FigureCounts,
-    s: FigureSections,
-    row: &[i64],
-    patterns: &[i64],
-    total: i64,
-    at: usize,
-) -> Visibility
-    requires { ⌜ Found n (now table) s × (length (now row) ≡ 11) ⌝ }
-    ensures { λ r. ⌜ visible r ≡ rowShown n (now (table .entry)) (now (row .entry)) (rowsAt 3 (now (patterns .entry)) 0 (length (now (patterns .entry)) / 3)) total at ⌝ }
-{
-    let group = row[FACE_GROUP];
-    if !is_index(n.groups, group) {
-        return Visibility::Refused;
-    }
-    let corners = row_owned(table, n, s, row);
-    if is_none(group) {
-        return corners;
-    }
-    let line = deciding_line(patterns, total, n.groups, group as usize, at);
-    both(corners, state(line))
+// Whether it is shown, or refusal 21.
+pub enum Visibility {
+    Refused,
+    Shown,
+    Hidden,
 }
 
-// Whether a face is shown at a frame, in any tables with any counts.
+// Whether a face is shown at a frame, in any tables with any counts: it is where the reason says so.
 pub fn shown(
     table: &[i64],
     n: FigureCounts,
@@ -61,31 +26,11 @@ pub fn shown(
 ) -> Visibility
     ensures { λ r. ⌜ showed r ≡ numbered (shownIn n (now (table .entry)) m (now (moves .entry)) face at) ⌝ }
 {
-    let s = figure_in(table, n);
-    if s.end == 0 {
-        return Visibility::Refused;
+    match why(table, n, moves, m, face, at) {
+        Explained::Refused => Visibility::Refused,
+        Explained::Shown => Visibility::Shown,
+        Explained::Corner { .. } => Visibility::Hidden,
+        Explained::Unset => Visibility::Hidden,
+        Explained::Line { .. } => Visibility::Hidden,
     }
-    let t = movement_in(moves, m);
-    if t.end == 0 {
-        return Visibility::Refused;
-    }
-    if n.faces <= face {
-        return Visibility::Refused;
-    }
-    let total = moves[0];
-    if !is_asked(total, at) {
-        return Visibility::Refused;
-    }
-    let base = s.faces + face * FACE_WIDTH;
-    let from = t.patterns;
-    let count = m.patterns;
-    row_shown(
-        table,
-        n,
-        s,
-        &table[base..base + FACE_WIDTH],
-        &moves[from..from + count * PATTERN_WIDTH],
-        total,
-        at,
-    )
 }

@@ -16,11 +16,12 @@ use Rattle.player_spec.specs.Fractions.{Fraction, factorIn, factor, sign
 use Rattle.player_spec.specs.Samples.{keyFrame, keyValue, line, sampleFrom, pose, standing, sampleOf}
 use Rattle.player_spec.specs.Deciding.{Line, lineFrame, applies, flagOf, notAfter, better, decidingFrom, deciding, stateBy}
 use Rattle.player_spec.specs.Faces.{inGroup, inGroups, groupedFaces, allOwned, groupShown, shownOf, rowAt, uvAt, cornerOf}
+use Rattle.player_spec.specs.Reasons.{Reason, shown, byCorner, unset, byLine, firstUnowned, lineReason, groupReason, cornerFirst, reasonOf}
 use Rattle.refusal.specs.Faults.{clear, fault, isClear}
 use Rattle.table_movement.specs.Sections.{fewInMovement, keysBegin, patternsBegin, movementEnd, holdsMovement}
 use Rattle.table_figure.specs.Sections.{fewInFigure, groupsBegin, pointsBegin, bonesBegin, ownersBegin, uvsBegin, facesBegin, figureEnd, holdsFigure}
 use Rattle.table_columns.specs.Parts.{numberAt, numbersAt, rowsAt}
-use Rattle.player_spec.specs.Lookups.{onlyIf, isFloat, allFloat, isAsked, isRange, valuesFine, pairAt, channelKeys, canSample, sampleIn, sizeFine, cornersFine, allNone, faceAt, ownerAt, faceSound, pointAt, uvRow, uvFine, uvIn, canCorner, cornerIn, ownersFine, ownedCorners, patternRows, linesFine, patternsFine, canShow, groupFlag, shownIn}
+use Rattle.player_spec.specs.Lookups.{onlyIf, isFloat, allFloat, isAsked, isRange, valuesFine, pairAt, channelKeys, canSample, sampleIn, sizeFine, cornersFine, allNone, faceAt, ownerAt, faceSound, pointAt, uvRow, uvFine, uvIn, canCorner, cornerIn, ownersFine, ownedCorners, patternRows, linesFine, patternsFine, canShow, groupFlag, shownIn, cornerOwners, groupNamed, whyIn}
 use Rattle.table_counts.specs.declared.counts.MovementCounts.{MovementCounts}
 use Rattle.table_counts.specs.declared.counts.FigureCounts.{FigureCounts}
 use Rattle.table_counts.specs.Counts.{figureLists, figureMosts, movementLists, movementMosts}
@@ -99,6 +100,11 @@ pub shown-example : map (λ (at : ℕ). shownIn figureCounts figure moveCounts m
 unfolding inForm tooMany movementLists figureLists fewInMovement fewInFigure groupsBegin figureMosts isRow isNone sameNumber movementMosts tra4.totalFault tra4.isFrame tra4.isZero tra4.rises tra4.keyFine tra4.channelFault tra4.hasStart tra4.startFault tra4.patternFine tra4.patternsFault orElse firstBad frameOf groupOf factorIn factor signedAs lowest whole keyFrame keyValue line sampleFrom pose standing sampleOf inGroup inGroups groupedFaces allOwned lineFrame applies flagOf notAfter better decidingFrom deciding stateBy groupShown shownOf rowAt uvAt cornerOf numberAt numbersAt rowsAt isClear keysBegin patternsBegin movementEnd holdsMovement pointsBegin ownersBegin bonesBegin uvsBegin facesBegin figureEnd holdsFigure onlyIf isFloat allFloat isIndex isAsked isRange valuesFine pairAt channelKeys canSample sampleIn sizeFine cornersFine allNone faceAt ownerAt faceSound pointAt uvRow uvFine uvIn canCorner cornerIn ownersFine ownedCorners patternRows linesFine patternsFine canShow groupFlag shownIn
 shown-example = refl
 
+-- its third corner has no bone
+pub why-example : map (λ (at : ℕ). whyIn figureCounts figure moveCounts moves 0 at) (0 ∷ 4 ∷ 5 ∷ []) ≡ some (byCorner 2) ∷ some (byCorner 2) ∷ none ∷ []
+unfolding inForm tooMany movementLists figureLists fewInMovement fewInFigure groupsBegin figureMosts isRow isNone sameNumber movementMosts tra4.totalFault tra4.isFrame tra4.isZero tra4.rises tra4.keyFine tra4.channelFault tra4.hasStart tra4.startFault tra4.patternFine tra4.patternsFault orElse firstBad frameOf groupOf factorIn factor signedAs lowest whole keyFrame keyValue line sampleFrom pose standing sampleOf inGroup inGroups groupedFaces allOwned lineFrame applies flagOf notAfter better decidingFrom deciding stateBy groupShown shownOf rowAt uvAt cornerOf numberAt numbersAt rowsAt isClear keysBegin patternsBegin movementEnd holdsMovement pointsBegin ownersBegin bonesBegin uvsBegin facesBegin figureEnd holdsFigure onlyIf isFloat allFloat isIndex isAsked isRange valuesFine pairAt channelKeys canSample sampleIn sizeFine cornersFine allNone faceAt ownerAt faceSound pointAt uvRow uvFine uvIn canCorner cornerIn ownersFine ownedCorners patternRows linesFine patternsFine canShow groupFlag shownIn firstUnowned lineReason groupReason cornerFirst reasonOf cornerOwners groupNamed whyIn
+why-example = refl
+
 pub corner-example : map (λ (k : ℕ). cornerIn figureCounts figure 0 k) (1 ∷ 2 ∷ 3 ∷ []) ≡ some (record { position = pos 1500000 ∷ pos 0 ∷ pos 0 ∷ []; owner = pos 0; uv = none; material = pos 0 }) ∷ some (record { position = pos 0 ∷ negsuc 0 ∷ pos 0 ∷ []; owner = negsuc 0; uv = none; material = pos 0 }) ∷ none ∷ []
 unfolding inForm tooMany movementLists figureLists fewInMovement fewInFigure groupsBegin figureMosts isRow isNone sameNumber movementMosts tra4.totalFault tra4.isFrame tra4.isZero tra4.rises tra4.keyFine tra4.channelFault tra4.hasStart tra4.startFault tra4.patternFine tra4.patternsFault orElse firstBad frameOf groupOf factorIn factor signedAs lowest whole keyFrame keyValue line sampleFrom pose standing sampleOf inGroup inGroups groupedFaces allOwned lineFrame applies flagOf notAfter better decidingFrom deciding stateBy groupShown shownOf rowAt uvAt cornerOf numberAt numbersAt rowsAt isClear keysBegin patternsBegin movementEnd holdsMovement pointsBegin ownersBegin bonesBegin uvsBegin facesBegin figureEnd holdsFigure onlyIf isFloat allFloat isIndex isAsked isRange valuesFine pairAt channelKeys canSample sampleIn sizeFine cornersFine allNone faceAt ownerAt faceSound pointAt uvRow uvFine uvIn canCorner cornerIn ownersFine ownedCorners patternRows linesFine patternsFine canShow groupFlag shownIn
 corner-example = refl
@@ -138,3 +144,23 @@ order-example = (refl, refl, refl, refl)
 pub order-sound : map (λ (t : ℕ). tra4.patternsFault (pos t) listB) (16 ∷ 15 ∷ []) ≡ clear ∷ fault 16 3 ∷ []
 unfolding tra4.isFrame tra4.isZero tra4.hasStart tra4.startFault tra4.patternFine tra4.patternsFault orElse firstBad frameOf groupOf
 order-sound = refl
+
+-- ---- why a face is shown or hidden, with owners of three corners
+
+abbrev owned : List ℤ
+owned = pos 0 ∷ pos 1 ∷ pos 0 ∷ []
+
+abbrev threeLines : List Pattern
+threeLines = lines ((0, 0, 1) ∷ (4, 0, 0) ∷ (2, 0, 1) ∷ [])
+
+abbrev reasons : List ℤ → Option ℕ → List Reason
+reasons owners g = map (λ (at : ℕ). reasonOf owners g threeLines at) (0 ∷ 3 ∷ 4 ∷ 5 ∷ [])
+
+-- the line in row 1 hides group 0 from frame 4 on; group 1 has no line; a face of `Polygons` has no group; the first corner without a bone, whatever the group says
+pub reasons-example :
+    (reasons owned (some 0) ≡ shown ∷ shown ∷ byLine 1 ∷ byLine 1 ∷ [])
+    × (reasons owned (some 1) ≡ replicate 4 unset)
+    × (reasons owned none ≡ replicate 4 shown)
+    × (map (reasons (pos 0 ∷ negsuc 0 ∷ negsuc 0 ∷ [])) (some 0 ∷ some 1 ∷ none ∷ []) ≡ replicate 3 (replicate 4 (byCorner 1)))
+unfolding lineFrame applies flagOf notAfter better decidingFrom deciding frameOf groupOf isNone firstUnowned lineReason groupReason cornerFirst reasonOf
+reasons-example = (refl, refl, refl, refl)

@@ -4,4 +4,5 @@ pub mod Faces
 pub mod Fractions
 pub mod InOrder
 pub mod Lookups
+pub mod Reasons
 pub mod Samples

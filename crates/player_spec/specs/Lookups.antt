@@ -1,10 +1,11 @@
--- What Sample, Shown and Corner answer on tables: none is 21, exactly where document 01 ("Playing") says so.
-use mathlib.Core.List.{List, [], _∷_}
+-- What Sample, Shown and Corner answer on tables, and why a face is shown or hidden: none is 21, exactly where document 01 ("Playing") says so; document 02, (iii): as for Shown.
+use mathlib.Core.List.{List, [], _∷_, map}
 use mathlib.Core.Bool.{Bool, true, false, not, _&&_, _||_}
 use mathlib.Core.Option.{Option, none, some}
 use Prim.Native.Nat.{ℕ, zero, suc, _+_, _*_}
 use lib.Dec.{eqb, leb, ltb}
 use lib.IntN.{ℤ, pos, negsuc, natAbs}
+use lib.ListN.{take}
 use Rattle.table_references.specs.References.{isRow, isNone, sameNumber}
 use Rattle.table_references.specs.Index.{isIndex}
 use Rattle.tra4_text.specs.Movement.{Key, Pattern, groupOf}
@@ -15,6 +16,7 @@ use Rattle.player_spec.specs.Fractions.{Fraction}
 use Rattle.player_spec.specs.Samples.{sampleOf}
 use Rattle.player_spec.specs.Deciding.{deciding, stateBy}
 use Rattle.player_spec.specs.Faces.{CornerOf}
+use Rattle.player_spec.specs.Reasons.{Reason, reasonOf}
 use Rattle.refusal.specs.Faults.{isClear}
 use Rattle.table_movement.specs.Sections.{keysBegin, patternsBegin, holdsMovement}
 use Rattle.table_figure.specs.Sections.{pointsBegin, ownersBegin, uvsBegin, facesBegin, holdsFigure}
@@ -101,6 +103,10 @@ faceSound n row =
     && (allNone (faceUvs row) || cornersFine (n .uvs) (natAbs (faceSize row)) (faceUvs row))
     && isIndex (n .groups) (faceGroup row)
 
+-- the group that a face's row names, none of -1
+unfoldable pub groupNamed : ℤ → Option ℕ
+groupNamed g = elim (isNone g) [ true ↦ none | false ↦ some (natAbs g) ]
+
 module _ (n : FigureCounts) (table : List ℤ) where
   unfoldable pub faceAt : ℕ → List ℤ
   faceAt face = numbersAt table (facesBegin n + face * 11) 11
@@ -154,6 +160,10 @@ module _ (n : FigureCounts) (table : List ℤ) where
   ownedCorners (suc used) [] = true
   ownedCorners (suc used) (v ∷ vs) = not (isNone (ownerAt v)) && ownedCorners used vs
 
+  -- the owners of the corners that a face's row uses
+  unfoldable pub cornerOwners : List ℤ → List ℤ
+  cornerOwners row = map ownerAt (take (natAbs (faceSize row)) (faceVertices row))
+
   module _ (m : MovementCounts) (moves : List ℤ) where
     unfoldable pub patternRows : List Pattern
     patternRows = rowsAt 3 moves (patternsBegin m) (m .patterns)
@@ -180,3 +190,8 @@ module _ (n : FigureCounts) (table : List ℤ) where
     shownIn face at =
         onlyIf (canShow face at)
         (ownedCorners (natAbs (faceSize (faceAt face))) (faceVertices (faceAt face)) && groupFlag (faceGroup (faceAt face)) at)
+
+    -- ---- why a face is shown or hidden: 21 as for Shown
+
+    unfoldable pub whyIn : ℕ → ℕ → Option Reason
+    whyIn face at = onlyIf (canShow face at) (reasonOf (cornerOwners (faceAt face)) (groupNamed (faceGroup (faceAt face))) patternRows at)

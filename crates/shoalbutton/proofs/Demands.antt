@@ -37,11 +37,11 @@ use Rattle.figure_bridge.proofs.Texts.{figure-table}
 use Rattle.pair_text.specs.Answer.{refused, loaded, paired, pairAnswer, figureLeft, movementOf, movementLeft}
 use Rattle.pair_text.proofs.Taken as pairs
 use Rattle.pair_text.specs.Rules.{figureNames, bonesFault}
-use Rattle.pair_bridge.specs.Playing.{framesOf, sampleAsked, cornerAsked, shownAsked, labelAsked}
+use Rattle.pair_bridge.specs.Playing.{framesOf, sampleAsked, cornerAsked, shownAsked, whyAsked, labelAsked}
 use Rattle.refusal_laws.proofs.Refusals.{figure-refusal, movement-refusal, pair-refusal}
 use Rattle.refusal_laws.proofs.Answers.{figure-zero, movement-zero, pair-zero}
 use Rattle.pair_laws.proofs.Parts.{parts-taken, figure-left, moves-left}
-use Rattle.pair_laws.proofs.Loaded.{every-sample, every-corner, every-shown, every-label}
+use Rattle.pair_laws.proofs.Loaded.{every-sample, every-corner, every-shown, every-why, every-label}
 use Rattle.shoalbutton.specs.Demands.{Keeps, KeepsFigure, KeepsMovement, KeepsPair, Demand1, Demand2, SampleLaws, Played, Demand3}
 
 -- ---- over a format
@@ -143,17 +143,19 @@ module _ (F : List ℕ) (table : List ℤ) (M : List ℕ) (moves : List ℤ) (f 
       }
 
   played : Played F table M moves f m
-  unfolding numbered sampleAsked shownAsked cornerAsked labelAsked onlyIf
+  unfolding numbered sampleAsked shownAsked whyAsked cornerAsked labelAsked onlyIf
   played =
       record {
         sample = λ bone channel at h k l. ap numbered (every-sample F table M moves f m e bone channel at) ∙ rw (lt-ltb bone (length (m .bones)) h, lt-ltb channel 10 k, lt-ltb at (framesOf m) l);
         shown = λ face at h l. ap numbered (every-shown F table M moves f m e face at) ∙ rw (lt-ltb face (length (facesOf f)) h, lt-ltb at (framesOf m) l);
+        why = λ face at h l. ap numbered (every-why F table M moves f m e face at) ∙ rw (lt-ltb face (length (facesOf f)) h, lt-ltb at (framesOf m) l);
         corner = λ face i h l. ap numbered (every-corner F table M moves f m e face i) ∙ rw (lt-ltb face (length (facesOf f)) h, lt-ltb i (faceOf f face .size) l);
         label = λ bone h. ap numbered (every-label F table M moves f m e bone) ∙ rw (lt-ltb bone (length (f .bones)) (rw same-bones h), lt-ltb bone (length (m .bones)) h);
         bones = same-bones;
         laws = laws;
         every-sample = every-sample F table M moves f m e;
         every-shown = every-shown F table M moves f m e;
+        every-why = every-why F table M moves f m e;
         every-corner = every-corner F table M moves f m e;
         every-label = every-label F table M moves f m e;
       }

@@ -23,6 +23,8 @@ use Rattle.player_spec.specs.Deciding.{deciding, stateBy}
 use Rattle.player_spec.specs.Faces.{allOwned, groupShown, shownOf}
 use Rattle.tra4_text.proofs.Patterns.{patterns-taken, startless, started}
 use Rattle.player_spec.proofs.Greatest.{deciding-greatest, unfallen}
+use Rattle.player_spec.proofs.Reasons.{text-reason, table-reason, text-owners, table-owners}
+use Rattle.player_spec.proofs.WhyShown.{text-shown, table-shown, refused-by, shown-in}
 use Rattle.player_laws.proofs.Exchanged.{rule-exchanged, state-exchanged}
 use Rattle.tra4_text.proofs.LeftOut.{bone-ends, channel-read, bone-chunks, channel-kept, zero-range, laid-range}
 use Rattle.player_laws.proofs.Keys.{sample-none, sample-pose}
@@ -33,7 +35,8 @@ use Rattle.player_laws.proofs.Steps.{sample-reduced, channel-steps, sample-step
 use Rattle.player_fractions.specs.Halving.{unreducedOf, stepsLeft, Enough}
 use Rattle.movement_bridge.proofs.Sampling.{channel-sound, channel-values, pair-none, sample-left-out}
 use Rattle.pair_bridge.specs.Playing.{framesOf}
-use Rattle.shoalbutton.specs.Requests.{Exponents, AnyOrder, standingPose, LeftOut, NoDivider}
+use Rattle.pair_bridge.proofs.Lookups.{asked-shown}
+use Rattle.shoalbutton.specs.Requests.{Exponents, AnyOrder, standingPose, LeftOut, NoDivider, WhyHidden}
 
 int-same : (word : List ℕ) → numberOf INT word ≡ fixedOf INT word
 unfolding numberOf
@@ -107,3 +110,16 @@ text-sample-steps text table m e bone channel at h k l =
 
 pub no-divider : NoDivider
 no-divider = record { answer = sample-reduced; steps = sample-steps; text-steps = text-sample-steps; one-more = steps-one-more }
+
+pub why-hidden : WhyHidden
+why-hidden =
+    record {
+      text-reason = text-reason;
+      table-reason = table-reason;
+      text-owners = text-owners;
+      table-owners = table-owners;
+      text-shown = text-shown;
+      text-refused = λ f m face at. refused-by (asked-shown f m face at);
+      table-shown = table-shown;
+      table-refused = λ n table m moves face at. refused-by (shown-in n table m moves face at);
+    }

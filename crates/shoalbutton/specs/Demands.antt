@@ -27,7 +27,8 @@ use Rattle.table_counts.specs.declared.counts.MovementCounts.{MovementCounts}
 use Rattle.player_spec.specs.Fractions.{whole}
 use Rattle.player_spec.specs.Samples.{keyFrame, keyValue, standing, sampleOf}
 use Rattle.player_spec.specs.Faces.{cornerOf, shownOf}
-use Rattle.player_spec.specs.Lookups.{sampleIn, cornerIn, shownIn}
+use Rattle.player_spec.specs.Reasons.{whyOf}
+use Rattle.player_spec.specs.Lookups.{sampleIn, cornerIn, shownIn, whyIn}
 use Rattle.player_spec.specs.Answers.{numbered}
 use Rattle.player_laws.specs.Bounds.{Between, LowestTerms, keyAt}
 use Rattle.player_label.specs.Labels.{labelOf, labelIn}
@@ -35,7 +36,7 @@ use Rattle.movement_bridge.specs.Counts.{channelOf}
 use Rattle.figure_bridge.specs.Rows.{faceOf, groupedFaceOf}
 use Rattle.pair_text.specs.Rules.{figureNames, movementNames, pairFault}
 use Rattle.pair_text.specs.Answer.{refused, loaded, pairAnswer, figureLeft, movementOf, movementLeft, tableLeft, movesLeft}
-use Rattle.pair_bridge.specs.Playing.{framesOf, sampleAsked, cornerAsked, shownAsked, labelAsked}
+use Rattle.pair_bridge.specs.Playing.{framesOf, sampleAsked, cornerAsked, shownAsked, whyAsked, labelAsked}
 use Rattle.bac6.specs.Answers as bac6
 use Rattle.tra4.specs.Answers as tra4
 use Rattle.pair_load.specs.Answers.{pairReply, reply}
@@ -121,6 +122,7 @@ module _ (F : List ℕ) (table : List ℤ) (M : List ℕ) (moves : List ℤ) whe
     -- what is in the files
     pub sample : (bone channel at : ℕ) → bone < length (m .bones) → channel < 10 → at < framesOf m → numbered (sampleIn k U bone channel at) ≡ (0, 0, 0, some (sampleOf channel (channelOf m bone channel) at))
     pub shown : (face at : ℕ) → face < length (facesOf f) → at < framesOf m → numbered (shownIn n T k U face at) ≡ (0, 0, 0, some (shownOf (f .bones) (m .patterns) (groupedFaceOf f face) at))
+    pub why : (face at : ℕ) → face < length (facesOf f) → at < framesOf m → numbered (whyIn n T k U face at) ≡ (0, 0, 0, some (whyOf (f .bones) (m .patterns) (groupedFaceOf f face) at))
     pub corner : (face i : ℕ) → face < length (facesOf f) → i < faceOf f face .size → numbered (cornerIn n T face i) ≡ (0, 0, 0, some (cornerOf f (faceOf f face) i))
     pub label : (bone : ℕ) → bone < length (m .bones) → numbered (labelIn F n T M k U bone) ≡ (0, 0, 0, some (labelOf (getD (figureNames f) bone []) (getD (movementNames m) bone [])))
     -- as many bones in the one as in the other
@@ -129,6 +131,7 @@ module _ (F : List ℕ) (table : List ℤ) (M : List ℕ) (moves : List ℤ) whe
     -- whatever is asked: 21 exactly for what is not in the files
     pub every-sample : (bone channel at : ℕ) → sampleIn k U bone channel at ≡ sampleAsked m bone channel at
     pub every-shown : (face at : ℕ) → shownIn n T k U face at ≡ shownAsked f m face at
+    pub every-why : (face at : ℕ) → whyIn n T k U face at ≡ whyAsked f m face at
     pub every-corner : (face i : ℕ) → cornerIn n T face i ≡ cornerAsked f face i
     pub every-label : (bone : ℕ) → labelIn F n T M k U bone ≡ labelAsked f m bone
 

@@ -24,19 +24,23 @@ use Rattle.tra4_text.specs.Grammar.{key, channelNames, channelKinds, keysIn, bo
 use Rattle.tra4_text.specs.Rules.{patternFine, hasStart, patternsFault, movementCounts}
 use Rattle.tra4_text.specs.Layout.{keyRanges}
 use Rattle.tra4_text.specs.Answer.{movementAnswer, movementTable}
+use Rattle.table_counts.specs.declared.counts.FigureCounts.{FigureCounts}
 use Rattle.table_counts.specs.declared.counts.MovementCounts.{MovementCounts}
 use Rattle.table_columns.specs.Parts.{numberAt}
+use Rattle.table_columns.specs.Columns.{faceVertex, faceGroup}
 use Rattle.table_movement.specs.Sections.{holdsMovement}
 use Rattle.player_spec.specs.Fractions.{Fraction, whole}
 use Rattle.player_spec.specs.Samples.{pose, standing, sampleOf}
-use Rattle.player_spec.specs.Lookups.{isAsked, pairAt, channelKeys, sampleIn}
+use Rattle.player_spec.specs.Lookups.{isAsked, pairAt, channelKeys, sampleIn, faceAt, ownerAt, cornerOwners, groupNamed, patternRows, canShow, shownIn, whyIn}
 use Rattle.player_spec.specs.Deciding.{lineFrame, Line, deciding, stateBy, Decides}
 use Rattle.player_spec.specs.InOrder.{neverFalls, lastFlag}
-use Rattle.player_spec.specs.Faces.{allOwned, shownOf}
+use Rattle.player_spec.specs.Faces.{allOwned, shownOf, cornerOf}
+use Rattle.player_spec.specs.Reasons.{Reason, shown, whyOf, Because}
 use Rattle.player_fractions.specs.Halving.{Unreduced, unreducedOf, reduced, stepsLeft, Enough}
-use Rattle.bac6_text.specs.Figure.{Bone, Face}
+use Rattle.bac6_text.specs.Figure.{Bone, Face, Figure}
+use Rattle.bac6_text.specs.Rules.{ownerOf}
 use Rattle.movement_bridge.specs.Counts.{channelOf}
-use Rattle.pair_bridge.specs.Playing.{framesOf}
+use Rattle.pair_bridge.specs.Playing.{framesOf, shownAsked, whyAsked}
 
 -- ---- (vii): "A FLOAT may now end in `e`, an optional `-` and one digit 0 to 6. It is accepted if the value is a whole number of millionths, at most 9,999,999,999,999 either way."
 
@@ -131,3 +135,20 @@ pub record NoDivider : Type 0 where
   pub text-steps : (text : List ℕ) (table : List ℤ) (m : Movement) → movementAnswer text (length table) ≡ accepted m → (bone channel at : ℕ) → bone < length (m .bones) → channel < 10 → at < framesOf m → Enough (stepsLeft 200 (unreducedOf channel (channelOf m bone channel) at))
   -- of one step more one more is left: so how many are taken does not depend on how many there are
   pub one-more : (n k : ℕ) (u : Unreduced) → stepsLeft n u ≡ some k → stepsLeft (suc n) u ≡ some (suc k)
+
+-- ---- (iii): "shown; hidden by a corner (the first with no bone); hidden because its group has no line by that frame; or hidden by a pattern line (the deciding one). Corners are tried first. It says shown exactly when
+-- Shown says yes. Refusals: 21 as for Shown." Of a loaded pair it is the reason that the two texts give, and never 21 for what is in the files: `why` and `every-why` of demand 3
+
+-- `Because owners g ps at r`: what the reason r says, by the owners of a face's corners, -1 for none, by its group, none for a face of `Polygons`, and by the pattern lines
+pub record WhyHidden : Type 0 where
+  -- a reason is given exactly where it holds: of texts, and of any tables with any counts, where Shown's tests pass
+  pub text-reason : (bs : List Bone) (ps : List Pattern) (f : Face) (g : Option ℕ) (at : ℕ) (r : Reason) → whyOf bs ps (f, g) at ≡ r ↔ Because (map (ownerOf bs) (f .vertices)) g ps at r
+  pub table-reason : (n : FigureCounts) (table : List ℤ) (m : MovementCounts) (moves : List ℤ) (face at : ℕ) (r : Reason) → whyIn n table m moves face at ≡ some r ↔ ((canShow n table m moves face at ≡ true) × Because (cornerOwners n table (faceAt n table face)) (groupNamed (faceGroup (faceAt n table face))) (patternRows n table m moves) at r)
+  -- the owners are those that Corner tells, by the corner's number
+  pub text-owners : (f : Figure) (face : Face) (k : ℕ) → k < length (face .vertices) → getD (map (ownerOf (f .bones)) (face .vertices)) k (pos 0) ≡ cornerOf f face k .owner
+  pub table-owners : (n : FigureCounts) (table row : List ℤ) (k : ℕ) → k < length (cornerOwners n table row) → getD (cornerOwners n table row) k (pos 0) ≡ ownerAt n table (faceVertex row k)
+  -- shown exactly when Shown says yes, and 21 exactly when Shown is
+  pub text-shown : (bs : List Bone) (ps : List Pattern) (f : Face × Option ℕ) (at : ℕ) → shownOf bs ps f at ≡ true ↔ whyOf bs ps f at ≡ shown
+  pub text-refused : (f : Figure) (m : Movement) (face at : ℕ) → shownAsked f m face at ≡ none ↔ whyAsked f m face at ≡ none
+  pub table-shown : (n : FigureCounts) (table : List ℤ) (m : MovementCounts) (moves : List ℤ) (face at : ℕ) → shownIn n table m moves face at ≡ some true ↔ whyIn n table m moves face at ≡ some shown
+  pub table-refused : (n : FigureCounts) (table : List ℤ) (m : MovementCounts) (moves : List ℤ) (face at : ℕ) → shownIn n table m moves face at ≡ none ↔ whyIn n table m moves face at ≡ none

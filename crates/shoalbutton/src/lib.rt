@@ -1,4 +1,4 @@
-// The page: every call that document 01 names, and the calls that load a pair and then play it. Each stands in a crate of its own, where its whole
+// The page: every call that document 01 names, why a face is shown or hidden (document 02), and the calls that load a pair and then play it. Each stands in a crate of its own, where its whole
 // contract is proved; docs/CALLS.md has them all side by side. Demands 1 to 3 are stated in specs/Demands.antt, document 02's requests in
 // specs/Requests.antt, the cases that document 01 marks in specs/Marked.antt.
 
@@ -25,6 +25,8 @@ pub use player_label::label_number;
 pub use player_samples::sample;
 pub use player_shown::Visibility;
 pub use player_shown::shown;
+pub use player_why::Explained;
+pub use player_why::why;
 pub use table_counts::FigureCounts;
 pub use table_counts::MovementCounts;
 
@@ -39,3 +41,5 @@ pub use pair_samples::PlayedSample;
 pub use pair_samples::played_sample;
 pub use pair_shown::PlayedShown;
 pub use pair_shown::played_shown;
+pub use pair_why::PlayedWhy;
+pub use pair_why::played_why;

@@ -15,8 +15,8 @@ use Rattle.report_text.specs.Output.{output, appended}
 use Rattle.report_lists.specs.Lists.{appendedEach, textOf, shown}
 use Rattle.report_lists.proofs.Texts.{AllFit, line-most, shown-fits}
 use Rattle.player_shown.specs.Answers.{showed}
-use Rattle.player_shown.specs.declared.visibility.Visibility.{Visibility}
-use Rattle.player_shown.specs.declared.visibility.Visibility.the-variants.{Refused, Shown, Hidden}
+use Rattle.player_shown.specs.declared.showing.Visibility.{Visibility}
+use Rattle.player_shown.specs.declared.showing.Visibility.the-variants.{Refused, Shown, Hidden}
 use Rattle.report_lists.specs.Refusals.{refusedLine}
 use Rattle.shown_listing.specs.Faces.{flagNumber, shownLine}
 use Rattle.report_lists.proofs.Turns.{one-line}

@@ -33,10 +33,12 @@ pub(crate) const CORNER: usize = 16;
 
 pub(crate) const SHOWN: usize = 17;
 
+pub(crate) const WHY: usize = 18;
+
 pub(crate) fn kind_of(input: &[u8], word: Span) -> usize {
     parse_words::word_index(
         input,
         word,
-        b"front back pad copies figure_table figure_counts movement_table movement_counts bac tra int float tokens figure movement sample corner shown",
+        b"front back pad copies figure_table figure_counts movement_table movement_counts bac tra int float tokens figure movement sample corner shown why",
     )
 }

@@ -1,4 +1,4 @@
-// Questions on tables: Sample, Corner and Shown. Each answer is put at the start of out, and its length told.
+// Questions on tables: Sample, Corner, Shown and the reason for it. Each answer is put at the start of out, and its length told.
 use crate::counts::figure_counts;
 use crate::counts::lent_size;
 use crate::counts::movement_counts;
@@ -8,6 +8,7 @@ use crate::kind::FIGURE;
 use crate::kind::MOVEMENT;
 use crate::kind::SAMPLE;
 use crate::kind::SHOWN;
+use crate::kind::WHY;
 use crate::kind::kind_of;
 use crate::record::next_number;
 use crate::texts::append_line;
@@ -71,6 +72,10 @@ fn answer(
         SHOWN => {
             let line = shown_line(a, b, player_shown::shown(table, n, keys, m, a, b));
             append_line(out, 0, line)
+        }
+        WHY => {
+            let reason = player_why::why(table, n, keys, m, a, b);
+            why_listing::append_why(out, 0, a, b, reason)
         }
         _ => append(out, 0, b"no such kind\n"),
     }

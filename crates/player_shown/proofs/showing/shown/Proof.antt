@@ -1,199 +1,80 @@
--- `shown` is its definition: past the tests of the tables, the face and the frame, it is the answer by the face's row.
+-- `shown` is its definition, by the reason: each of its cases is yes or no as the definition's is.
 use mathlib.Core.Path.{_≡_, refl, ap, sym, _∙_}
-use mathlib.Core.List.{List}
-use mathlib.Core.Bool.{true}
-use Prim.Native.Nat.{ℕ, _+_, _*_, _/_, _≤_, _<_}
+use mathlib.Core.Option.{Option, none, some, Option·map}
+use Prim.Native.Nat.{ℕ}
 use denote.Ref.{now}
-use lib.IntN.{ℤ, pos}
-use lib.ListN.{length, getD}
-use mir.Syntax.{w64}
-use mir.Val.{SFits, toZ, ofZ}
-use mir.Facts.{toZ-ofZ}
-use native.Mathlib.Omega.{arith}
-use borrow.Author.Tests.{not-true, not-false}
-use Rattle.tra4_text.specs.Movement.{Pattern}
-use Rattle.signed.proofs.Tests.{tested}
-use Rattle.table_columns.specs.Parts.{numberAt, rowsAt}
-use Rattle.table_columns.proofs.Parts.{part-length, part-numbers}
-use Rattle.table_movement.specs.declared.sections.MovementSections.{MovementSections}
-use Rattle.table_movement.specs.Sections.{keysBegin, patternsBegin, movementSections, holdsMovement}
-use Rattle.table_figure.specs.Sections.{facesBegin}
-use Rattle.table_figure.specs.Internal.Found.{Found}
-use Rattle.table_figure.proofs.Founds.{found, faces-are}
-use Rattle.table_movement.proofs.Mosts.{movement-room, movement-none, movement-held, movement-found}
-use Rattle.table_figure.proofs.Mosts.{figure-none}
-use Rattle.table_columns.proofs.SmallIndices.{small-fits, byte-fits, index-within}
-use Rattle.table_figure.proofs.Indices.{face-place}
-use Rattle.player_spec.specs.Lookups.{isAsked, faceAt, patternRows}
+use Rattle.player_spec.specs.Reasons.{Reason}
+use Rattle.player_spec.specs.Lookups.{shownIn}
 use Rattle.player_spec.specs.Answers.{numbered}
-use Rattle.player_shown.specs.Internal.Rows.{rowShown}
+use Rattle.player_spec.proofs.WhyShown.{isShown, shown-in}
+use Rattle.player_why.specs.declared.reason.Explained.{Explained}
+use Rattle.player_why.specs.Answers.{explained}
 use Rattle.player_shown.specs.Answers.{showed}
-use Rattle.player_shown.proofs.LentRows.{lent, lent-rows}
-use Rattle.player_shown.proofs.ShownTests.{showed-is, no-figure, no-movement, no-face, not-asked, by-row}
 use borrow.Author.Needs.{needs}
 use Rattle.player_shown.proofs.showing.shown.Statement.{statement}
 use Rattle.player_shown.proofs.showing.shown.Tie as tie
 
-there : (e : tie.Else1) → Found (e .before .before .before .args .n) (now (e .before .before .before .args .table)) (e .before .before .figure-in .result)
-there e = found _ _ _ (e .before .before .figure-in .ensures) (e .if1 .left)
+value-of : (w : Option Reason) → w ≡ numbered w .3
+unfolding numbered
+value-of none = refl
+value-of (some r) = refl
 
-moves-held : (e : tie.Else2) → holdsMovement (e .before .before .before .before .before .before .args .m) (now (e .before .before .before .before .before .before .args .moves)) ≡ true
-moves-held e = movement-held _ _ _ (e .before .before .movement-in .ensures) (e .if2 .left)
+-- what Shown is by the answer of the call
+by-answer : (m : tie.After-why) (e : Explained) → m .why .result ≡ e → let a = m .before .args in numbered (Option·map isShown (explained e .3)) ≡ numbered (shownIn (a .n) (now (a .table)) (a .m) (now (a .moves)) (a .face) (a .at))
+by-answer m e is =
+    let told : explained e ≡ _ = ap explained (sym is) ∙ m .why .ensures in
+    sym (ap numbered (shown-in _ _ _ _ _ _ ∙ ap (Option·map isShown) (value-of _ ∙ sym (ap (λ (t : ℕ × ℕ × ℕ × Option Reason). t .3) told))))
 
-patterns-are : (e : tie.Else2) → e .before .before .movement-in .result .patterns ≡ patternsBegin (e .before .before .before .before .before .before .args .m)
-unfolding movementSections
-patterns-are e = ap (λ (s : MovementSections). s .patterns) (movement-found _ _ _ (e .before .before .movement-in .ensures) (e .if2 .left))
+why-requires : tie.Need-why-requires
+why-requires c κs = search needs
 
-room : (e : tie.Else2) → let m = e .before .before .before .before .before .before .args .m in (m .bones ≤ 128) × (m .keys ≤ 4096) × (m .patterns ≤ 256) × (3 + m .bones * 22 + m .keys * 2 + m .patterns * 3 ≤ length (now (e .before .before .before .before .before .before .args .moves)))
-room e = movement-room _ _ (moves-held e)
+enum-told : tie.Need-enum-told
+enum-told c = search needs
 
-is-face : (e : tie.Else3) → e .before .before .before .before .before .before .before .before .args .face < e .before .before .before .before .before .before .before .before .args .n .faces
-is-face e = (let h = e .if3 .left in omega arith)
+enum-told-2 : tie.Need-enum-told-2
+enum-told-2 c = search needs
 
-total-fits : (m : tie.After-total) → SFits w64 (getD (now (m .before .before .before .before .before .before .before .before .before .args .moves)) 0 (pos 0))
-total-fits m = record { sfits = m .total .given }
+enum-told-3 : tie.Need-enum-told-3
+enum-told-3 c = search needs
 
-asked-told : (m : tie.After-is-asked) → m .is-asked .result ≡ isAsked (getD (now (m .before .before .before .before .before .before .before .before .before .before .args .moves)) 0 (pos 0)) (m .before .before .before .before .before .before .before .before .before .before .args .at)
-asked-told m = tested (λ (z : ℤ). isAsked z (m .before .before .before .before .before .before .before .before .before .before .args .at)) _ (total-fits (m .before)) (m .is-asked .ensures)
+enum-told-4 : tie.Need-enum-told-4
+enum-told-4 c = search needs
 
-asked : (e : tie.Else4) → isAsked (getD (now (e .before .before .before .before .before .before .before .before .before .before .before .args .moves)) 0 (pos 0)) (e .before .before .before .before .before .before .before .before .before .before .before .args .at) ≡ true
-asked e = sym (asked-told (e .before)) ∙ not-false _ (e .if4 .left)
-
--- where the face's row begins, and that it lies within the figure's table
-begins : (e : tie.Else4) → e .before .before .before .before .before .before .before .before .before .before .figure-in .result .faces + e .before .before .before .before .before .before .before .before .before .before .before .args .face * 11 ≡ facesBegin (e .before .before .before .before .before .before .before .before .before .before .before .args .n) + e .before .before .before .before .before .before .before .before .before .before .before .args .face * 11
-begins e = faces-are _ _ _ (there (e .before .before .before .before .before .before .before .before)) _
-
-place : (e : tie.Else4) → (facesBegin (e .before .before .before .before .before .before .before .before .before .before .before .args .n) + e .before .before .before .before .before .before .before .before .before .before .before .args .face * 11 + 11 ≤ length (now (e .before .before .before .before .before .before .before .before .before .before .before .args .table))) × (facesBegin (e .before .before .before .before .before .before .before .before .before .before .before .args .n) + e .before .before .before .before .before .before .before .before .before .before .before .args .face * 11 + 11 ≤ 40000)
-place e = face-place _ _ (there (e .before .before .before .before .before .before .before .before) .held) _ (is-face (e .before .before .before))
-
-face-room : (e : tie.Else4) → e .before .before .before .before .before .before .before .before .before .before .figure-in .result .faces + e .before .before .before .before .before .before .before .before .before .before .before .args .face * 11 + 11 ≤ length (now (e .before .before .before .before .before .before .before .before .before .before .before .args .table))
-face-room e = (let h = place e in let b = begins e in omega arith)
-
--- and the pattern lines within the movement's
-ends : (e : tie.Else4) → e .before .before .before .before .before .before .before .movement-in .result .patterns + e .before .before .before .before .before .before .before .before .before .before .before .args .m .patterns * 3 ≡ patternsBegin (e .before .before .before .before .before .before .before .before .before .before .before .args .m) + e .before .before .before .before .before .before .before .before .before .before .before .args .m .patterns * 3
-ends e = ap (λ (x : ℕ). x + e .before .before .before .before .before .before .before .before .before .before .before .args .m .patterns * 3) (patterns-are (e .before .before .before .before .before))
-
-lines : (e : tie.Else4) → (patternsBegin (e .before .before .before .before .before .before .before .before .before .before .before .args .m) + e .before .before .before .before .before .before .before .before .before .before .before .args .m .patterns * 3 ≤ length (now (e .before .before .before .before .before .before .before .before .before .before .before .args .moves))) × (patternsBegin (e .before .before .before .before .before .before .before .before .before .before .before .args .m) + e .before .before .before .before .before .before .before .before .before .before .before .args .m .patterns * 3 ≤ 40000)
-unfolding patternsBegin keysBegin
-lines e = (let r = room (e .before .before .before .before .before) in (omega arith, omega arith))
-
-lines-room : (e : tie.Else4) → e .before .before .before .before .before .before .before .movement-in .result .patterns + e .before .before .before .before .before .before .before .before .before .before .before .args .m .patterns * 3 ≤ length (now (e .before .before .before .before .before .before .before .before .before .before .before .args .moves))
-lines-room e = index-within _ _ (now (e .before .before .before .before .before .before .before .before .before .before .before .args .moves)) (ends e) (lines e .0)
-
-figure-in-requires : tie.Need-figure-in-requires
-figure-in-requires c κs = search needs
+enum-told-5 : tie.Need-enum-told-5
+enum-told-5 c = search needs
 
 returns : tie.Need-returns
-unfolding showed numbered
-returns c = ap numbered (no-figure _ _ _ _ _ _ (figure-none _ _ _ (c .before .before .figure-in .ensures) (c .if1 .taken)))
-
-movement-in-requires : tie.Need-movement-in-requires
-movement-in-requires c κs = search needs
+unfolding showed numbered explained
+returns c = by-answer (c .before .before) _ (c .enum-told .given .1)
 
 returns-2 : tie.Need-returns-2
-unfolding showed numbered
-returns-2 c = ap numbered (no-movement _ _ _ _ _ _ (there (c .before .before .before) .held) (movement-none _ _ _ (c .before .before .movement-in .ensures) (c .if2 .taken)))
+unfolding showed numbered explained isShown
+returns-2 c = by-answer (c .before .before) _ (c .enum-told2 .given .1)
 
 returns-3 : tie.Need-returns-3
-unfolding showed numbered
-returns-3 c = ap numbered (no-face _ _ _ _ _ _ (there (c .before .before .before .before .before) .held) (moves-held (c .before .before)) (c .if3 .taken))
-
-shared-slice-copy-out-total : tie.Need-shared-slice-copy-out-total
-shared-slice-copy-out-total c = (let h = room (c .before .before) in omega arith)
-
-is-asked-requires : tie.Need-is-asked-requires
-is-asked-requires c κs = search needs
+unfolding showed numbered explained isShown
+returns-3 c = by-answer (c .before .before) _ (c .enum-told3 .given .1)
 
 returns-4 : tie.Need-returns-4
-unfolding showed numbered numberAt
-returns-4 c = ap numbered (not-asked _ _ _ _ _ _ (there (c .before .before .before .before .before .before .before .before) .held) (moves-held (c .before .before .before .before .before)) (is-face (c .before .before .before)) (sym (asked-told (c .before)) ∙ not-true _ (c .if4 .taken)))
-
-mul-base : tie.Need-mul-base
-mul-base c = (let h = place c in small-fits _ (c .before .before .before .before .before .before .before .before .before .before .before .args .face * 11) refl (omega arith))
-
-add-base : tie.Need-add-base
-add-base c = (let h = place (c .before) in small-fits _ _ (begins (c .before)) (omega arith))
-
-add-row-shown : tie.Need-add-row-shown
-add-row-shown c = small-fits _ _ (ap (λ (x : ℕ). x + 11) (begins (c .before))) (place (c .before) .1)
-
-mul-row-shown : tie.Need-mul-row-shown
-mul-row-shown c = (let h = place (c .before) in byte-fits _ _ (begins (c .before)) (omega arith))
-
-sub-row-shown : tie.Need-sub-row-shown
-sub-row-shown c = search needs
-
-part-row-shown-start : tie.Need-part-row-shown-start
-part-row-shown-start c = search needs
-
-part-row-shown-end : tie.Need-part-row-shown-end
-part-row-shown-end c = face-room (c .before)
-
-mul-row-shown-2 : tie.Need-mul-row-shown-2
-mul-row-shown-2 c = (let h = lines (c .before .before) in small-fits _ (c .before .before .before .before .before .before .before .before .before .before .before .before .before .args .m .patterns * 3) refl (omega arith))
-
-add-row-shown-2 : tie.Need-add-row-shown-2
-add-row-shown-2 c = small-fits _ _ (ends (c .before .before)) (lines (c .before .before) .1)
-
-mul-row-shown-3 : tie.Need-mul-row-shown-3
-mul-row-shown-3 c = (let h = lines (c .before .before) in byte-fits _ _ (patterns-are (c .before .before .before .before .before .before .before)) (omega arith))
-
-sub-row-shown-2 : tie.Need-sub-row-shown-2
-sub-row-shown-2 c = search needs
-
-part-row-shown-start-2 : tie.Need-part-row-shown-start-2
-part-row-shown-start-2 c = search needs
-
-part-row-shown-end-2 : tie.Need-part-row-shown-end-2
-part-row-shown-end-2 c = lines-room (c .before .before)
-
-row-shown-requires : tie.Need-row-shown-requires
-row-shown-requires c κs =
-    let e = c .before .before .before in
-    let a = e .before .before .before .before .before .before .before .before .before .before .before .args in
-    (there (e .before .before .before .before .before .before .before .before), part-length (e .before .before .before .before .before .before .before .before .before .before .figure-in .result .faces + a .face * 11) 11 (now (a .table)) (face-room e))
+unfolding showed numbered explained isShown
+returns-4 c = by-answer (c .before .before) _ (c .enum-told4 .given .1)
 
 returns-5 : tie.Need-returns-5
-unfolding faceAt patternRows numberAt
-returns-5 c =
-    let e = c .before .before .before .before in
-    let a = e .before .before .before .before .before .before .before .before .before .before .before .args in
-    let t = now (a .table) in
-    let v = now (a .moves) in
-    let z = toZ w64 (ofZ w64 (getD v 0 (pos 0))) in
-    let from = e .before .before .before .before .before .before .before .movement-in .result .patterns in
-    showed-is _
-    ∙ ap numbered
-    (c .row-shown .ensures
-    ∙ ap (λ (r : List ℤ). rowShown (a .n) t r (rowsAt 3 (lent v from (a .m .patterns)) 0 (length (lent v from (a .m .patterns)) / 3)) z (a .at)) (part-numbers _ _ 11 t (begins e))
-    ∙ ap (λ (p : List Pattern). rowShown (a .n) t (faceAt (a .n) t (a .face)) p z (a .at)) (lent-rows v from (a .m .patterns) (lines-room e) ∙ ap (λ (i : ℕ). rowsAt 3 v i (a .m .patterns)) (patterns-are (e .before .before .before .before .before)))
-    ∙ ap (λ (y : ℤ). rowShown (a .n) t (faceAt (a .n) t (a .face)) (rowsAt 3 v (patternsBegin (a .m)) (a .m .patterns)) y (a .at)) (toZ-ofZ (total-fits (e .before .before)))
-    ∙ by-row _ _ _ _ _ _ (there (e .before .before .before .before .before .before .before .before) .held) (moves-held (e .before .before .before .before .before)) (is-face (e .before .before .before)) (asked e))
+unfolding showed numbered explained isShown
+returns-5 c = by-answer (c .before .before) _ (c .enum-told5 .given .1)
 
 pub shown-spec : {M : Type 1} → statement M
 shown-spec =
     tie.close
     (tie.spec
-    figure-in-requires
+    why-requires
+    enum-told
+    enum-told-2
+    enum-told-3
+    enum-told-4
+    enum-told-5
     returns
-    movement-in-requires
     returns-2
     returns-3
-    shared-slice-copy-out-total
-    is-asked-requires
     returns-4
-    mul-base
-    add-base
-    add-row-shown
-    mul-row-shown
-    sub-row-shown
-    part-row-shown-start
-    part-row-shown-end
-    mul-row-shown-2
-    add-row-shown-2
-    mul-row-shown-3
-    sub-row-shown-2
-    part-row-shown-start-2
-    part-row-shown-end-2
-    row-shown-requires
     returns-5)

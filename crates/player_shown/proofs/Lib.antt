@@ -1,4 +1,0 @@
--- Laws that belong to no one function.
-pub mod LentRows
-pub mod OwnedCorners
-pub mod ShownTests
