@@ -10,7 +10,8 @@ corners=${CORNERS:-target/bin/corners}
 samples=${SAMPLES:-target/bin/samples}
 pair=${PAIR:-target/bin/pair}
 shown=${SHOWN:-target/bin/shown}
-for program in "$figures" "$movements" "$corners" "$samples" "$pair" "$shown"; do
+why=${WHY:-target/bin/why}
+for program in "$figures" "$movements" "$corners" "$samples" "$pair" "$shown" "$why"; do
     [ -x "$program" ] || { echo "$program is not there to run"; exit 1; }
 done
 
@@ -43,3 +44,4 @@ pair_kind() { # HOW PROGRAM MEASURED
 }
 pair_kind --pair "$pair" pairs
 pair_kind --play "$shown" shown
+pair_kind --why "$why" why

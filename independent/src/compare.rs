@@ -4,6 +4,7 @@
 use crate::generate::{text, Kind};
 use crate::listing::{
     corner_listing, figure_listing, movement_listing, pair_listing, sample_listing, shown_listing,
+    why_listing, REASONS,
 };
 use crate::subject::Subject;
 use std::collections::BTreeMap;
@@ -17,7 +18,8 @@ use std::thread;
 /// How many programs run at a time.
 const THREADS: usize = 2;
 
-/// So many damaged pairs meet every refusal of a pair.
+/// So many damaged pairs meet every refusal of a pair, and so many sound ones
+/// every reason.
 const MANY: u64 = 100;
 
 /// What is printed of a text.
@@ -30,6 +32,8 @@ pub enum Content {
     Played,
     /// The totals and the bones' names of a pair.
     Pair,
+    /// That each face of a pair is shown at each frame, or what hides it.
+    Why,
 }
 
 /// What prints a listing of a text.
@@ -45,6 +49,7 @@ impl Content {
             (Subject::Movement, Content::Played) => Some(sample_listing),
             (Subject::Pair, Content::Pair) => Some(pair_listing),
             (Subject::Pair, Content::Played) => Some(shown_listing),
+            (Subject::Pair, Content::Why) => Some(why_listing),
             _ => None,
         }
     }
@@ -126,16 +131,27 @@ impl Texts {
         }
     }
 
-    /// The refusals of a pair that none of these met. Only of many damaged
-    /// pairs is it certain that they meet all three.
-    pub fn unmet(&self, tally: &Tally) -> Vec<u8> {
-        match self {
+    /// What none of these met, a sentence each: of damaged pairs the refusals
+    /// of a pair, of sound ones the reasons where they are asked for. Only of
+    /// many pairs is it certain that they meet all.
+    pub fn unmet(&self, content: Content, tally: &Tally) -> Vec<String> {
+        let kind = match self {
             Texts::Generated {
-                kind: Kind::DamagedPairs,
+                kind,
                 count: MANY..,
                 ..
-            } => (18..=20)
+            } => kind,
+            _ => return Vec::new(),
+        };
+        match (kind, content) {
+            (Kind::DamagedPairs, _) => (18..=20)
                 .filter(|number| !tally.refused.contains_key(number))
+                .map(|number| format!("no pair was refused with {number}"))
+                .collect(),
+            (Kind::SoundPairs, Content::Why) => REASONS
+                .iter()
+                .filter(|reason| !tally.reasons.contains_key(*reason))
+                .map(|reason| format!("no line had the reason {reason}"))
                 .collect(),
             _ => Vec::new(),
         }
@@ -168,18 +184,24 @@ pub fn output(program: &Path, text: &[u8]) -> io::Result<Vec<u8>> {
     Ok(output.stdout)
 }
 
-/// How many texts were accepted, how many refused with each number, and how
-/// many lines were compared.
+/// How many texts were accepted, how many refused with each number, how many
+/// lines were compared, and how many of them had each reason.
 #[derive(Clone, Debug, Default, PartialEq, Eq)]
 pub struct Tally {
     pub accepted: u64,
     pub refused: BTreeMap<u8, u64>,
     pub lines: u64,
+    pub reasons: BTreeMap<&'static str, u64>,
 }
 
 impl Tally {
     fn count(&mut self, listing: &str) {
-        self.lines += listing.bytes().filter(|&byte| byte == b'\n').count() as u64;
+        for line in listing.lines() {
+            self.lines += 1;
+            if let Some(reason) = reason(line) {
+                *self.reasons.entry(reason).or_default() += 1;
+            }
+        }
         let mut words = listing.split(['\t', '\n']);
         let refused = words.next() == Some("refused");
         match words.next().and_then(|word| word.parse().ok()) {
@@ -194,11 +216,21 @@ impl Tally {
         for (number, count) in other.refused {
             *self.refused.entry(number).or_default() += count;
         }
+        for (reason, count) in other.reasons {
+            *self.reasons.entry(reason).or_default() += count;
+        }
     }
 
     pub fn total(&self) -> u64 {
         self.accepted + self.refused.values().sum::<u64>()
     }
+}
+
+/// The reason that a line tells, if it tells one.
+fn reason(line: &str) -> Option<&'static str> {
+    let mut fields = line.strip_prefix("why\t")?.split('\t').skip(2);
+    let found = fields.next()?;
+    REASONS.into_iter().find(|&reason| reason == found)
 }
 
 /// A text of which a program prints something else, or fails.

@@ -1,9 +1,9 @@
 //! `compare` and `measure`, run on this reader's own programs and on wrong
 //! ones.
 
-use independent::compare::{first_line, Tally, Texts};
+use independent::compare::{first_line, Content, Tally, Texts};
 use independent::generate::{text, Kind};
-use independent::listing::figure_listing;
+use independent::listing::{figure_listing, shown_listing};
 use std::path::{Path, PathBuf};
 use std::process::{Command, Output};
 
@@ -13,6 +13,7 @@ const PLAY: &str = env!("CARGO_BIN_EXE_play");
 const CORNERS: &str = env!("CARGO_BIN_EXE_corners");
 const PAIR: &str = env!("CARGO_BIN_EXE_pair");
 const SHOWN: &str = env!("CARGO_BIN_EXE_shown");
+const WHY: &str = env!("CARGO_BIN_EXE_why");
 
 /// A directory of a test's own, to run in.
 fn directory(name: &str) -> PathBuf {
@@ -32,6 +33,7 @@ fn compare(test: &str, arguments: &[&str]) -> Output {
         ["--play", _, kind, ..] if kind.ends_with("movements") => PLAY,
         ["--play", _, kind, ..] if kind.ends_with("pairs") => SHOWN,
         ["--pair", ..] => PAIR,
+        ["--why", ..] => WHY,
         ["--play", ..] => CORNERS,
         [_, kind, ..] if kind.ends_with("movements") => MOVEMENT,
         _ => FIGURE,
@@ -157,6 +159,8 @@ fn the_pairs_agree_with_themselves() {
     }
     let shown = agrees(&["--play", SHOWN, "damaged-pairs", "1", "200"]);
     assert!(shown.starts_with(pair.trim_end()), "{shown}");
+    let why = agrees(&["--why", WHY, "damaged-pairs", "1", "200"]);
+    assert!(why.starts_with(pair.trim_end()), "{why}");
 }
 
 #[test]
@@ -183,6 +187,7 @@ fn wrong_pairs_differ() {
         assert!(report.contains(&expected), "{report}");
         if name.starts_with("file") {
             differs(name, &["--play", &wrong(name), "damaged-pairs", "1", "100"]);
+            differs(name, &["--why", &wrong(name), "damaged-pairs", "1", "100"]);
         }
     }
 }
@@ -196,14 +201,121 @@ fn many_damaged_pairs_must_meet_every_refusal_of_a_pair() {
             refused: refused.iter().map(|&number| (number, 1)).collect(),
             ..Tally::default()
         };
-        Texts::generated(kind, "1", count).unwrap().unmet(&tally)
+        let texts = Texts::generated(kind, "1", count).unwrap();
+        texts.unmet(Content::Pair, &tally)
     };
-    assert_eq!(unmet("damaged-pairs", "100", &[5]), [18, 19, 20]);
-    assert_eq!(unmet("damaged-pairs", "300", &[2, 18, 20]), [19]);
+    let each = [18, 19, 20].map(|number| format!("no pair was refused with {number}"));
+    assert_eq!(unmet("damaged-pairs", "100", &[5]), each);
+    assert_eq!(unmet("damaged-pairs", "300", &[2, 18, 20]), each[1..2]);
     assert!(unmet("damaged-pairs", "100", &[18, 19, 20]).is_empty());
     assert!(unmet("damaged-pairs", "99", &[]).is_empty());
     assert!(unmet("sound-pairs", "100", &[]).is_empty());
     assert!(unmet("damaged-figures", "100", &[]).is_empty());
+}
+
+/// The numbers in the summary of a comparison of reasons: how many lines there
+/// were, and how many of them were shown, corner, unset and line.
+fn counts_of_reasons(line: &str) -> [u64; 5] {
+    let (_, counts) = line.trim_end().split_once("; why, ").unwrap();
+    let counts: Vec<(&str, &str)> = counts
+        .split(", ")
+        .map(|count| count.split_once(' ').unwrap())
+        .collect();
+    let words: Vec<&str> = counts.iter().map(|count| count.1).collect();
+    assert_eq!(words, ["lines", "shown", "corner", "unset", "line"]);
+    std::array::from_fn(|place| counts[place].0.parse().unwrap())
+}
+
+/// Every line of sound pairs has a reason, and as many are shown as `shown`
+/// prints with 1. Of damaged pairs the refusals are lines too.
+#[test]
+fn the_reasons_agree_with_themselves() {
+    let why = agrees(&["--why", WHY, "sound-pairs", "1", "100"]);
+    let accepted = "sound-pairs, seed 1: 100 agreed, 100 accepted";
+    assert!(why.starts_with(&format!("{accepted}; why, ")), "{why}");
+    let [lines, shown, corner, unset, line] = counts_of_reasons(&why);
+    assert_eq!(lines, shown + corner + unset + line);
+    assert!([shown, corner, unset, line].iter().all(|&count| count > 0));
+    let texts = (0..100).map(|index| text(Kind::SoundPairs, 1, index));
+    let listing: String = texts.map(|text| shown_listing(&text)).collect();
+    assert_eq!(lines, listing.lines().count() as u64);
+    let ones = listing.lines().filter(|line| line.ends_with("\t1"));
+    assert_eq!(shown, ones.count() as u64);
+
+    let why = agrees(&["--why", WHY, "damaged-pairs", "1", "60"]);
+    let [lines, reasons @ ..] = counts_of_reasons(&why);
+    let (_, accepted) = why.split_once(" agreed, ").unwrap();
+    let accepted: u64 = accepted.split(' ').next().unwrap().parse().unwrap();
+    assert_eq!(lines, 60 - accepted + reasons.iter().sum::<u64>());
+}
+
+/// The reason in the line of a report that begins so: its word, and its number,
+/// -1 for none.
+fn reason_in<'a>(report: &'a str, start: &str) -> (&'a str, i64) {
+    let line = report.lines().find(|line| line.starts_with(start)).unwrap();
+    let fields: Vec<&str> = line.strip_suffix("\\n").unwrap().split("\\t").collect();
+    assert!(fields[0].ends_with(" why"), "{report}");
+    let number = fields.get(4).map_or(-1, |number| number.parse().unwrap());
+    (fields[3], number)
+}
+
+/// Each differs first at a line of a reason that it gets wrong, and in its way.
+#[test]
+fn wrong_reasons_differ() {
+    type Mistake = fn((&str, i64), (&str, i64)) -> bool;
+    let mistakes: [(&str, Mistake); 6] = [
+        ("corner_0", |right, found| {
+            right.0 == "corner" && right.1 > 0 && found == ("corner", 0)
+        }),
+        ("last_corner", |right, found| {
+            right.0 == "corner" && found.0 == "corner" && found.1 > right.1
+        }),
+        ("unset_for_line", |right, found| {
+            right.0 == "line" && found == ("unset", -1)
+        }),
+        ("rows_from_1", |right, found| {
+            right.0 == "line" && found == ("line", right.1 + 1)
+        }),
+        ("every_reason_shown", |right, found| {
+            right.0 != "shown" && found == ("shown", -1)
+        }),
+        ("group_before_corners", |right, found| {
+            right.0 == "corner" && ["unset", "line"].contains(&found.0)
+        }),
+    ];
+    for (name, mistake) in mistakes {
+        let report = differs(name, &["--why", &wrong(name), "sound-pairs", "1", "100"]);
+        assert!(report.contains("\nsound-pairs, seed 1, index "), "{report}");
+        let [right, found] = ["expected: ", "found: "].map(|start| reason_in(&report, start));
+        assert!(mistake(right, found), "{report}");
+    }
+}
+
+/// A comparison of the reasons of many sound pairs shows something of each only
+/// if each was met.
+#[test]
+fn many_sound_pairs_must_meet_every_reason() {
+    let unmet = |kind: &str, count: &str, content: Content, reasons: &[&'static str]| {
+        let tally = Tally {
+            refused: [18, 19, 20].map(|number| (number, 1)).into(),
+            reasons: reasons.iter().map(|&reason| (reason, 1)).collect(),
+            ..Tally::default()
+        };
+        let texts = Texts::generated(kind, "1", count).unwrap();
+        texts.unmet(content, &tally)
+    };
+    let words = ["shown", "corner", "unset", "line"];
+    let each = words.map(|word| format!("no line had the reason {word}"));
+    let of_reasons = |reasons: &[&'static str]| unmet("sound-pairs", "100", Content::Why, reasons);
+    assert_eq!(of_reasons(&[]), each);
+    for (row, sentence) in each.iter().enumerate() {
+        let others = [&words[..row], &words[row + 1..]].concat();
+        assert_eq!(of_reasons(&others), [sentence.as_str()]);
+    }
+    assert!(of_reasons(&words).is_empty());
+    assert!(unmet("sound-pairs", "99", Content::Why, &[]).is_empty());
+    assert!(unmet("sound-pairs", "100", Content::Played, &[]).is_empty());
+    assert!(unmet("damaged-pairs", "100", Content::Why, &[]).is_empty());
 }
 
 /// Each of these programs differs on movements of a kind, first at a line that
@@ -357,6 +469,11 @@ fn a_comparison_of_nothing_is_an_error() {
         &["--pair", PAIR, "sound-pairs", "1", "0"],
         &["--pair", PAIR, "sound-figures", "1", "1"],
         &["--pair", PAIR, "samples-figures"],
+        &["--why"],
+        &["--why", WHY, "sound-pairs", "1", "0"],
+        &["--why", WHY, "sound-figures", "1", "1"],
+        &["--why", WHY, "sound-movements", "1", "1"],
+        &["--why", WHY, "samples-movements"],
         &[PAIR, "sound-pairs", "1", "1"],
         &[],
     ] {
@@ -391,6 +508,7 @@ fn measure_prints_a_ratio() {
         (PAIR, "pairs"),
         (PLAY, "play"),
         (SHOWN, "shown"),
+        (WHY, "why"),
     ];
     for (program, kind) in kinds {
         let output = measure(program, kind);
@@ -405,5 +523,7 @@ fn measure_prints_a_ratio() {
     assert!(!measure(FIGURE, "corners").status.success());
     assert!(!measure(SHOWN, "pairs").status.success());
     assert!(!measure(PAIR, "shown").status.success());
+    assert!(!measure(SHOWN, "why").status.success());
+    assert!(!measure(WHY, "shown").status.success());
     assert!(!measure(FIGURE, "others").status.success());
 }

@@ -7,17 +7,20 @@
 //! With `--play` before PROGRAM it is every corner of a figure, every sample
 //! of a movement, or whether each face of a pair is shown at each frame, in
 //! place of the listing. With `--pair` it is the totals and the bones' names
-//! of a pair.
+//! of a pair, with `--why` the reason that each face of a pair has at each
+//! frame.
 //! At the first difference it prints both lines, keeps the text in a file
 //! under target/ and fails. It fails too if 100 damaged pairs or more do not
-//! meet each of the refusals 18, 19 and 20.
+//! meet each of the refusals 18, 19 and 20, or if with `--why` 100 sound pairs
+//! or more do not meet each of the four reasons.
 
 use independent::compare::{compare, first_line, Content, Difference, Tally, Texts};
+use independent::listing::REASONS;
 use std::error::Error;
 use std::path::{Path, PathBuf};
 use std::process::ExitCode;
 
-const USAGE: &str = "compare [--play | --pair] PROGRAM KIND SEED COUNT | \
+const USAGE: &str = "compare [--play | --pair | --why] PROGRAM KIND SEED COUNT | \
                      compare [--play] PROGRAM samples-KIND";
 const KEPT: &str = "target/compare";
 
@@ -27,6 +30,7 @@ fn main() -> Result<ExitCode, Box<dyn Error>> {
     let (content, words) = match &words[..] {
         ["--play", words @ ..] => (Content::Played, words),
         ["--pair", words @ ..] => (Content::Pair, words),
+        ["--why", words @ ..] => (Content::Why, words),
         words => (Content::Listing, words),
     };
     let (program, kind, texts) = match *words {
@@ -38,7 +42,7 @@ fn main() -> Result<ExitCode, Box<dyn Error>> {
     match compare(Path::new(program), &texts, printer) {
         Ok(tally) => {
             println!("{}: {}", title(kind, &texts), summary(&tally, content));
-            Ok(all_met(&texts.unmet(&tally)))
+            Ok(all_met(&texts.unmet(content, &tally)))
         }
         Err(difference) => {
             println!("{program} differs");
@@ -48,9 +52,9 @@ fn main() -> Result<ExitCode, Box<dyn Error>> {
     }
 }
 
-fn all_met(unmet: &[u8]) -> ExitCode {
-    for number in unmet {
-        println!("no pair was refused with {number}");
+fn all_met(unmet: &[String]) -> ExitCode {
+    for sentence in unmet {
+        println!("{sentence}");
     }
     if unmet.is_empty() {
         ExitCode::SUCCESS
@@ -71,10 +75,21 @@ fn summary(tally: &Tally, content: Content) -> String {
     for (number, count) in &tally.refused {
         summary.push_str(&format!(", {count} refused with {number}"));
     }
-    if content == Content::Played {
-        summary.push_str(&format!("; played, {} lines", tally.lines));
+    match content {
+        Content::Played => summary.push_str(&format!("; played, {} lines", tally.lines)),
+        Content::Why => {
+            summary.push_str(&format!("; why, {} lines{}", tally.lines, reasons(tally)))
+        }
+        Content::Listing | Content::Pair => {}
     }
     summary
+}
+
+/// How many lines had each reason.
+fn reasons(tally: &Tally) -> String {
+    let count = |reason| tally.reasons.get(reason).copied().unwrap_or(0);
+    let counts = REASONS.map(|reason| format!(", {} {reason}", count(reason)));
+    counts.concat()
 }
 
 fn report(kind: &str, texts: &Texts, difference: &Difference) -> std::io::Result<()> {

@@ -1,9 +1,9 @@
 //! `measure PROGRAM KIND` feeds the same large texts to a program and to this
 //! reader's own, in turn, and prints the times of all their runs, each from
 //! start to end, and the ratio of the two. KIND is figures, movements, pairs,
-//! corners, play or shown: with corners the programs print every corner of the
-//! figures, with play every sample of movements of few frames, with shown
-//! whether each face of such pairs is shown at each frame.
+//! corners, play, shown or why: with corners the programs print every corner of
+//! the figures, with play every sample of movements of few frames, with shown
+//! whether each face of such pairs is shown at each frame, with why the reason.
 
 use independent::compare::output;
 use independent::generate::rng::Rng;
@@ -14,7 +14,7 @@ use std::time::{Duration, Instant};
 
 const SEED: u64 = 1;
 const TEXTS: u64 = 20;
-const USAGE: &str = "measure PROGRAM figures | movements | pairs | corners | play | shown";
+const USAGE: &str = "measure PROGRAM figures | movements | pairs | corners | play | shown | why";
 
 fn main() -> Result<(), Box<dyn Error>> {
     let arguments: Vec<String> = std::env::args().skip(1).collect();
@@ -26,6 +26,7 @@ fn main() -> Result<(), Box<dyn Error>> {
         [program, kind @ "corners"] => (program, kind, "corners", 10),
         [program, kind @ "play"] => (program, kind, "play", 2),
         [program, kind @ "shown"] => (program, kind, "shown", 5),
+        [program, kind @ "why"] => (program, kind, "why", 5),
         _ => return Err(USAGE.into()),
     };
     let own = std::env::current_exe()?.with_file_name(own_name);
@@ -54,7 +55,7 @@ fn title(kind: &str) -> &str {
     match kind {
         "corners" => "figures, every corner",
         "play" => "movements, every sample",
-        "shown" => "pairs, every face and frame",
+        "shown" | "why" => "pairs, every face and frame",
         _ => kind,
     }
 }
@@ -64,7 +65,7 @@ fn large(kind: &str, index: u64) -> Vec<u8> {
     match kind {
         "figures" | "corners" => figure_limits::full(&mut rng).text(&mut rng),
         "play" => movement::short(&mut rng).text(&mut rng),
-        "pairs" | "shown" => pair::full(&mut rng).text(&mut rng),
+        "pairs" | "shown" | "why" => pair::full(&mut rng).text(&mut rng),
         _ => movement::full(&mut rng).text(&mut rng),
     }
 }
