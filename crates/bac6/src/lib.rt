@@ -1,3 +1,4 @@
+#![tactic(auto)]
 // Reads a figure's text.
 mod reader;
 mod setting;

@@ -6,7 +6,7 @@ ghost use Rattle.bac6.specs.Answers.{refused_with};
 use table_counts::{FigureCounts, no_figure};
 
 // A refusal's number, place and file; or the total and how many rows each list has. All else is 0.
-#[derive(Drop)]
+#[derive(Clone, Copy)]
 pub struct FigureAnswer {
     pub refusal: usize,
     pub place: usize,

@@ -1,1 +1,2 @@
+#![tactic(auto)]
 // What two figure texts of the same words say; no code.

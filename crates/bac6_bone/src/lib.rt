@@ -1,3 +1,4 @@
+#![tactic(auto)]
 // One bone of a figure: its row, and the claims of its vertex entries.
 mod bone;
 

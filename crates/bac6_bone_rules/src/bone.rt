@@ -9,7 +9,7 @@ use table_columns::{BONE_BROTHER, BONE_CHILD, BONE_PARENT};
 use table_counts::BONE_WIDTH;
 
 // The row after the bones that were walked; or the rows ran out.
-#[derive(Drop)]
+#[derive(Clone, Copy)]
 enum Walk {
     At(usize),
     Short,

@@ -1,3 +1,4 @@
+#![tactic(auto)]
 // Rule 10: the bones of a figure as a tree, each with its parent.
 mod bone;
 

@@ -1,3 +1,4 @@
+#![tactic(auto)]
 // Reads the bones of a figure: their rows, and the claims of their vertex entries.
 mod list;
 

@@ -13,7 +13,7 @@ use table_counts::BONE_WIDTH;
 
 // How many bones were read, a cursor past them, and the row of the first whose claims are at fault, if there is one (rule 11);
 // where there is none, `fault` is free, and where the cursor has refused, all but the cursor is.
-#[derive(Drop)]
+#[derive(Clone, Copy)]
 pub struct Boned {
     pub cursor: Cursor,
     pub count: usize,

@@ -1,3 +1,4 @@
+#![tactic(auto)]
 // The rules 8 to 13 of a figure, over the table of its rows.
 mod check;
 

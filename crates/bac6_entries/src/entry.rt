@@ -10,7 +10,7 @@ use parse_numbers::Form;
 use table_columns::VertexRow;
 
 // A cursor, and whether every entry so far was free; where the cursor has refused, `fine` is free.
-#[derive(Drop)]
+#[derive(Clone, Copy)]
 pub struct Claims {
     pub cursor: Cursor,
     pub fine: bool,

@@ -1,3 +1,4 @@
+#![tactic(auto)]
 // The vertex entries of a bone, claimed as they are read.
 mod entry;
 

@@ -1,3 +1,4 @@
+#![tactic(auto)]
 // One face of a figure: its row.
 mod face;
 

@@ -11,7 +11,7 @@ use parse_cursor::Cursor;
 use parse_lists::Counted;
 
 // How many faces and groups were read, and a cursor past them; where the cursor has refused, the counts are free.
-#[derive(Drop)]
+#[derive(Clone, Copy)]
 pub struct Polygons {
     pub cursor: Cursor,
     pub faces: usize,

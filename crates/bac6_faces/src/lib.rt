@@ -1,3 +1,4 @@
+#![tactic(auto)]
 // Reads the faces and groups of a figure's text into tables of rows.
 mod ending;
 mod group;

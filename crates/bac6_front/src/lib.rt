@@ -1,3 +1,4 @@
+#![tactic(auto)]
 // Reads the front of a figure's text, from its head to its normals, into a table of rows.
 mod lists;
 mod opening;

@@ -10,7 +10,7 @@ use parse_cursor::{Cursor, opened};
 use parse_numbers::Form;
 
 // A cursor past the front, its name's place and length, how many rows each list has, and the index after them in the table, or its end; where the cursor has refused, all else is free.
-#[derive(Drop)]
+#[derive(Clone, Copy)]
 pub struct Front {
     pub cursor: Cursor,
     pub place: usize,

@@ -9,7 +9,7 @@ use table_counts::{
 use table_index::rows_end;
 
 // The index after each list's rows, or the table's end.
-#[derive(Drop)]
+#[derive(Clone, Copy)]
 pub struct Ends {
     pub textures: usize,
     pub colours: usize,

@@ -1,3 +1,4 @@
+#![tactic(auto)]
 // A figure's lists laid from the table of rows into the lent table, each in its own part.
 mod ends;
 mod figure;

@@ -1,3 +1,4 @@
+#![tactic(auto)]
 // A figure's listing (document 01, "Listing").
 ghost use Rattle.std.specs.Prelude.{◌≡◌, ◌≤◌, length, take};
 ghost use Rattle.report_text.specs.Output.{output};

@@ -1,3 +1,4 @@
+#![tactic(auto)]
 // Reads the materials of a figure's text into a table of rows.
 mod material;
 

@@ -1,3 +1,4 @@
+#![tactic(auto)]
 // Rules 8 to 13 of a figure, over tables of rows (document 01, "Refusal numbers").
 mod count;
 mod order;

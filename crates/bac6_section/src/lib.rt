@@ -1,3 +1,4 @@
+#![tactic(auto)]
 // Lists of rows of a figure, each after the one before it in one table.
 mod rows;
 

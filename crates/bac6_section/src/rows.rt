@@ -10,7 +10,7 @@ use parse_lists::Counted;
 use parse_numbers::Form;
 
 // A cursor past a list, how many rows were read, and the index after them in the table, or its end; where the cursor has refused, all else is free.
-#[derive(Drop)]
+#[derive(Clone, Copy)]
 pub struct Listed {
     pub cursor: Cursor,
     pub count: usize,

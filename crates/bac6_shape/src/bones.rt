@@ -8,7 +8,7 @@ use parse_cursor::{Cursor, opened};
 use table_counts::BONE_WIDTH;
 
 // A cursor past the bones, how many there are, the row of the first whose claims are at fault, if there is one, and the index after their rows, or the table's end; where the cursor has refused, all else is free.
-#[derive(Drop)]
+#[derive(Clone, Copy)]
 pub(crate) struct Skeleton {
     pub cursor: Cursor,
     pub count: usize,

@@ -1,3 +1,4 @@
+#![tactic(auto)]
 // Reads the shape of a figure's text into a table of rows.
 mod bones;
 mod ending;

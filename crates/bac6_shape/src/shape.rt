@@ -12,7 +12,7 @@ use parse_numbers::Form;
 use table_counts::FigureCounts;
 
 // A cursor past the text, its name's place and length, how many rows each list has, and the row of the first bone whose claims are at fault, if there is one (else `fault` is free); where the cursor has refused, all else is free.
-#[derive(Drop)]
+#[derive(Clone, Copy)]
 pub struct Parsed {
     pub cursor: Cursor,
     pub place: usize,

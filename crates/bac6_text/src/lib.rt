@@ -1,1 +1,2 @@
+#![tactic(auto)]
 // The specification of figures: definitions and no code.

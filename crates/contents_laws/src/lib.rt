@@ -1,1 +1,2 @@
+#![tactic(auto)]
 // Contents and answers of texts that differ in name places alone; no code.

@@ -1,3 +1,4 @@
+#![tactic(auto)]
 // Corners as text.
 mod corners;
 

@@ -1,3 +1,4 @@
+#![tactic(auto)]
 // Prints the corners of the figure that stands on standard input: a line for each face and corner.
 use bac6::FigureAnswer;
 use libc::{STDIN_FILENO, STDOUT_FILENO};

@@ -1,3 +1,4 @@
+#![tactic(auto)]
 // The labels of a pair's bones, as lines into a lent buffer.
 ghost use Rattle.std.specs.Prelude.{◌≡◌, ◌+◌, ◌*◌, ◌≤◌, length};
 ghost use Rattle.report_text.specs.Output.{output};

@@ -1,3 +1,4 @@
+#![tactic(auto)]
 // Lists the figure that stands on standard input (document 01, "Listing").
 ghost use Rattle.std.specs.Prelude.{◌≡◌, ◌≤◌, length, take};
 ghost use Rattle.report_text.specs.Output.{output};

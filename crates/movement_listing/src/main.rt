@@ -1,3 +1,4 @@
+#![tactic(auto)]
 // Lists the movement that stands on standard input.
 ghost use Rattle.std.specs.Prelude.{◌≡◌, ◌≤◌, length, take};
 ghost use Rattle.report_text.specs.Output.{output};

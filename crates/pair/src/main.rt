@@ -1,3 +1,4 @@
+#![tactic(auto)]
 // Loads the pair on standard input and prints the two totals and each bone's label, or why it is refused. The pair is eight
 // decimal digits giving the figure's length, a line feed, the figure, and then the movement.
 use libc::{STDIN_FILENO, STDOUT_FILENO};

@@ -1,1 +1,2 @@
+#![tactic(auto)]
 // Playing a pair that is loaded: theorems and no code.

@@ -1,3 +1,4 @@
+#![tactic(auto)]
 // Loads a pair and asks for a face's corner: the two texts are lent with two tables, and the answer speaks of the texts alone.
 ghost use Rattle.std.specs.Prelude.{◌≡◌};
 ghost use Rattle.player_corners.specs.Answers.{cornered};
@@ -10,7 +11,7 @@ use pair_load::load;
 use player_corners::Cornered;
 
 // A refusal's number, place and file, and a refused value; or zeros and the value.
-#[derive(Drop)]
+#[derive(Clone, Copy)]
 pub struct PlayedCorner {
     pub refusal: usize,
     pub place: usize,

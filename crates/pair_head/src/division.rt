@@ -7,14 +7,14 @@ use text_numbers::Parsed;
 use text_runs::Run;
 
 // The figure's length, or no head.
-#[derive(Drop)]
+#[derive(Clone, Copy)]
 pub enum Head {
     Length(usize),
     Wrong,
 }
 
 // Where the figure ends, or a refusal's number.
-#[derive(Drop)]
+#[derive(Clone, Copy)]
 pub enum Division {
     Figure(usize),
     Refused(usize),

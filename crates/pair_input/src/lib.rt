@@ -1,3 +1,4 @@
+#![tactic(auto)]
 // An input that may be longer than the buffer lent for it.
 mod reading;
 

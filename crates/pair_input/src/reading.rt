@@ -3,7 +3,7 @@ ghost use Rattle.std.specs.Prelude.{◌<◌};
 ghost use Rattle.pair_input.specs.Reading.{Taken};
 
 // How many bytes of a text are filled, and how many bytes of the input follow them.
-#[derive(Drop)]
+#[derive(Clone, Copy)]
 pub struct Input {
     pub size: usize,
     pub more: usize,

@@ -1,3 +1,4 @@
+#![tactic(auto)]
 // Loads a pair and asks for a bone's name: the answer speaks of the two texts alone.
 ghost use Rattle.std.specs.Prelude.{◌≡◌};
 ghost use Rattle.pair_text.specs.Answer.{loading, table_left, moves_left};
@@ -9,7 +10,7 @@ use pair_load::load;
 use text_parts::part;
 
 // A refusal's number, place and file; zeros for none.
-#[derive(Drop)]
+#[derive(Clone, Copy)]
 pub struct Refusal {
     pub number: usize,
     pub place: usize,

@@ -1,3 +1,4 @@
+#![tactic(auto)]
 // The reply to loading a pair, as text into a lent buffer.
 ghost use Rattle.std.specs.Prelude.{◌≡◌, ◌≤◌, length, take};
 ghost use Rattle.io.specs.Counts.{IsPrefixLen};

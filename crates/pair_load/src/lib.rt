@@ -1,3 +1,4 @@
+#![tactic(auto)]
 // Loads a figure and a movement as a pair.
 mod pair;
 

@@ -8,7 +8,7 @@ use table_counts::{FigureCounts, MovementCounts, no_figure, no_movement};
 use table_rows::put;
 
 // A refusal's number, place and file, and zeros; or how many numbers and rows each table holds.
-#[derive(Drop)]
+#[derive(Clone, Copy)]
 pub struct PairAnswer {
     pub refusal: usize,
     pub place: usize,

@@ -1,3 +1,4 @@
+#![tactic(auto)]
 // Loads a movement with a figure that already stands in a table.
 mod moving;
 

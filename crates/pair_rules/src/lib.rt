@@ -1,3 +1,4 @@
+#![tactic(auto)]
 // Whether a figure and a movement in two tables are a pair.
 mod fault;
 mod names;

@@ -1,3 +1,4 @@
+#![tactic(auto)]
 // Loads a pair and asks whether a face is shown: the two texts are lent with two tables, and the answer speaks of the texts alone.
 ghost use Rattle.std.specs.Prelude.{◌≡◌};
 ghost use Rattle.player_shown.specs.Answers.{showed};
@@ -10,7 +11,7 @@ use pair_load::load;
 use player_shown::Visibility;
 
 // A refusal's number, place and file, and a refused value; or zeros and the value.
-#[derive(Drop)]
+#[derive(Clone, Copy)]
 pub struct PlayedShown {
     pub refusal: usize,
     pub place: usize,

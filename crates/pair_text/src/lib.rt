@@ -1,1 +1,2 @@
+#![tactic(auto)]
 // The specification of pairs: definitions and no code.

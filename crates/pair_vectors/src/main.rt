@@ -1,3 +1,4 @@
+#![tactic(auto)]
 // Runs the inputs that standard input holds, and prints what `pair` prints of each after its label. A record is a label's
 // line, eight digits and a line feed for how many bytes follow the input, the same for how many it has, the input, and a
 // line feed.

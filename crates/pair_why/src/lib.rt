@@ -1,3 +1,4 @@
+#![tactic(auto)]
 // Loads a pair and asks why a face is shown or hidden: the two texts are lent with two tables, and the answer speaks of the texts alone.
 ghost use Rattle.std.specs.Prelude.{◌≡◌};
 ghost use Rattle.player_why.specs.Answers.{explained};
@@ -10,7 +11,7 @@ use pair_load::load;
 use player_why::{Explained, why};
 
 // A refusal's number, place and file, and a refused value; or zeros and the value.
-#[derive(Drop)]
+#[derive(Clone, Copy)]
 pub struct PlayedWhy {
     pub refusal: usize,
     pub place: usize,

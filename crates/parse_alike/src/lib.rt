@@ -1,1 +1,2 @@
+#![tactic(auto)]
 // Readers on two lists of the same tokens; no code.

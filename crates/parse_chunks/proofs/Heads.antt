@@ -4,7 +4,7 @@ use mathlib.Core.List.{List}
 use mathlib.Core.Bool.{Bool, true, false, and-false}
 use Prim.Native.Nat.{ℕ, zero, suc, ◌≤◌, ◌<◌}
 use native.Mathlib.Omega.{arith}
-use borrow.Author.Tests.{lt-ltb, le-ltb, not_true}
+use borrow.Author.Tests.{lt-ltb, le-ltb, not-true}
 use lib.Dec.{ltb}
 use lib.ListN.{length, get_or}
 use Rattle.text_tokens.specs.Tokens.{Token, Lexeme, lexeme, lex_at}
@@ -51,7 +51,7 @@ module _ (ws : List (List ℕ)) (seen : List Bool) (t : Token) where
   unmet-clear e =
       let p = and_true (is_plain t) _ e in
       let q = and_true (ltb (index_in t ws) (length seen)) _ p.1 in
-      not_true _ q.1
+      not-true _ q.1
 
 module _ (ws : List (List ℕ)) (seen : List Bool) (ms : List Lexeme) where
   pub key_yes : unmet ws seen (token_of ms) ≡ true → key_in ws seen ms ≡ got (index_in (token_of ms) ws) (rest ms)

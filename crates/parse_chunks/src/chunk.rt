@@ -10,7 +10,7 @@ use parse_cursor::Cursor;
 use parse_words::word_index;
 
 // A cursor past a chunk's keyword, and the keyword's row; or past the closing bracket or refused, and the number of flags.
-#[derive(Drop)]
+#[derive(Clone, Copy)]
 pub struct Chunk {
     pub cursor: Cursor,
     pub kind: usize,

@@ -1,3 +1,4 @@
+#![tactic(auto)]
 // Chunks in a free order, each at most once.
 mod chunk;
 

@@ -6,7 +6,7 @@ ghost use Rattle.parse_cursor.specs.Internal.Cursors.{reads, from};
 use text_kinds::{is_closing, is_opening};
 
 // Where to read on, with `refusal` 0; or a refusal's number and offset. Where to read on is settled up to blanks and comments before the next token.
-#[derive(Drop)]
+#[derive(Clone, Copy)]
 pub struct Cursor {
     pub refusal: u8,
     pub at: usize,

@@ -1,3 +1,4 @@
+#![tactic(auto)]
 // A cursor that goes from reader to reader: brackets and keywords.
 mod cursor;
 

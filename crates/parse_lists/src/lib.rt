@@ -1,3 +1,4 @@
+#![tactic(auto)]
 // Lists of rows of numbers, written to a lent table.
 mod lists;
 

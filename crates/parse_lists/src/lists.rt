@@ -10,7 +10,7 @@ use parse_rows::{row, row_tail};
 use table_index::advance;
 
 // How many rows were read, and a cursor past the list; where the cursor has refused, the count is free.
-#[derive(Drop)]
+#[derive(Clone, Copy)]
 pub struct Counted {
     pub cursor: Cursor,
     pub count: usize,

@@ -1,3 +1,4 @@
+#![tactic(auto)]
 // Names, and chunks of a name that may be left out.
 mod naming;
 

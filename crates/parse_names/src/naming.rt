@@ -8,7 +8,7 @@ use parse_optional::optional;
 use text_kinds::is_quoted;
 
 // A cursor past a name, the offset of its first byte and its length; where the cursor has refused, both are free.
-#[derive(Drop)]
+#[derive(Clone, Copy)]
 pub struct Named {
     pub cursor: Cursor,
     pub place: usize,

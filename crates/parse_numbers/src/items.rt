@@ -7,7 +7,7 @@ use parse_cursor::Cursor;
 use text_kinds::{is_closing, is_opening};
 
 // Where an item of a list begins or the list has ended; where the cursor has refused, `ended` is free.
-#[derive(Drop)]
+#[derive(Clone, Copy)]
 pub struct Item {
     pub ended: bool,
     pub cursor: Cursor,

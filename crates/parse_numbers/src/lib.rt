@@ -1,3 +1,4 @@
+#![tactic(auto)]
 // A number, and where an item of a list begins.
 mod items;
 mod numerals;

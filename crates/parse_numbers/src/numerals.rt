@@ -12,14 +12,14 @@ use parse_cursor::Cursor;
 use text_numbers::Parsed;
 use text_tokens::{Kind, Span};
 
-#[derive(Drop)]
+#[derive(Clone, Copy)]
 pub enum Form {
     Int,
     Float,
 }
 
 // A cursor past a number, and its value; where the cursor has refused, the value is free.
-#[derive(Drop)]
+#[derive(Clone, Copy)]
 pub struct Numeric {
     pub cursor: Cursor,
     pub value: i64,

@@ -1,3 +1,4 @@
+#![tactic(auto)]
 // Chunks that may be left out.
 mod optionals;
 

@@ -7,7 +7,7 @@ use parse_cursor::{Cursor, keyword};
 use text_kinds::is_opening;
 
 // Whether a chunk stands, and a cursor past its ( and keyword or where it was; where the cursor has refused, `present` is free.
-#[derive(Drop)]
+#[derive(Clone, Copy)]
 pub struct Start {
     pub present: bool,
     pub cursor: Cursor,

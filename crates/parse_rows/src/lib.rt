@@ -1,3 +1,4 @@
+#![tactic(auto)]
 // Numbers and a row of them, written to a lent table.
 mod cells;
 

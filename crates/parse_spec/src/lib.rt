@@ -1,1 +1,2 @@
+#![tactic(auto)]
 // Readers of tokens: definitions and no code.

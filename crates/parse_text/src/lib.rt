@@ -1,3 +1,4 @@
+#![tactic(auto)]
 // What stands first in a text and last, and what reading a text answers.
 mod heading;
 

@@ -5,7 +5,7 @@ use mathlib.Core.Bool.{Bool, true, false, not}
 use Prim.Native.Nat.{ℕ, suc, ◌+◌, ◌≤◌, ◌<◌}
 use native.Mathlib.Nat.{add-sub_cancel_left}
 use native.Mathlib.Omega.{arith}
-use borrow.Author.Tests.{not_true, leb-true, leb-false, ltb-true, ltb-false, lt-ltb, le-ltb}
+use borrow.Author.Tests.{not-true, leb-true, leb-false, ltb-true, ltb-false, lt-ltb, le-ltb}
 use Prim.Native.String.{String}
 use lib.Dec.{leb, ltb}
 use lib.ListN.{length, drop, length-drop}
@@ -79,7 +79,7 @@ module _ (list : List ℕ) (start end : ℕ) (e : end ≡ start + length (run in
 misses : {A : Type 0} (w : List ℕ) (ks : List (Kind A)) → differs w (keys_of ks) ≡ true → hits ks (plain w) ≡ single (length ks) (length ks)
 unfolding differs keys_of hits single is_keyword
 misses w [] d = refl
-misses w (k ∷ ks) d = let p = and_true (not (same w (bytes k.key))) (differs w (keys_of ks)) d in rw (not_true (same w (bytes k.key)) p.0, misses w ks p.1)
+misses w (k ∷ ks) d = let p = and_true (not (same w (bytes k.key))) (differs w (keys_of ks)) d in rw (not-true (same w (bytes k.key)) p.0, misses w ks p.1)
 
 -- where no two keywords are the same, a token picks the first that it is, and no other
 pub hits_index : {A : Type 0} (ks : List (Kind A)) (t : Token) → apart (keys_of ks) ≡ true → hits ks t ≡ single (length ks) (index_in t (keys_of ks))

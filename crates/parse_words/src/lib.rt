@@ -1,3 +1,4 @@
+#![tactic(auto)]
 // Which of some keywords a token is.
 mod words;
 

@@ -10,7 +10,7 @@ use crate::pass::{Pass, pass_over};
 use player_tests::is_asked;
 
 // A fraction of millionths in lowest terms, or refusal 21.
-#[derive(Drop)]
+#[derive(Clone, Copy)]
 pub enum Sampled {
     Refused,
     Value { numerator: i64, denominator: u64 },

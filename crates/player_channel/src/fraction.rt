@@ -8,7 +8,7 @@ ghost use Rattle.player_channel.specs.Internal.Answers.{ratio};
 use crate::halving::terms;
 
 // A fraction's two numbers, and what is left of a sample's steps.
-#[derive(Drop)]
+#[derive(Clone, Copy)]
 pub(crate) struct Ratio {
     pub numerator: i64,
     pub denominator: u64,

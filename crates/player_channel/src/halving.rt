@@ -21,7 +21,7 @@ fn both_even(a: u64, d: u64) -> bool
 }
 
 // A common factor, and the steps left once it is found.
-#[derive(Drop)]
+#[derive(Clone, Copy)]
 struct Found {
     factor: u64,
     left: u64,
@@ -64,7 +64,7 @@ fn common(a: u64, d: u64, steps: u64) -> Found
 }
 
 // A fraction's two numbers in lowest terms, and the steps left.
-#[derive(Drop)]
+#[derive(Clone, Copy)]
 pub(crate) struct Reduced {
     pub numerator: u64,
     pub denominator: u64,

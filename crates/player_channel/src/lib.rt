@@ -1,3 +1,4 @@
+#![tactic(auto)]
 // A channel's value at a frame, by its keys.
 mod channel;
 mod fraction;

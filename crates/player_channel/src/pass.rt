@@ -10,7 +10,7 @@ use player_pose::standing;
 use player_tests::{follows, is_float};
 
 // The last key and what is known of the sample; or a key was at fault, and all else is free.
-#[derive(Drop)]
+#[derive(Clone, Copy)]
 pub(crate) struct Pass {
     pub fine: bool,
     pub before: usize,

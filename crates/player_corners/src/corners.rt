@@ -14,7 +14,7 @@ use table_figure::{FigureSections, figure_in};
 use table_references::is_none;
 
 // A position, its owner and a material's row, with a texture coordinate or without one; or refusal 21.
-#[derive(Drop)]
+#[derive(Clone, Copy)]
 pub enum Cornered {
     Refused,
     Plain {

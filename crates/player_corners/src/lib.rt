@@ -1,3 +1,4 @@
+#![tactic(auto)]
 // A face's corner.
 mod corners;
 mod face;

@@ -12,7 +12,7 @@ use table_figure::FigureSections;
 use table_references::is_index;
 
 // Three numbers and an owner, and whether they may be so.
-#[derive(Drop)]
+#[derive(Clone, Copy)]
 pub(crate) struct Point {
     pub fine: bool,
     pub x: i64,
@@ -22,7 +22,7 @@ pub(crate) struct Point {
 }
 
 // Two numbers, and whether they may be so.
-#[derive(Drop)]
+#[derive(Clone, Copy)]
 pub(crate) struct Uv {
     pub fine: bool,
     pub u: i64,

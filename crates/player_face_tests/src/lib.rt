@@ -1,3 +1,4 @@
+#![tactic(auto)]
 // What numbers of a table may stand for: a face's size and corners.
 mod face_corners;
 

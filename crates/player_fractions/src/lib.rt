@@ -1,1 +1,2 @@
+#![tactic(auto)]
 // Fractions in lowest terms, and the halvings and subtractions that bring them there: definitions and theorems, and no code.

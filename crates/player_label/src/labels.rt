@@ -9,7 +9,7 @@ use table_counts::{FigureCounts, MovementCounts};
 use text_parts::part;
 
 // Which text holds the name, and from where to where; or refusal 21.
-#[derive(Drop)]
+#[derive(Clone, Copy)]
 pub(crate) enum Named {
     Refused,
     Figure { start: usize, end: usize },

@@ -1,3 +1,4 @@
+#![tactic(auto)]
 // Where a bone's name stands in its text.
 mod names;
 

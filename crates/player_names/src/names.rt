@@ -6,7 +6,7 @@ ghost use Rattle.player_names.specs.Internal.Answers.{found};
 use table_counts::{FigureCounts, MovementCounts};
 
 // From where to where, or refusal 21.
-#[derive(Drop)]
+#[derive(Clone, Copy)]
 pub enum Found {
     Refused,
     At { start: usize, end: usize },

@@ -7,7 +7,7 @@ use crate::line::{line_fine, replaces, starts};
 use table_counts::PATTERN_WIDTH;
 
 // The deciding line's row and flag, or that there is none; or refusal 21.
-#[derive(Drop)]
+#[derive(Clone, Copy)]
 pub enum Deciding {
     Refused,
     Nothing,

@@ -1,3 +1,4 @@
+#![tactic(auto)]
 // Pattern lines: which one decides whether a group is shown at a frame.
 mod deciding;
 mod line;

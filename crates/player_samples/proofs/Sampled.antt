@@ -1,7 +1,7 @@
 -- What each test of `sample` says of its definition: a failed one refuses, and past them all the sample by the channel's keys is the answer.
 use mathlib.Core.Path.{◌≡◌, refl, ap, ◌∙◌}
 use mathlib.Core.List.{List}
-use mathlib.Core.Bool.{true, false, false≢true, and_true, and-false}
+use mathlib.Core.Bool.{true, false, false≢true, and-true, and-false}
 use mathlib.Core.Option.{Option, none}
 use Prim.Native.Nat.{ℕ, zero, suc, ◌+◌, ◌*◌, ◌-◌, ◌/◌, ◌≤◌, ◌<◌}
 use native.Mathlib.Omega.{arith}
@@ -68,4 +68,4 @@ module _ (n : MovementCounts) (table : List ℤ) (bone channel at : ℕ) where
 
         pub played : is_range n.keys (number_at table (pair_at n table bone channel)) (number_at table (pair_at n table bone channel + 1)) ≡ true → sample_by (number_at table 0) channel at (channel_keys n table bone channel) ≡ answer
         unfolding sample_in can_sample sample_by
-        played h = rw (held, lt-ltb _ _ row, lt-ltb _ _ known, h, and_true (is_asked (number_at table 0) at))
+        played h = rw (held, lt-ltb _ _ row, lt-ltb _ _ known, h, and-true (is_asked (number_at table 0) at))

@@ -1,3 +1,4 @@
+#![tactic(auto)]
 // A channel's value at a frame, in a movement's table.
 mod sampling;
 

@@ -1,3 +1,4 @@
+#![tactic(auto)]
 // Whether a face is shown at a frame.
 mod showing;
 

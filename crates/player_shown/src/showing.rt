@@ -8,7 +8,7 @@ use player_why::{Explained, why};
 use table_counts::{FigureCounts, MovementCounts};
 
 // Whether it is shown, or refusal 21.
-#[derive(Drop)]
+#[derive(Clone, Copy)]
 pub enum Visibility {
     Refused,
     Shown,

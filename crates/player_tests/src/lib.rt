@@ -1,3 +1,4 @@
+#![tactic(auto)]
 // What numbers of a table may stand for: a float, a total of frames, a range, a key's frame.
 mod frames;
 mod number;

@@ -1,3 +1,4 @@
+#![tactic(auto)]
 // Why a face is shown or hidden at a frame.
 mod explaining;
 mod owning;

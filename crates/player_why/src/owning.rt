@@ -11,7 +11,7 @@ use table_figure::FigureSections;
 use table_references::{is_index, is_none};
 
 // The first corner without a bone, or that all have one; or refusal 21.
-#[derive(Drop)]
+#[derive(Clone, Copy)]
 pub(crate) enum Owners {
     Refused,
     All,

@@ -7,7 +7,7 @@ use crate::owning::Owners;
 use player_patterns::Deciding;
 
 // Shown; hidden by the first corner without a bone, since the group has no line by the frame, or by the line in a row; or refusal 21.
-#[derive(Drop)]
+#[derive(Clone, Copy)]
 pub enum Explained {
     Refused,
     Shown,

@@ -1,1 +1,2 @@
+#![tactic(auto)]
 // Which numbers a refusal has: definitions and theorems, and no code.

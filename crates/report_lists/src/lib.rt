@@ -1,3 +1,4 @@
+#![tactic(auto)]
 // Lists of a table, a line a row.
 mod list;
 

@@ -8,7 +8,7 @@ use report_rows::append_row;
 use report_text::has_room;
 
 // How many bytes of a buffer are filled, and the index of the first number of a table that is not yet put.
-#[derive(Drop)]
+#[derive(Clone, Copy)]
 pub struct Progress {
     pub filled: usize,
     pub at: usize,

@@ -1,3 +1,4 @@
+#![tactic(auto)]
 // Lines of a word and numbers.
 mod row;
 

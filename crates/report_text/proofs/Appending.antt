@@ -5,7 +5,7 @@ use mathlib.Core.Bool.{Bool, true, false, not}
 use Prim.Native.Nat.{ℕ, ◌+◌, ◌-◌, ◌≤◌, ◌<◌}
 use native.Mathlib.Nat.{add_assoc}
 use native.Mathlib.Omega.{arith}
-use borrow.Author.Tests.{le-leb, lt-leb, leb-true, leb-false, not_true, not-false}
+use borrow.Author.Tests.{le-leb, lt-leb, leb-true, leb-false, not-true, not-false}
 use lib.Dec.{leb}
 use lib.ListN.{length, take, drop, length-append, length-drop}
 use lib.Seq.{take_at, drop_at, drop-drop, length-take-le, paste, length-paste, take-length}
@@ -48,7 +48,7 @@ module _ (n : ℕ) (buf bs : List ℕ) where
 module _ (n w : ℕ) (buf bs : List ℕ) (v : Bool) (e : w ≡ length bs) (t : v ≡ leb (n + w) (length buf)) where
   pub no_room : not v ≡ true → output n buf ≡ appended (output n buf) bs
   no_room h =
-      let l : length buf < n + w = leb-false _ _ (sym t ∙ not_true v h) in
+      let l : length buf < n + w = leb-false _ _ (sym t ∙ not-true v h) in
       sym (kept n buf bs (omega arith))
 
   pub has_room : not v ≡ false → n + length bs ≤ length buf

@@ -1,3 +1,4 @@
+#![tactic(auto)]
 // Bytes and numbers put into a lent buffer one after another (document 01, "Listing").
 mod buffer;
 mod number;

@@ -1,3 +1,4 @@
+#![tactic(auto)]
 // Samples as text.
 mod samples;
 

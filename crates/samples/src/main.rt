@@ -1,3 +1,4 @@
+#![tactic(auto)]
 // Prints the movement that stands on standard input at every frame: a line for each bone, channel and frame.
 use libc::{STDIN_FILENO, STDOUT_FILENO};
 use table_counts::MovementCounts;

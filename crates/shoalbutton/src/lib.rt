@@ -1,3 +1,4 @@
+#![tactic(auto)]
 // The page: every call that document 01 names, why a face is shown or hidden (document 02), and the calls that load a pair and then play it. Each stands in a crate of its own, where its whole
 // contract is proved; docs/CALLS.md has them all side by side. Demands 1 to 3 are stated in specs/Demands.antt, document 02's requests in
 // specs/Requests.antt, the cases that document 01 marks in specs/Marked.antt.

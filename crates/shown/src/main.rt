@@ -1,3 +1,4 @@
+#![tactic(auto)]
 // Loads the pair on standard input and prints whether each face is shown at each frame, or why the pair is refused. The pair
 // is eight decimal digits giving the figure's length, a line feed, the figure, and then the movement.
 use libc::{STDIN_FILENO, STDOUT_FILENO};

@@ -1,3 +1,4 @@
+#![tactic(auto)]
 // Whether faces are shown, as text.
 mod faces;
 

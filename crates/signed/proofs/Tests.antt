@@ -2,7 +2,7 @@
 use mathlib.Core.Path.{◌≡◌, refl, ap, sym, ◌∙◌}
 use mathlib.Core.Bool.{Bool, true, false, not, ◌&&◌, ◌||◌}
 use Prim.Native.Nat.{ℕ}
-use borrow.Author.Tests.{not_true, not-false, ltb-true, ltb-false, le-leb, lt-leb}
+use borrow.Author.Tests.{not-true, not-false, ltb-true, ltb-false, le-leb, lt-leb}
 use lib.Dec.{leb, ltb}
 use lib.IntN.{ℤ, pos, negsuc, nat_abs}
 use lib.Signed.{mag, lt_z, le_z}
@@ -43,7 +43,7 @@ most-above (negsuc a) (negsuc b) = le_not_lt b a
 
 -- a test `if !r` that was taken, or left, before others
 pub failed : (rest : Bool) {r t : Bool} → r ≡ t → not r ≡ true → (t && rest) ≡ false
-failed rest {r} e n = rw (sym e ∙ not_true r n)
+failed rest {r} e n = rw (sym e ∙ not-true r n)
 
 pub passed : (rest : Bool) {r t : Bool} → r ≡ t → not r ≡ false → (t && rest) ≡ rest
 passed rest {r} e n = rw (sym e ∙ not-false r n)

@@ -1,3 +1,4 @@
+#![tactic(auto)]
 // A bone's row in a figure's table, and in a movement's.
 mod bones;
 

@@ -4,10 +4,10 @@ ghost use Rattle.table_columns.specs.Columns.{corner_at};
 
 use crate::columns::{FACE_CORNERS, FACE_UVS, FACE_VERTICES};
 
-#[derive(Drop)]
+#[derive(Clone, Copy)]
 pub struct VertexRow(pub i64);
 
-#[derive(Drop)]
+#[derive(Clone, Copy)]
 pub struct UvRow(pub i64);
 
 // The vertex of corner k; none past the fourth.

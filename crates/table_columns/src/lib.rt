@@ -1,3 +1,4 @@
+#![tactic(auto)]
 // Numbers, rows and columns of a table, by their places.
 mod columns;
 mod corner;

@@ -1,7 +1,7 @@
 -- Which numbers are places: each of a list of places, also with more of them before and after it; by induction on the list.
 use mathlib.Core.Path.{◌≡◌, refl, ap, ◌∙◌}
 use mathlib.Core.List.{List, [], ◌∷◌, ◌++◌}
-use mathlib.Core.Bool.{Bool, true, false, ◌||◌, or_true}
+use mathlib.Core.Bool.{Bool, true, false, ◌||◌, or-true}
 use Prim.Native.Nat.{ℕ}
 use borrow.Author.Tests.{eq-eqb}
 use lib.Dec.{eqb}
@@ -17,7 +17,7 @@ or-first : (a b : Bool) → a ≡ true → (a || b) ≡ true
 or-first a b h = ap (λ (x : Bool). x || b) h
 
 or-last : (a b : Bool) → b ≡ true → (a || b) ≡ true
-or-last a b h = ap (◌||◌ a) h ∙ or_true a
+or-last a b h = ap (◌||◌ a) h ∙ or-true a
 
 place-before : (ps qs : List ℕ) (i : ℕ) → is_place qs i ≡ true → is_place (ps ++ qs) i ≡ true
 unfolding is_place

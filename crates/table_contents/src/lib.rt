@@ -1,1 +1,2 @@
+#![tactic(auto)]
 // What a table and its text say together, name places left out; no code.

@@ -3,7 +3,7 @@ ghost use Rattle.std.specs.Prelude.{◌≡◌};
 ghost use Rattle.table_counts.specs.Counts.{no_figure, no_movement};
 
 // How many rows each list of a movement has.
-#[derive(Drop)]
+#[derive(Clone, Copy)]
 pub struct MovementCounts {
     pub bones: usize,
     pub keys: usize,
@@ -11,7 +11,7 @@ pub struct MovementCounts {
 }
 
 // How many rows each list of a figure has; owners are as many as points.
-#[derive(Drop)]
+#[derive(Clone, Copy)]
 pub struct FigureCounts {
     pub textures: usize,
     pub colours: usize,

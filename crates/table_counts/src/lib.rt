@@ -1,3 +1,4 @@
+#![tactic(auto)]
 // How many rows each list of a table has, at most and in fact, and how many numbers a row.
 mod counts;
 mod limits;

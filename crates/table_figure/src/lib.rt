@@ -1,3 +1,4 @@
+#![tactic(auto)]
 // Where each list stands in a figure's table.
 mod sections;
 

@@ -13,7 +13,7 @@ use table_counts::{
 // The numbers in front of the lists.
 const FIGURE_FRONT: usize = 2;
 
-#[derive(Drop)]
+#[derive(Clone, Copy)]
 pub struct FigureSections {
     pub points: usize,
     pub bones: usize,

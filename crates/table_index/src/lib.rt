@@ -1,3 +1,4 @@
+#![tactic(auto)]
 // Indices of a table.
 mod index;
 

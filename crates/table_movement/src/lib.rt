@@ -1,3 +1,4 @@
+#![tactic(auto)]
 // Where each list stands in a movement's table.
 mod sections;
 

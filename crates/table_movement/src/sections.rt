@@ -12,7 +12,7 @@ use table_counts::{
 // The numbers in front of the lists.
 const MOVEMENT_FRONT: usize = 3;
 
-#[derive(Drop)]
+#[derive(Clone, Copy)]
 pub struct MovementSections {
     pub bones: usize,
     pub keys: usize,

@@ -1,3 +1,4 @@
+#![tactic(auto)]
 // Numbers that refer to a row of a list, or to none.
 mod number;
 

@@ -1,3 +1,4 @@
+#![tactic(auto)]
 // Rows of a table: set down from an index on.
 mod rows;
 

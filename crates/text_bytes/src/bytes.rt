@@ -4,7 +4,7 @@ ghost use Rattle.text_bytes.specs.Bytes.{is_blank, between, is_letter, class_of}
 ghost use Rattle.text_bytes.specs.Internal.Answers.{class_named};
 
 // What a byte is outside strings and comments.
-#[derive(Drop)]
+#[derive(Clone, Copy)]
 pub enum Class {
     Blank,
     Opener,

@@ -1,3 +1,4 @@
+#![tactic(auto)]
 // What a byte is (document 01, "Words").
 mod bytes;
 

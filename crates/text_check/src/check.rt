@@ -9,7 +9,7 @@ use text_bytes::{Class, class_of, is_between, is_blank};
 use text_parts::{part, same};
 use text_runs::{Run, run_end};
 
-#[derive(Drop)]
+#[derive(Clone, Copy)]
 pub enum Format {
     Bac,
     Tra,
@@ -81,7 +81,7 @@ fn first_fault(text: &[u8]) -> Checked
 }
 
 // What a string is: the offset after its closing quote, or its fault.
-#[derive(Drop)]
+#[derive(Clone, Copy)]
 enum Scan {
     Ended(usize),
     Faulty { number: u8, place: usize },

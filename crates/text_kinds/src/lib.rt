@@ -1,3 +1,4 @@
+#![tactic(auto)]
 // Tests of a token by its kind.
 mod kinds;
 

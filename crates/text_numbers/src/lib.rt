@@ -1,3 +1,4 @@
+#![tactic(auto)]
 // INT and FLOAT of a plain word, as exact whole numbers (document 01, "Words", and document 02, request vii).
 mod number;
 

@@ -9,7 +9,7 @@ ghost use Rattle.text_numerals.specs.Internal.Parts.{whole_in, within};
 use signed::magnitude;
 use text_runs::{Run, run_end};
 
-#[derive(Drop)]
+#[derive(Clone, Copy)]
 pub enum Parsed {
     Value(i64),
     Beyond,
@@ -45,7 +45,7 @@ pub fn float(word: &[u8]) -> Parsed
 }
 
 // The sign of a word, and the digits that it begins with after that.
-#[derive(Drop)]
+#[derive(Clone, Copy)]
 struct Leading {
     negative: bool,
     start: usize,
@@ -110,7 +110,7 @@ fn greatest(negative: bool, most: u64, least: u64) -> u64
 }
 
 // The digits after a point.
-#[derive(Drop)]
+#[derive(Clone, Copy)]
 struct Fraction {
     from: usize,
     last: usize,

@@ -1,3 +1,4 @@
+#![tactic(auto)]
 // A part of a text, and whether two lists of bytes are the same.
 mod slice;
 

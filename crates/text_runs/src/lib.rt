@@ -1,3 +1,4 @@
+#![tactic(auto)]
 // Runs of bytes (document 01, "Words").
 mod run;
 

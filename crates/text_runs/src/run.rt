@@ -6,7 +6,7 @@ ghost use Rattle.text_runs.specs.Internal.Answers.{test_named};
 use text_bytes::{is_between, is_letter};
 
 // Runs of bytes: a plain word's letters, a comment's line, a string's content, digits, a word of a list that spaces part.
-#[derive(Drop)]
+#[derive(Clone, Copy)]
 pub enum Run {
     Letters,
     Line,

@@ -1,3 +1,4 @@
+#![tactic(auto)]
 // The next token of a text (document 01's "words").
 mod token;
 

@@ -8,7 +8,7 @@ use text_bytes::{Class, class_of};
 use text_parts::{part, same};
 use text_runs::{Run, run_end};
 
-#[derive(Drop)]
+#[derive(Clone, Copy)]
 pub enum Kind {
     Opening,
     Closing,
@@ -18,7 +18,7 @@ pub enum Kind {
 }
 
 // A token: its kind, the offset of its first byte, the offset after its last, and how many bytes a string or a plain word holds.
-#[derive(Drop)]
+#[derive(Clone, Copy)]
 pub struct Span {
     pub kind: Kind,
     pub start: usize,

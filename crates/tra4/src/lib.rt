@@ -1,3 +1,4 @@
+#![tactic(auto)]
 // Reads a movement's text.
 mod reader;
 mod setting;

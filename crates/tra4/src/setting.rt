@@ -9,7 +9,7 @@ use table_rows::put;
 use tra4_parse::Parsed;
 
 // A refusal's number, place and file; or the total and how many rows each list has. All else is 0.
-#[derive(Drop)]
+#[derive(Clone, Copy)]
 pub struct MovementAnswer {
     pub refusal: usize,
     pub place: usize,

@@ -1,3 +1,4 @@
+#![tactic(auto)]
 // One bone of a movement: its row, and its keys laid by channel number.
 mod bone;
 mod laying;

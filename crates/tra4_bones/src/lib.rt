@@ -1,3 +1,4 @@
+#![tactic(auto)]
 // The bones of a movement, their keys laid by channel number.
 mod list;
 

@@ -13,7 +13,7 @@ use tra4_channels::Keyed;
 
 // How many bones were read, how many keys they have, whether those are more than 4,096, and a cursor past the bones; where there are
 // too many keys, how many is free, and where the cursor has refused, all but the cursor is.
-#[derive(Drop)]
+#[derive(Clone, Copy)]
 pub struct Boned {
     pub cursor: Cursor,
     pub count: usize,

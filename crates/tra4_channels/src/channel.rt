@@ -12,7 +12,7 @@ use table_counts::{KEY_WIDTH, MOST_KEYS};
 
 // A cursor past what was read; how many keys stand in the table, and whether there were more than fit.
 // Where the cursor has refused, the two and all tables are free; where there were too many, the table of keys and that of ranges are.
-#[derive(Drop)]
+#[derive(Clone, Copy)]
 pub struct Keyed {
     pub cursor: Cursor,
     pub count: usize,

@@ -9,7 +9,7 @@ use table_counts::MOVEMENT_BONE_WIDTH;
 use tra4_frames::channel_fault;
 
 // The row after the keys that were walked, or the first fault among them.
-#[derive(Drop)]
+#[derive(Clone, Copy)]
 enum Walk {
     At(usize),
     Refused { number: u8, place: usize },

@@ -1,3 +1,4 @@
+#![tactic(auto)]
 // Rule 15 of a movement: the keys of each channel.
 mod key;
 

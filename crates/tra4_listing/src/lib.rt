@@ -1,3 +1,4 @@
+#![tactic(auto)]
 // A movement's listing.
 ghost use Rattle.std.specs.Prelude.{◌≡◌, ◌≤◌, length, take};
 ghost use Rattle.report_text.specs.Output.{output};

@@ -1,3 +1,4 @@
+#![tactic(auto)]
 // Reads the shape of a movement's text into tables.
 mod shape;
 

@@ -11,7 +11,7 @@ use tra4_patterns::patterns;
 
 // A cursor past the text, the total of frames, the name's place and length, how many rows each list has, and whether there are more
 // keys than 4,096 (then `keys` is free); where the cursor has refused, all else is free.
-#[derive(Drop)]
+#[derive(Clone, Copy)]
 pub struct Parsed {
     pub cursor: Cursor,
     pub total: i64,

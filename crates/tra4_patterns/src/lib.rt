@@ -1,3 +1,4 @@
+#![tactic(auto)]
 // The pattern lines of a movement.
 mod pattern;
 

@@ -1,3 +1,4 @@
+#![tactic(auto)]
 // Rules 8 and 14 to 16 of a movement, over tables of rows (document 01, "Refusal numbers").
 mod count;
 mod order;

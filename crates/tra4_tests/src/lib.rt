@@ -1,3 +1,4 @@
+#![tactic(auto)]
 // What numbers of a movement may stand for: a frame, and a pattern line's frame and group.
 mod frame;
 mod line;

@@ -1,1 +1,2 @@
+#![tactic(auto)]
 // The specification of movements: definitions and no code.

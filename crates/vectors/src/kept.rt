@@ -4,7 +4,7 @@ use crate::record::numbers;
 
 // Where the ARGS of the last record of a kind begin, or where the input ends: those of `front`, `copies`, `back`, `pad`,
 // `figure_counts` and `movement_counts`.
-#[derive(Drop)]
+#[derive(Clone, Copy)]
 pub(crate) struct Kept {
     pub front: usize,
     pub copies: usize,

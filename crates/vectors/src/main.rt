@@ -1,3 +1,4 @@
+#![tactic(auto)]
 // Runs vectors, the lines of document 01's "Both sides of each line" among them. Each line of standard input is a record,
 // KIND "LABEL" ARGS; docs/ARCHITECTURE.md, "Vectors", says what each kind means.
 mod counts;

@@ -47,7 +47,7 @@ fn append_text(buf: &mut [u8; 65600], n: usize, input: &[u8], at: usize) -> usiz
 }
 
 // A text, and after it spaces.
-#[derive(Drop)]
+#[derive(Clone, Copy)]
 pub(crate) struct Text {
     pub bytes: [u8; 65600],
     pub size: usize,
@@ -76,7 +76,7 @@ pub(crate) fn text_of(input: &[u8], args: &[u8], k: Kept) -> Text {
 }
 
 // A number in decimal, the same without its sign, and the offset after it; zeros and the offset before it where there is none.
-#[derive(Drop)]
+#[derive(Clone, Copy)]
 pub(crate) struct Number {
     pub value: i64,
     pub size: usize,

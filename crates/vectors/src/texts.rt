@@ -31,7 +31,7 @@ const VALUE: usize = 50;
 const SHOWN: usize = 56;
 
 // A line: where its word begins in the list of them, and how many of its numbers are told.
-#[derive(Drop)]
+#[derive(Clone, Copy)]
 pub(crate) struct Line {
     word: usize,
     count: usize,

@@ -1,3 +1,4 @@
+#![tactic(auto)]
 // Why faces are shown or hidden, as text.
 mod reasons;
 

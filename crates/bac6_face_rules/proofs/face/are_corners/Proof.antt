@@ -6,7 +6,7 @@ use lib.IntN.{ℤ}
 use lib.ListN.{take, drop}
 use native.Mathlib.Omega.{arith}
 use borrow.Author.Rules.{rules}
-use borrow.Author.Tests.{not_true, not-false}
+use borrow.Author.Tests.{not-true, not-false}
 use Rattle.table_references.specs.References.{is_row, is_none}
 use Rattle.table_columns.specs.Columns.{corner_at}
 use Rattle.bac6_face_rules.specs.Internal.Rows.{corners_known}
@@ -40,7 +40,7 @@ is-vertex-requires : tie.Need-is-vertex-requires invariant-loop decreases-loop
 is-vertex-requires c κs = search rules
 
 returns : tie.Need-returns invariant-loop decreases-loop
-returns c = (let l = c.before.before.before.before in let s = l.before in sym (l.loop.invariant.0 ∙ turn_broken s.args.points s.args.uvs s.args.f.now s.requires.0 s.args.used s.requires.1 l.loop.none l.loop.rows l.loop.k c.before.before.before.loop-test.true (sym (vertex c.before) ∙ not_true _ c.if1.true)))
+returns c = (let l = c.before.before.before.before in let s = l.before in sym (l.loop.invariant.0 ∙ turn_broken s.args.points s.args.uvs s.args.f.now s.requires.0 s.args.used s.requires.1 l.loop.none l.loop.rows l.loop.k c.before.before.before.loop-test.true (sym (vertex c.before) ∙ not-true _ c.if1.true)))
 
 face-uv-requires : tie.Need-face-uv-requires invariant-loop decreases-loop
 face-uv-requires c κs = search rules

@@ -4,7 +4,7 @@ use Prim.Native.Nat.{suc, ◌+◌, ◌-◌, ◌≤◌}
 use native.Mathlib.Omega.{arith}
 use native.Mathlib.Numerals.{add-one}
 use borrow.Author.Rules.{rules}
-use borrow.Author.Tests.{not_true, not-false}
+use borrow.Author.Tests.{not-true, not-false}
 use lib.ListN.{length, take, drop}
 use Rattle.refusal.specs.Internal.Answers.{refusal}
 use Rattle.refusal.specs.FirstBad.{first_bad}
@@ -61,7 +61,7 @@ unfolding refusal
 returns-2 c =
     let b = c.before.before.before.before.before in
     let n : b.before.args.count - b.loop.row ≡ suc (b.before.args.count - (b.loop.row + 1)) = omega arith in
-    sym (b.loop.invariant.2 ∙ rw n (walk_found 13 11 _ _ _ _ _ c.before.before.before.if1.false (sym (told c.before) ∙ not_true _ c.if2.true)))
+    sym (b.loop.invariant.2 ∙ rw n (walk_found 13 11 _ _ _ _ _ c.before.before.before.if1.false (sym (told c.before) ∙ not-true _ c.if2.true)))
 
 add_row : tie.Need-overflow-add-row invariant-loop decreases-loop
 add_row c = search rules

@@ -1,7 +1,7 @@
 -- `is_fine` is the definition: past the test of the material, the corners are as many as the size says.
 use mathlib.Core.Path.{◌≡◌, sym, ◌∙◌}
 use mathlib.Core.Bool.{true}
-use borrow.Author.Tests.{not_true, not-false}
+use borrow.Author.Tests.{not-true, not-false}
 use Rattle.table_references.specs.References.{is_row}
 use Rattle.table_columns.specs.Columns.{face_material}
 use Rattle.signed.proofs.Tests.{tested}
@@ -23,7 +23,7 @@ is-row-requires : tie.Need-is-row-requires
 is-row-requires c κs = search rules
 
 returns : tie.Need-returns
-returns c = sym (no_material _ _ _ _ (sym (material c.before) ∙ not_true _ c.if1.true))
+returns c = sym (no_material _ _ _ _ (sym (material c.before) ∙ not-true _ c.if1.true))
 
 shared-slice-copy-out-if2 : tie.Need-shared-slice-copy-out-if2
 shared-slice-copy-out-if2 c = search rules

@@ -1,6 +1,6 @@
 -- `still_none` is both tests.
 use mathlib.Core.Path.{refl}
-use borrow.Author.Tests.{not_true, not-false}
+use borrow.Author.Tests.{not-true, not-false}
 use Rattle.table_references.specs.References.{is_none}
 use Rattle.signed.proofs.Tests.{tested}
 use borrow.Author.Rules.{rules}
@@ -8,7 +8,7 @@ use Rattle.bac6_face_rules.proofs.face.still_none.Statement.{statement}
 use Rattle.bac6_face_rules.proofs.face.still_none.Tie as tie
 
 returns : tie.Need-returns
-returns c = rw (not_true c.before.args.none c.if1.true) refl
+returns c = rw (not-true c.before.args.none c.if1.true) refl
 
 is-none-requires : tie.Need-is-none-requires
 is-none-requires c κs = search rules

@@ -4,7 +4,7 @@ use mathlib.Core.Bool.{true, false}
 use Prim.Native.Nat.{ℕ, ◌<◌}
 use native.Mathlib.Omega.{arith}
 use borrow.Author.Rules.{rules}
-use borrow.Author.Tests.{not_true, not-false}
+use borrow.Author.Tests.{not-true, not-false}
 use lib.ListN.{length, get_or}
 use lib.IntN.{pos, nat_abs}
 use mir.Syntax.{w64}
@@ -71,7 +71,7 @@ free₃ : (c : tie.Then3) → is_free c.before.before.before.before.before.befor
 free₃ c =
     let c2 = c.before.before.before in
     let c1 = c2.before.before in
-    free_tests _ _ _ ∙ passed _ (in-points c1.before) c1.if1.false ∙ passed _ (in_owners c2.before) c2.if2.false ∙ sym (unclaimed c.before) ∙ not_true _ c.if3.true
+    free_tests _ _ _ ∙ passed _ (in-points c1.before) c1.if1.false ∙ passed _ (in_owners c2.before) c2.if2.false ∙ sym (unclaimed c.before) ∙ not-true _ c.if3.true
 
 returns-3 : tie.Need-returns-3
 returns-3 c = (sym (free₃ c), sym (claim_taken _ _ _ _ (free₃ c)))

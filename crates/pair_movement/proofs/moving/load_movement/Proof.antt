@@ -4,7 +4,7 @@ use mathlib.Core.List.{List, ◌++◌}
 use mathlib.Core.Bool.{true}
 use Prim.Native.Nat.{ℕ, ◌≤◌}
 use native.Mathlib.Omega.{arith}
-use borrow.Author.Tests.{not_true, not-false}
+use borrow.Author.Tests.{not-true, not-false}
 use lib.IntN.{ℤ, pos}
 use lib.ListN.{length, drop, replicate, length-replicate, length-append, length-take}
 use Rattle.parse_spec.specs.Fields.{is_some}
@@ -80,7 +80,7 @@ refused-requires : tie.Need-refused-requires
 refused-requires c κs = search rules
 
 returns : tie.Need-returns
-returns c = let b = refused_both _ _ _ _ (moved_unnamed _ _ _ _ _ (sym c.before.before.has-names.ensures ∙ not_true _ c.before.if1.true)) _ in (c.refused.ensures ∙ b.0, b.1)
+returns c = let b = refused_both _ _ _ _ (moved_unnamed _ _ _ _ _ (sym c.before.before.has-names.ensures ∙ not-true _ c.before.if1.true)) _ in (c.refused.ensures ∙ b.0, b.1)
 
 slice-aggregate-read : tie.Need-slice-aggregate-read
 slice-aggregate-read c = search rules

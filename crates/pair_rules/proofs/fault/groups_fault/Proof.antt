@@ -3,7 +3,7 @@ use mathlib.Core.Path.{◌≡◌, ap, sym, ◌∙◌}
 use Prim.Native.Nat.{◌-◌, ◌≤◌}
 use native.Mathlib.Omega.{arith}
 use borrow.Author.Rules.{rules}
-use borrow.Author.Tests.{not_true, not-false}
+use borrow.Author.Tests.{not-true, not-false}
 use mir.Syntax.{w64}
 use mir.Facts.{to_z-of_z}
 use Rattle.refusal.specs.Internal.Answers.{refusal}
@@ -40,7 +40,7 @@ is-row-requires c κs = search rules
 
 returns : tie.Need-returns invariant-loop decreases-loop
 unfolding refusal
-returns c = sym (c.before.before.before.before.loop.invariant.1 ∙ lines_bad _ _ _ _ c.before.before.before.loop-test.true (sym (c.before.is_row.ensures ∙ ap (is_row _) (to_z-of_z {w = w64} (record { sfits = c.before.before.group.given }))) ∙ not_true _ c.if1.true))
+returns c = sym (c.before.before.before.before.loop.invariant.1 ∙ lines_bad _ _ _ _ c.before.before.before.loop-test.true (sym (c.before.is_row.ensures ∙ ap (is_row _) (to_z-of_z {w = w64} (record { sfits = c.before.before.group.given }))) ∙ not-true _ c.if1.true))
 
 add_row : tie.Need-overflow-add-row invariant-loop decreases-loop
 add_row c = omega arith

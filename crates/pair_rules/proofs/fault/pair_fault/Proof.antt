@@ -1,7 +1,7 @@
 -- `pair_fault` is the definition: 21 where a table does not hold its counts, else the rules.
 use mathlib.Core.Path.{◌≡◌, sym, ◌∙◌}
 use mathlib.Core.Bool.{true}
-use borrow.Author.Tests.{not_true, not-false}
+use borrow.Author.Tests.{not-true, not-false}
 use Rattle.refusal.specs.Internal.Answers.{refusal}
 use Rattle.table_figure.specs.Sections.{holds_figure}
 use Rattle.table_movement.specs.Sections.{holds_movement}
@@ -21,14 +21,14 @@ holds-figure-requires c κs = search rules
 
 returns : tie.Need-returns
 unfolding refusal
-returns c = unheld_figure _ _ _ _ _ _ (sym c.before.holds-figure.ensures ∙ not_true _ c.if1.true)
+returns c = unheld_figure _ _ _ _ _ _ (sym c.before.holds-figure.ensures ∙ not-true _ c.if1.true)
 
 holds-movement-requires : tie.Need-holds-movement-requires
 holds-movement-requires c κs = search rules
 
 returns-2 : tie.Need-returns-2
 unfolding refusal
-returns-2 c = unheld_movement _ _ _ _ _ _ (figure_holds c.before.before) (sym c.before.holds-movement.ensures ∙ not_true _ c.if2.true)
+returns-2 c = unheld_movement _ _ _ _ _ _ (figure_holds c.before.before) (sym c.before.holds-movement.ensures ∙ not-true _ c.if2.true)
 
 rows-fault-requires : tie.Need-rows-fault-requires
 rows-fault-requires c κs = (figure_holds c.before.before, movement_holds c)

@@ -4,7 +4,7 @@ use mathlib.Core.Bool.{true}
 use Prim.Native.Nat.{◌-◌, ◌≤◌}
 use native.Mathlib.Omega.{arith}
 use borrow.Author.Rules.{rules}
-use borrow.Author.Tests.{not_true, not-false}
+use borrow.Author.Tests.{not-true, not-false}
 use Rattle.parse_spec.specs.Fields.{is_some}
 use Rattle.table_figure.specs.Sections.{holds_figure}
 use Rattle.player_names.specs.Names.{figure_name}
@@ -27,7 +27,7 @@ holds-figure-requires : tie.Need-holds-figure-requires invariant-loop decreases-
 holds-figure-requires c κs = search rules
 
 returns : tie.Need-returns invariant-loop decreases-loop
-returns c = sym (unheld_names _ _ _ (sym c.before.holds-figure.ensures ∙ not_true _ c.if1.true))
+returns c = sym (unheld_names _ _ _ (sym c.before.holds-figure.ensures ∙ not-true _ c.if1.true))
 
 loop-holds : tie.Need-loop-init invariant-loop decreases-loop
 loop-holds c = (omega arith, search rules, held-names _ _ _ (held c) ∙ named-all _ _)
@@ -37,7 +37,7 @@ has-name-requires c κs = search rules
 
 returns-2 : tie.Need-returns-2 invariant-loop decreases-loop
 returns-2 c = let i = c.before.before.before.loop.invariant in
-    sym (i.2 ∙ named_none _ _ _ c.before.before.loop-test.true (sym (figure_some _ _ _ (held c.before.before.before.before) _ c.before.before.loop-test.true) ∙ sym c.before.has-name.ensures ∙ not_true _ c.if2.true))
+    sym (i.2 ∙ named_none _ _ _ c.before.before.loop-test.true (sym (figure_some _ _ _ (held c.before.before.before.before) _ c.before.before.loop-test.true) ∙ sym c.before.has-name.ensures ∙ not-true _ c.if2.true))
 
 add_row : tie.Need-overflow-add-row invariant-loop decreases-loop
 add_row c = omega arith

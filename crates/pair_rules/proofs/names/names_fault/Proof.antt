@@ -3,7 +3,7 @@ use mathlib.Core.Path.{◌≡◌, sym, ◌∙◌}
 use Prim.Native.Nat.{◌-◌, ◌≤◌}
 use native.Mathlib.Omega.{arith}
 use borrow.Author.Rules.{rules}
-use borrow.Author.Tests.{not_true, not-false}
+use borrow.Author.Tests.{not-true, not-false}
 use Rattle.refusal.specs.Internal.Answers.{refusal}
 use Rattle.player_names.specs.Names.{figure_name, movement_name}
 use Rattle.pair_text.specs.Rules.{names_fault}
@@ -26,7 +26,7 @@ bone-agrees-requires c κs = let p = c.before.before.before.before.requires in (
 
 returns : tie.Need-returns invariant-loop decreases-loop
 unfolding refusal
-returns c = sym (c.before.before.before.loop.invariant.2 ∙ names_differ _ _ _ _ c.before.before.loop-test.true (sym c.before.bone-agrees.ensures ∙ not_true _ c.if1.true))
+returns c = sym (c.before.before.before.loop.invariant.2 ∙ names_differ _ _ _ _ c.before.before.loop-test.true (sym c.before.bone-agrees.ensures ∙ not-true _ c.if1.true))
 
 add_row : tie.Need-overflow-add-row invariant-loop decreases-loop
 add_row c = omega arith

@@ -4,7 +4,7 @@ use mathlib.Core.Logic.{⊎_elim}
 use Prim.Native.Nat.{◌-◌}
 use native.Mathlib.Numerals.{add-one}
 use borrow.Author.Rules.{rules}
-use borrow.Author.Tests.{not_true, not-false}
+use borrow.Author.Tests.{not-true, not-false}
 use lib.ListN.{length, drop}
 use Rattle.parse_spec.specs.Internal.Fields.{covers_all}
 use Rattle.parse_chunks.proofs.Stored.{covers_end, covers_past, covers_missing, covers_set, covers_free}
@@ -32,7 +32,7 @@ shared-slice-read-if3 c = search rules
 returns-2 : tie.Need-returns-2 invariant-loop decreases-loop
 returns-2 c =
     let l = c.before.before.before.before.before.before.loop in
-    sym (l.invariant ∙ covers_missing _ _ _ c.before.before.before.before.before.loop-test.true c.before.before.before.before.if1.false c.before.before.if2.true (not_true _ c.if3.true))
+    sym (l.invariant ∙ covers_missing _ _ _ c.before.before.before.before.before.loop-test.true c.before.before.before.before.if1.false c.before.before.if2.true (not-true _ c.if3.true))
 
 add-i : tie.Need-overflow-add-i invariant-loop decreases-loop
 add-i c = search rules

@@ -2,7 +2,7 @@
 use mathlib.Core.Path.{refl, sym, ◌∙◌}
 use native.Mathlib.Omega.{arith}
 use borrow.Author.Rules.{rules}
-use borrow.Author.Tests.{not_true, not-false}
+use borrow.Author.Tests.{not-true, not-false}
 use lib.Seq.{set_out}
 use Rattle.text_tokens.specs.Tokens.{lexeme}
 use Rattle.text_tokens.specs.Internal.Answers.{lexeme_of}
@@ -32,7 +32,7 @@ returns-2 c =
     let v = c.before in
     let k = v.before.before.before in
     let n = k.before in
-    (next_early _ _ _ n.next.ensures n.before.if1.false _ _ _ _ _ (sym (k.is-closing.ensures _) ∙ v.before.before.if2.true) (sym v.covers.ensures ∙ not_true _ c.if3.true), (sym (set_out _ _ _ (omega arith)), λ _. refl))
+    (next_early _ _ _ n.next.ensures n.before.if1.false _ _ _ _ _ (sym (k.is-closing.ensures _) ∙ v.before.before.if2.true) (sym v.covers.ensures ∙ not-true _ c.if3.true), (sym (set_out _ _ _ (omega arith)), λ _. refl))
 
 same-length-2 : tie.Need-same-length-2
 same-length-2 c = search rules
@@ -61,7 +61,7 @@ returns-5 c =
     let p = c.before in
     let k = p.before.before.before in
     let n = k.before in
-    (next_other _ _ _ n.next.ensures n.before.if1.false _ _ _ _ _ (sym (k.is-closing.ensures _) ∙ p.before.before.if2.false) (sym (p.is-opening.ensures _) ∙ not_true _ c.if5.true), (sym (set_out _ _ _ (omega arith)), λ _. refl))
+    (next_other _ _ _ n.next.ensures n.before.if1.false _ _ _ _ _ (sym (k.is-closing.ensures _) ∙ p.before.before.if2.false) (sym (p.is-opening.ensures _) ∙ not-true _ c.if5.true), (sym (set_out _ _ _ (omega arith)), λ _. refl))
 
 next-keyword-requires : tie.Need-next-keyword-requires
 next-keyword-requires c κs = search rules

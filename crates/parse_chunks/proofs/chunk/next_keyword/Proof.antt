@@ -2,7 +2,7 @@
 use mathlib.Core.Path.{refl, sym, ◌∙◌}
 use native.Mathlib.Omega.{arith}
 use borrow.Author.Rules.{rules}
-use borrow.Author.Tests.{not_true, not-false}
+use borrow.Author.Tests.{not-true, not-false}
 use lib.Seq.{set_out}
 use Rattle.text_tokens.specs.Tokens.{lexeme}
 use Rattle.text_tokens.specs.Internal.Answers.{lexeme_of}
@@ -20,7 +20,7 @@ returns : tie.Need-returns
 unfolding lexeme_of lexeme
 returns c =
     let p = c.before in
-    (word_no _ _ _ p.before.next.ensures _ _ _ (unmet-other _ _ _ (sym (p.is_plain.ensures _) ∙ not_true _ c.if1.true)), (sym (set_out _ _ _ (omega arith)), λ _. refl))
+    (word_no _ _ _ p.before.next.ensures _ _ _ (unmet-other _ _ _ (sym (p.is_plain.ensures _) ∙ not-true _ c.if1.true)), (sym (set_out _ _ _ (omega arith)), λ _. refl))
 
 word-index-requires : tie.Need-word-index-requires
 word-index-requires c κs = search rules

@@ -1,6 +1,6 @@
 -- `optional` is the definition by the next two tokens.
 use mathlib.Core.Path.{sym, ◌∙◌}
-use borrow.Author.Tests.{not_true, not-false}
+use borrow.Author.Tests.{not-true, not-false}
 use Rattle.text_tokens.specs.Tokens.{lexeme}
 use Rattle.text_tokens.specs.Internal.Answers.{lexeme_of}
 use Rattle.parse_spec.specs.Internal.Branches.{start_of}
@@ -23,7 +23,7 @@ returns-2 : tie.Need-returns-2
 unfolding lexeme_of lexeme
 returns-2 c =
     let b = c.before.before in
-    start_no_bracket _ _ _ _ b.next.ensures b.before.if1.false (sym (c.before.is-opening.ensures _) ∙ not_true _ c.if2.true)
+    start_no_bracket _ _ _ _ b.next.ensures b.before.if1.false (sym (c.before.is-opening.ensures _) ∙ not-true _ c.if2.true)
 
 next-requires-2 : tie.Need-next-requires-2
 next-requires-2 c κs = search rules
@@ -37,7 +37,7 @@ returns-3 c =
     let k = c.before.before in
     let e = k.before in
     let b = e.before.before in
-    start_no_word _ _ _ _ b.next.ensures b.before.if1.false (sym (e.before.is-opening.ensures _) ∙ not-false _ e.if2.false) _ k.next2.ensures (sym c.before.is-keyword.ensures ∙ not_true _ c.if3.true)
+    start_no_word _ _ _ _ b.next.ensures b.before.if1.false (sym (e.before.is-opening.ensures _) ∙ not-false _ e.if2.false) _ k.next2.ensures (sym c.before.is-keyword.ensures ∙ not-true _ c.if3.true)
 
 returns-4 : tie.Need-returns-4
 unfolding lexeme_of lexeme

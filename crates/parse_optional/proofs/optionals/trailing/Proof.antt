@@ -1,6 +1,6 @@
 -- `trailing` is the definition by the next token.
 use mathlib.Core.Path.{sym, ◌∙◌}
-use borrow.Author.Tests.{not_true, not-false}
+use borrow.Author.Tests.{not-true, not-false}
 use Rattle.text_tokens.specs.Tokens.{lexeme}
 use Rattle.text_tokens.specs.Internal.Answers.{lexeme_of}
 use Rattle.parse_spec.specs.Internal.Branches.{last_of}
@@ -23,7 +23,7 @@ returns-2 : tie.Need-returns-2
 unfolding lexeme_of lexeme
 returns-2 c =
     let b = c.before.before in
-    last_no_bracket _ _ _ _ b.next.ensures b.before.if1.false (sym (c.before.is-opening.ensures _) ∙ not_true _ c.if2.true)
+    last_no_bracket _ _ _ _ b.next.ensures b.before.if1.false (sym (c.before.is-opening.ensures _) ∙ not-true _ c.if2.true)
 
 keyword-requires : tie.Need-keyword-requires
 keyword-requires c κs = search rules

@@ -2,7 +2,7 @@
 use mathlib.Core.Path.{sym, ◌∙◌}
 use Prim.Native.Nat.{◌<◌, ◌^◌}
 use native.Mathlib.Omega.{arith}
-use borrow.Author.Tests.{not_true, not-false}
+use borrow.Author.Tests.{not-true, not-false}
 use Rattle.text_tokens.specs.Tokens.{lexeme}
 use Rattle.text_tokens.specs.Internal.Answers.{lexeme_of}
 use Rattle.signed.proofs.Signed.{bits_pos}
@@ -24,7 +24,7 @@ is-plain-requires c κs = search rules
 
 returns-2 : tie.Need-returns-2
 unfolding lexeme_of lexeme
-returns-2 c = word_balked _ _ _ c.before.before.next.ensures c.before.before.before.if1.false _ _ _ (among-other _ _ _ (sym (c.before.is_plain.ensures _) ∙ not_true _ c.if2.true))
+returns-2 c = word_balked _ _ _ c.before.before.next.ensures c.before.before.before.if1.false _ _ _ (among-other _ _ _ (sym (c.before.is_plain.ensures _) ∙ not-true _ c.if2.true))
 
 word-index-requires : tie.Need-word-index-requires
 word-index-requires c κs = search rules

@@ -3,7 +3,7 @@ use mathlib.Core.Path.{◌≡◌, ap, sym, ◌∙◌}
 use mathlib.Core.Bool.{true}
 use lib.IntN.{ℤ}
 use mir.Facts.{to_z-of_z}
-use borrow.Author.Tests.{not_true, not-false}
+use borrow.Author.Tests.{not-true, not-false}
 use Rattle.player_spec.specs.Lookups.{is_asked}
 use Rattle.player_spec.specs.Answers.{numbered}
 use Rattle.player_channel.specs.Answers.{sampled}
@@ -23,7 +23,7 @@ asked e = sym (told e.before) ∙ not-false _ e.if1.false
 
 returns : tie.Need-returns
 unfolding numbered sampled
-returns c = ap numbered (not_asked _ _ _ _ (sym (told c.before) ∙ not_true _ c.if1.true))
+returns c = ap numbered (not_asked _ _ _ _ (sym (told c.before) ∙ not-true _ c.if1.true))
 
 pass-over-requires : tie.Need-pass-over-requires
 pass-over-requires c κs = rw (to_z-of_z c.before.before.ranges.total) (key-rows _ _ _ (asked c))

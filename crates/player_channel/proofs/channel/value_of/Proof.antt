@@ -2,7 +2,7 @@
 use mathlib.Core.Path.{ap}
 use mir.Syntax.{w64}
 use mir.Facts.{to_z-of_z}
-use borrow.Author.Tests.{not_true, not-false}
+use borrow.Author.Tests.{not-true, not-false}
 use Rattle.player_spec.specs.Answers.{numbered}
 use Rattle.player_channel.specs.Answers.{sampled}
 use Rattle.player_channel.proofs.Asked.{at-fault, by_line_lem, by_last}
@@ -11,7 +11,7 @@ use Rattle.player_channel.proofs.channel.value_of.Tie as tie
 
 returns : tie.Need-returns
 unfolding numbered sampled
-returns c = ap numbered (at-fault _ (not_true _ c.if1.true))
+returns c = ap numbered (at-fault _ (not-true _ c.if1.true))
 
 returns-2 : tie.Need-returns-2
 unfolding numbered sampled

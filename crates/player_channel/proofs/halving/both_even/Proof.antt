@@ -1,7 +1,7 @@
 -- `both_even` is the definition, by its two tests.
 use mathlib.Core.Path.{sym, ◌∙◌}
 use borrow.Author.Rules.{rules}
-use borrow.Author.Tests.{not_true, not-false}
+use borrow.Author.Tests.{not-true, not-false}
 use Rattle.player_fractions.specs.Halving.{both_even}
 use Rattle.player_channel.proofs.halving.both_even.Statement.{statement}
 use Rattle.player_channel.proofs.halving.both_even.Tie as tie
@@ -11,7 +11,7 @@ is-even-requires c κs = search rules
 
 returns : tie.Need-returns
 unfolding both_even
-returns c = let e = sym c.before.is-even.ensures ∙ not_true _ c.if1.true in rw e
+returns c = let e = sym c.before.is-even.ensures ∙ not-true _ c.if1.true in rw e
 
 is-even-requires-2 : tie.Need-is-even-requires-2
 is-even-requires-2 c κs = search rules

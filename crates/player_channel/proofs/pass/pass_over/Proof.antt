@@ -8,7 +8,7 @@ use lib.ListN.{get_or}
 use Rattle.tra4_text.specs.Movement.{Key}
 use native.Mathlib.Omega.{arith}
 use borrow.Author.Rules.{rules}
-use borrow.Author.Tests.{not_true, not-false}
+use borrow.Author.Tests.{not-true, not-false}
 use mir.Syntax.{w64}
 use mir.Val.{to_z}
 use mir.Facts.{to_z-of_z}
@@ -63,7 +63,7 @@ returns-3 : tie.Need-returns-3 invariant-loop decreases-loop
 returns-3 c =
     let o = c.before.before.before.before.before.before in
     let s = o.before in
-    first_wide _ _ _ _ s.requires _ o.if1.false _ refl (zero_yes _ (record { sfits = c.before.before.before.if22.given }) c.before.before.if2.false) (sym (c.before.is-float.ensures ∙ ap is_float (to_z-of_z {w = w64} {z = get_or s.args.keys.now (1) (pos 0)} (record { sfits = c.before.before.before.before.before.first.given }))) ∙ not_true _ c.if3.true)
+    first_wide _ _ _ _ s.requires _ o.if1.false _ refl (zero_yes _ (record { sfits = c.before.before.before.if22.given }) c.before.before.if2.false) (sym (c.before.is-float.ensures ∙ ap is_float (to_z-of_z {w = w64} {z = get_or s.args.keys.now (1) (pos 0)} (record { sfits = c.before.before.before.before.before.first.given }))) ∙ not-true _ c.if3.true)
 
 loop-holds : tie.Need-loop-init invariant-loop decreases-loop
 loop-holds c =
@@ -116,7 +116,7 @@ stepped m =
     ∙ (rw (t, to_z-of_z {w = w64} {z = get_or a.keys.now (l.i * 2) (pos 0)} (record { sfits = m.before.before.step-arg.given }), to_z-of_z {w = w64} {z = get_or a.keys.now (l.i * 2 + 1) (pos 0)} (record { sfits = m.before.step-arg2.given })) at (m.step.ensures.0 rest))
 
 returns-4 : tie.Need-returns-4 invariant-loop decreases-loop
-returns-4 c = let m = c.before.before in stopped _ _ _ _ (not_true _ c.if4.true) ∙ sym (stepped m)
+returns-4 c = let m = c.before.before in stopped _ _ _ _ (not-true _ c.if4.true) ∙ sym (stepped m)
 
 add-i : tie.Need-overflow-add-i invariant-loop decreases-loop
 add-i c = search rules

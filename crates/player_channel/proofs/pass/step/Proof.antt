@@ -4,7 +4,7 @@ use mathlib.Core.List.{[], ◌∷◌}
 use mathlib.Core.Bool.{true}
 use mathlib.Core.Option.{some}
 use native.Mathlib.Omega.{arith}
-use borrow.Author.Tests.{not_true, not-false}
+use borrow.Author.Tests.{not-true, not-false}
 use lib.IntN.{ℤ, pos, nat_abs}
 use mir.Syntax.{w64}
 use mir.Facts.{to_z-of_z}
@@ -44,7 +44,7 @@ float c = sym (sized c.before) ∙ not-false _ c.if2.false
 returns : tie.Need-returns
 returns c =
     let a = c.before.before.before.before.args in
-    (not_following a.p a.f a.v a.total a.at _ refl (sym (told c.before) ∙ not_true _ c.if1.true), λ q. refute q)
+    (not_following a.p a.f a.v a.total a.at _ refl (sym (told c.before) ∙ not-true _ c.if1.true), λ q. refute q)
 
 is-float-requires : tie.Need-is-float-requires
 is-float-requires c κs = search rules
@@ -52,7 +52,7 @@ is-float-requires c κs = search rules
 returns-2 : tie.Need-returns-2
 returns-2 c =
     let a = c.before.before.before.before.before.before.args in
-    (not_float a.p a.f a.v a.total a.at _ refl (sym (told c.before.before.before) ∙ not-false _ c.before.before.if1.false) (sym (sized c.before) ∙ not_true _ c.if2.true), λ q. refute q)
+    (not_float a.p a.f a.v a.total a.at _ refl (sym (told c.before.before.before) ∙ not-false _ c.before.before.if1.false) (sym (sized c.before) ∙ not-true _ c.if2.true), λ q. refute q)
 
 cast-g : tie.Need-overflow-cast-g
 cast-g c =

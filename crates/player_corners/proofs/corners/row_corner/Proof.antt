@@ -9,7 +9,7 @@ use mir.Syntax.{w64}
 use mir.Val.{SFits}
 use mir.Facts.{to_z-of_z}
 use native.Mathlib.Omega.{arith}
-use borrow.Author.Tests.{not_true, not-false}
+use borrow.Author.Tests.{not-true, not-false}
 use Rattle.table_references.specs.References.{is_row, is_none}
 use Rattle.table_references.specs.Index.{is_index}
 use Rattle.table_columns.specs.Columns.{face_material, face_size, face_vertex, face_uv}
@@ -82,7 +82,7 @@ face-sound-requires c κs = search rules
 
 returns : tie.Need-returns
 unfolding numbered cornered
-returns c = ap numbered (row_broken _ _ _ _ (sym c.before.face-sound.ensures ∙ not_true _ c.if1.true))
+returns c = ap numbered (row_broken _ _ _ _ (sym c.before.face-sound.ensures ∙ not-true _ c.if1.true))
 
 shared-slice-copy-out-if2 : tie.Need-shared-slice-copy-out-if2
 shared-slice-copy-out-if2 c = search rules
@@ -105,7 +105,7 @@ point-at-requires c κs = (c.before.before.before.before.before.before.requires.
 
 returns-3 : tie.Need-returns-3
 unfolding numbered cornered
-returns-3 c = ap numbered (point_broken _ _ _ _ (fine c.before.before.before.before.before.before.before.before.before.before.before) (used c.before.before.before.before.before.before.before.before.before) (sym (sound c.before.before.before.before.before.before) ∙ not_true _ c.if3.true))
+returns-3 c = ap numbered (point_broken _ _ _ _ (fine c.before.before.before.before.before.before.before.before.before.before.before) (used c.before.before.before.before.before.before.before.before.before) (sym (sound c.before.before.before.before.before.before) ∙ not-true _ c.if3.true))
 
 face-uv-requires : tie.Need-face-uv-requires
 face-uv-requires c κs = search rules
@@ -122,7 +122,7 @@ uv-at-requires c κs = (c.before.before.before.before.before.before.before.befor
 
 returns-5 : tie.Need-returns-5
 unfolding numbered cornered
-returns-5 c = ap numbered (uv_broken _ _ _ _ (fine c.before.before.before.before.before.before.before.before.before.before.before.before.before.before.before.before.before.before.before.before) (used c.before.before.before.before.before.before.before.before.before.before.before.before.before.before.before.before.before.before) (point-sound c.before.before.before.before.before.before.before.before.before) (some_uv c.before.before.before.before.before) (sym (uv-sound c.before.before.before.before) ∙ not_true _ c.if5.true))
+returns-5 c = ap numbered (uv_broken _ _ _ _ (fine c.before.before.before.before.before.before.before.before.before.before.before.before.before.before.before.before.before.before.before.before) (used c.before.before.before.before.before.before.before.before.before.before.before.before.before.before.before.before.before.before) (point-sound c.before.before.before.before.before.before.before.before.before) (some_uv c.before.before.before.before.before) (sym (uv-sound c.before.before.before.before) ∙ not-true _ c.if5.true))
 
 returns-6 : tie.Need-returns-6
 unfolding numbered cornered

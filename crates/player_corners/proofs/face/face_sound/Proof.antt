@@ -6,7 +6,7 @@ use lib.ListN.{get_or, take, drop}
 use mir.Syntax.{w64}
 use mir.Val.{SFits}
 use mir.Facts.{to_z-of_z}
-use borrow.Author.Tests.{not_true, not-false}
+use borrow.Author.Tests.{not-true, not-false}
 use Rattle.table_references.specs.References.{is_row}
 use Rattle.table_references.specs.Index.{is_index}
 use Rattle.player_spec.specs.Lookups.{size_fine, corners_fine, all_none}
@@ -51,7 +51,7 @@ is-row-requires : tie.Need-is-row-requires
 is-row-requires c κs = search rules
 
 returns : tie.Need-returns
-returns c = no_material _ _ (sym (row_told c.before) ∙ not_true _ c.if1.true)
+returns c = no_material _ _ (sym (row_told c.before) ∙ not-true _ c.if1.true)
 
 shared-slice-copy-out-size : tie.Need-shared-slice-copy-out-size
 shared-slice-copy-out-size c = search rules
@@ -60,7 +60,7 @@ size-fine-requires : tie.Need-size-fine-requires
 size-fine-requires c κs = search rules
 
 returns-2 : tie.Need-returns-2
-returns-2 c = no_size _ _ (material c.before.before.before) (sym (size-told c.before) ∙ not_true _ c.if2.true)
+returns-2 c = no_size _ _ (material c.before.before.before) (sym (size-told c.before) ∙ not-true _ c.if2.true)
 
 cast-used : tie.Need-overflow-cast-used
 cast-used c = natural_cast _ (fits c.before.before) (size_is _ (size c)).0
@@ -78,7 +78,7 @@ corners-fine-requires : tie.Need-corners-fine-requires
 corners-fine-requires c κs = search rules
 
 returns-3 : tie.Need-returns-3
-returns-3 c = no_vertices _ _ (material c.before.before.before.before.before.before) (size c.before.before.before) (sym (vertices-told c.before) ∙ not_true _ c.if3.true)
+returns-3 c = no_vertices _ _ (material c.before.before.before.before.before.before) (size c.before.before.before) (sym (vertices-told c.before) ∙ not-true _ c.if3.true)
 
 sub-uvs-fine : tie.Need-overflow-sub-uvs-fine
 sub-uvs-fine c = search rules
@@ -93,7 +93,7 @@ uvs-fine-requires : tie.Need-uvs-fine-requires
 uvs-fine-requires c κs = search rules
 
 returns-4 : tie.Need-returns-4
-returns-4 c = no_uvs _ _ (material c.before.before.before.before.before.before.before.before.before) (size c.before.before.before.before.before.before) (vertices c.before.before.before) (sym (uvs-told c.before) ∙ not_true _ c.if4.true)
+returns-4 c = no_uvs _ _ (material c.before.before.before.before.before.before.before.before.before) (size c.before.before.before.before.before.before) (vertices c.before.before.before) (sym (uvs-told c.before) ∙ not-true _ c.if4.true)
 
 shared-slice-copy-out-is-index : tie.Need-shared-slice-copy-out-is-index
 shared-slice-copy-out-is-index c = search rules

@@ -4,7 +4,7 @@ use mathlib.Core.Bool.{true, ◌&&◌, ◌||◌}
 use Prim.Native.Nat.{◌+◌, ◌*◌, ◌-◌, ◌/◌, ◌≤◌}
 use native.Mathlib.Omega.{arith}
 use borrow.Author.Rules.{rules}
-use borrow.Author.Tests.{not_true, not-false}
+use borrow.Author.Tests.{not-true, not-false}
 use lib.Dec.{leb}
 use lib.IntN.{ℤ, pos}
 use lib.ListN.{length, get_or}
@@ -94,7 +94,7 @@ unfolding decided answer_by
 returns c =
     let m = c.before in
     let b = m.before.before.before.before.before in
-    sym (found b ∙ ap answer_by (turn_fault _ _ _ _ _ _ (omega arith) _ _ _ m.before.before.before.before.loop-test.true (sym (fine m) ∙ not_true _ c.if1.true)))
+    sym (found b ∙ ap answer_by (turn_fault _ _ _ _ _ _ (omega arith) _ _ _ m.before.before.before.before.loop-test.true (sym (fine m) ∙ not-true _ c.if1.true)))
 
 starts-requires : tie.Need-starts-requires invariant-loop decreases-loop
 starts-requires c κs = search rules
@@ -153,7 +153,7 @@ last e = found e.before ∙ ap answer_by (ended _ _ _ _ _ _ _ _ _ (let h = e.loo
 
 returns-2 : tie.Need-returns-2 invariant-loop decreases-loop
 unfolding decided answer_by only_if
-returns-2 c = let l = c.before.before.loop in sym (last c.before ∙ rw (not_true l.started c.if3.true))
+returns-2 c = let l = c.before.before.loop in sym (last c.before ∙ rw (not-true l.started c.if3.true))
 
 returns-3 : tie.Need-returns-3 invariant-loop decreases-loop
 unfolding decided answer_by only_if row_and_flag

@@ -9,7 +9,7 @@ use mir.Syntax.{w64}
 use mir.Val.{SFits, to_z, of_z}
 use mir.Facts.{to_z-of_z}
 use native.Mathlib.Omega.{arith}
-use borrow.Author.Tests.{not_true, not-false}
+use borrow.Author.Tests.{not-true, not-false}
 use Rattle.table_counts.specs.declared.counts.MovementCounts.{MovementCounts}
 use Rattle.table_columns.specs.Parts.{number_at, rows_at}
 use Rattle.table_columns.proofs.Casts.{natural_cast}
@@ -192,7 +192,7 @@ returns-4 : tie.Need-returns-4
 unfolding numbered sampled
 returns-4 c =
     let e = c.before.before.before.before.before in
-    ap numbered (no_range _ _ _ _ _ (held e.before.before.before) (row e.before) (known e) (by-pair e false (sym (told c.before) ∙ not_true _ c.if4.true)))
+    ap numbered (no_range _ _ _ _ _ (held e.before.before.before) (row e.before) (known e) (by-pair e false (sym (told c.before) ∙ not-true _ c.if4.true)))
 
 cast-from : tie.Need-overflow-cast-from
 cast-from c = natural_cast _ (first_fits c.before.before.before) (range_facts _ _ _ (ranged c)).0

@@ -2,7 +2,7 @@
 use mathlib.Core.Path.{◌≡◌, sym, ◌∙◌}
 use mathlib.Core.Bool.{true}
 use borrow.Author.Rules.{rules}
-use borrow.Author.Tests.{not_true, not-false}
+use borrow.Author.Tests.{not-true, not-false}
 use mir.Facts.{to_z-of_z}
 use Rattle.table_columns.proofs.Casts.{natural_cast}
 use Rattle.tra4_text.specs.Rules.{is_frame}
@@ -21,7 +21,7 @@ is-frame-requires : tie.Need-is-frame-requires
 is-frame-requires c κs = search rules
 
 returns : tie.Need-returns
-returns c = λ v. sym (follow_outside _ _ _ v (sym (told c.before) ∙ not_true _ c.if1.true))
+returns c = λ v. sym (follow_outside _ _ _ v (sym (told c.before) ∙ not-true _ c.if1.true))
 
 cast-result : tie.Need-overflow-cast-result
 cast-result c = natural_cast _ c.before.before.ranges.f (frame_is _ _ (inside c))

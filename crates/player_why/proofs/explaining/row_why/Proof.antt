@@ -8,7 +8,7 @@ use lib.ListN.{get_or}
 use mir.Syntax.{w64}
 use mir.Val.{SFits}
 use mir.Facts.{to_z-of_z}
-use borrow.Author.Tests.{not_true, not-false}
+use borrow.Author.Tests.{not-true, not-false}
 use Rattle.table_references.specs.References.{is_none}
 use Rattle.table_references.specs.Index.{is_index}
 use Rattle.signed.proofs.Tests.{tested}
@@ -48,7 +48,7 @@ is-index-requires c κs = search rules
 
 returns : tie.Need-returns
 unfolding reason_told
-returns c = no_group _ _ _ _ _ _ (sym (index-told c.before) ∙ not_true _ c.if1.true)
+returns c = no_group _ _ _ _ _ _ (sym (index-told c.before) ∙ not-true _ c.if1.true)
 
 row-owned-requires : tie.Need-row-owned-requires
 row-owned-requires c κs = search rules

@@ -9,7 +9,7 @@ use mir.Syntax.{w64}
 use mir.Val.{SFits, to_z, of_z}
 use mir.Facts.{to_z-of_z}
 use native.Mathlib.Omega.{arith}
-use borrow.Author.Tests.{not_true, not-false}
+use borrow.Author.Tests.{not-true, not-false}
 use Rattle.tra4_text.specs.Movement.{Pattern}
 use Rattle.signed.proofs.Tests.{tested}
 use Rattle.table_columns.specs.Parts.{number_at, rows_at}
@@ -105,7 +105,7 @@ is-asked-requires c κs = search rules
 
 returns-4 : tie.Need-returns-4
 unfolding explained numbered number_at
-returns-4 c = ap numbered (not_asked _ _ _ _ _ _ (there c.before.before.before.before.before.before.before.before).held (moves-held c.before.before.before.before.before) (is-face c.before.before.before) (sym (asked-told c.before) ∙ not_true _ c.if4.true))
+returns-4 c = ap numbered (not_asked _ _ _ _ _ _ (there c.before.before.before.before.before.before.before.before).held (moves-held c.before.before.before.before.before) (is-face c.before.before.before) (sym (asked-told c.before) ∙ not-true _ c.if4.true))
 
 mul-base : tie.Need-overflow-mul-base
 mul-base c = (let h = place c in small_fits _ (c.before.before.before.before.before.before.before.before.before.before.before.args.face * 11) refl (omega arith))

@@ -6,7 +6,7 @@ use lib.IntN.{ℤ, pos}
 use lib.ListN.{length, get_or, drop, length-take, length-drop}
 use native.Mathlib.Omega.{arith}
 use borrow.Author.Rules.{rules}
-use borrow.Author.Tests.{not_true, not-false}
+use borrow.Author.Tests.{not-true, not-false}
 use Rattle.table_references.specs.References.{is_none}
 use Rattle.table_references.specs.Index.{is_index}
 use Rattle.signed.proofs.Tests.{tested}
@@ -96,7 +96,7 @@ returns : tie.Need-returns invariant-loop decreases-loop
 unfolding corner_told
 returns c =
     let e = c.before in
-    turn_broken _ _ _ _ (room (start e)) _ _ _ (next e) (at-loop e).loop.invariant (sym (index-told e) ∙ not_true _ c.if1.true)
+    turn_broken _ _ _ _ (room (start e)) _ _ _ (next e) (at-loop e).loop.invariant (sym (index-told e) ∙ not-true _ c.if1.true)
 
 is-none-requires : tie.Need-is-none-requires invariant-loop decreases-loop
 is-none-requires c κs = search rules

@@ -7,7 +7,7 @@ use lib.ListN.{get_or, take, drop}
 use mir.Syntax.{w64}
 use mir.Val.{SFits}
 use mir.Facts.{to_z-of_z}
-use borrow.Author.Tests.{not_true, not-false}
+use borrow.Author.Tests.{not-true, not-false}
 use Rattle.signed.proofs.Tests.{tested}
 use Rattle.player_spec.specs.Lookups.{size_fine, corners_fine}
 use Rattle.player_why.specs.Internal.Rows.{corner_told, owned_in}
@@ -45,7 +45,7 @@ size-fine-requires c κs = search rules
 
 returns : tie.Need-returns
 unfolding corner_told
-returns c = no_size _ _ _ (sym (size-told c.before) ∙ not_true _ c.if1.true)
+returns c = no_size _ _ _ (sym (size-told c.before) ∙ not-true _ c.if1.true)
 
 cast-used : tie.Need-overflow-cast-used
 cast-used c = natural_cast _ (fits c.before.before) (size_is _ (sized c)).0
@@ -64,7 +64,7 @@ corners-fine-requires c κs = search rules
 
 returns-2 : tie.Need-returns-2
 unfolding corner_told
-returns-2 c = no_vertices _ _ _ (sized c.before.before.before) (sym (vertices-told c.before) ∙ not_true _ c.if2.true)
+returns-2 c = no_vertices _ _ _ (sized c.before.before.before) (sym (vertices-told c.before) ∙ not-true _ c.if2.true)
 
 owned-requires : tie.Need-owned-requires
 owned-requires c κs = (c.before.before.before.before.before.before.requires.0, c.before.before.before.before.before.before.requires.1, rw (to_z-of_z (fits c.before.before.before.before.before)) (within c))

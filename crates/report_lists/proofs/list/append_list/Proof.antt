@@ -3,7 +3,7 @@ use mathlib.Core.Path.{◌≡◌, refl, sym, ap, ◌∙◌}
 use Prim.Native.Nat.{◌+◌, ◌≤◌}
 use native.Mathlib.Omega.{arith}
 use borrow.Author.Rules.{rules}
-use borrow.Author.Tests.{leb-true, leb-false, not_true, not-false}
+use borrow.Author.Tests.{leb-true, leb-false, not-true, not-false}
 use lib.ListN.{length, drop}
 use Rattle.report_text.specs.Output.{output}
 use Rattle.report_lists.specs.Lists.{row_list, Listing, listing, listed, reached}
@@ -47,7 +47,7 @@ returns c =
     let l = c.before.before.before.loop in
     let a = c.before.before.before.before.before.before.before.args in
     let t = a.table.now in
-    let out = leb-false (l.at + a.width) (length t) (sym c.before.has_room.ensures ∙ not_true _ c.if1.true) in
+    let out = leb-false (l.at + a.width) (length t) (sym c.before.has_room.ensures ∙ not-true _ c.if1.true) in
     sym (rows_out l.n l.at a.width l.left l.buf a.word.now t l.invariant.0 out c.before.before.loop-test.true) ∙ same c.before.before.before
 
 -- the row that is next stands in the table

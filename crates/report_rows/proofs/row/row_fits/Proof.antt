@@ -4,7 +4,7 @@ use Prim.Native.Nat.{ℕ, suc, ◌+◌, ◌-◌, ◌≤◌}
 use native.Mathlib.Omega.{arith}
 use native.Mathlib.Numerals.{add-one}
 use borrow.Author.Rules.{rules}
-use borrow.Author.Tests.{lt-leb, not_true, not-false, leb-true, leb-false}
+use borrow.Author.Tests.{lt-leb, not-true, not-false, leb-true, leb-false}
 use lib.ListN.{length, drop, get_or}
 use lib.IntN.{pos}
 use Rattle.report_text.specs.Text.{fields, line}
@@ -25,7 +25,7 @@ has-room-requires c κs = search rules
 returns : tie.Need-returns invariant-loop decreases-loop
 returns c =
     let a = c.before.before.before.args in
-    let full = leb-false (a.n + length a.word.now) a.size (sym c.before.has_room.ensures ∙ not_true _ c.if1.true) in
+    let full = leb-false (a.n + length a.word.now) a.size (sym c.before.has_room.ensures ∙ not-true _ c.if1.true) in
     sym (lt-leb (a.n + length (line a.word.now a.numbers.now)) a.size (omega (arith, full, line-length a.word.now a.numbers.now)))
 
 word_fits : (c : tie.Else1 invariant-loop decreases-loop) → c.before.before.before.args.n + length c.before.before.before.args.word.now ≤ c.before.before.before.args.size

@@ -3,7 +3,7 @@ use mathlib.Core.Path.{◌≡◌, refl, ap, sym, ◌∙◌}
 use mathlib.Core.Bool.{true, false}
 use Prim.Native.Nat.{ℕ}
 use native.Mathlib.Omega.{arith}
-use borrow.Author.Tests.{not_true, not-false}
+use borrow.Author.Tests.{not-true, not-false}
 use Rattle.table_figure.specs.declared.sections.FigureSections.{FigureSections}
 use Rattle.table_figure.specs.Sections.{few_in_figure, figure_end, figure_sections}
 use Rattle.table_figure.proofs.Mosts.{figure-within, figure-many, figure-short, figure_there}
@@ -25,7 +25,7 @@ no-figure-sections-requires : tie.Need-no-figure-sections-requires
 no-figure-sections-requires c κs = search rules
 
 returns : tie.Need-returns
-returns c = c.no-figure-sections.ensures ∙ figure-many _ _ (sym c.before.before.few-in-figure.ensures ∙ not_true _ c.before.if1.true)
+returns c = c.no-figure-sections.ensures ∙ figure-many _ _ (sym c.before.before.few-in-figure.ensures ∙ not-true _ c.before.if1.true)
 
 figure-sections-requires : tie.Need-figure-sections-requires
 figure-sections-requires c κs = figure-within _ (few c)

@@ -3,7 +3,7 @@ use mathlib.Core.Path.{◌≡◌, refl, ap, sym, ◌∙◌}
 use mathlib.Core.Bool.{true, false}
 use Prim.Native.Nat.{ℕ}
 use native.Mathlib.Omega.{arith}
-use borrow.Author.Tests.{not_true, not-false}
+use borrow.Author.Tests.{not-true, not-false}
 use Rattle.table_movement.specs.declared.sections.MovementSections.{MovementSections}
 use Rattle.table_movement.specs.Sections.{few_in_movement, movement_end, movement_sections}
 use Rattle.table_movement.proofs.Mosts.{movement-within, movement-many, movement-short, movement_there}
@@ -25,7 +25,7 @@ no-movement-sections-requires : tie.Need-no-movement-sections-requires
 no-movement-sections-requires c κs = search rules
 
 returns : tie.Need-returns
-returns c = c.no-movement-sections.ensures ∙ movement-many _ _ (sym c.before.before.few-in-movement.ensures ∙ not_true _ c.before.if1.true)
+returns c = c.no-movement-sections.ensures ∙ movement-many _ _ (sym c.before.before.few-in-movement.ensures ∙ not-true _ c.before.if1.true)
 
 movement-sections-requires : tie.Need-movement-sections-requires
 movement-sections-requires c κs = movement-within _ (few c)

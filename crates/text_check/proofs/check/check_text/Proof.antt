@@ -1,6 +1,6 @@
 -- `check_text` is the definition, in its order of tests.
 use mathlib.Core.Path.{sym, ◌∙◌}
-use borrow.Author.Tests.{le-leb, lt-leb, not_true, not-false}
+use borrow.Author.Tests.{le-leb, lt-leb, not-true, not-false}
 use Rattle.text_check.specs.Faults.{text_fault}
 use Rattle.refusal.specs.Internal.Answers.{refusal}
 use borrow.Author.Rules.{rules}
@@ -16,7 +16,7 @@ is-marked-requires c κs = search rules
 
 returns-2 : tie.Need-returns-2
 unfolding text_fault refusal
-returns-2 c = rw (le-leb _ 65536 c.before.before.if1.false, sym c.before.is-marked.ensures ∙ not_true _ c.if2.true, text_fault)
+returns-2 c = rw (le-leb _ 65536 c.before.before.if1.false, sym c.before.is-marked.ensures ∙ not-true _ c.if2.true, text_fault)
 
 first-fault-requires : tie.Need-first-fault-requires
 first-fault-requires c κs = search rules

@@ -2,7 +2,7 @@
 use mathlib.Core.Path.{◌≡◌, ap, sym, ◌∙◌}
 use mathlib.Core.List.{List}
 use Prim.Native.Nat.{ℕ}
-use borrow.Author.Tests.{not_true, not-false}
+use borrow.Author.Tests.{not-true, not-false}
 use lib.ListN.{take}
 use Rattle.text_runs.specs.Runs.{part, same}
 use Rattle.text_check.proofs.Scanning.{mark_no, mark_end, mark_byte}
@@ -22,7 +22,7 @@ unfolding part
 taken c = ap (λ (l : List ℕ). same l c.before.before.before.before.args.mark.now) (sym c.before.part.ensures) ∙ sym c.same.ensures
 
 returns : tie.Need-returns
-returns c = sym (mark_no _ _ (taken c.before ∙ not_true _ c.if1.true))
+returns c = sym (mark_no _ _ (taken c.before ∙ not-true _ c.if1.true))
 
 returns-2 : tie.Need-returns-2
 returns-2 c = sym (mark_end _ _ (taken c.before.before ∙ not-false _ c.before.if1.false) c.if2.true)

@@ -4,7 +4,7 @@ use Prim.Native.Nat.{◌-◌, ◌<◌, suc}
 use native.Mathlib.Omega.{arith}
 use native.Mathlib.Numerals.{add-one}
 use borrow.Author.Rules.{rules}
-use borrow.Author.Tests.{not_true, not-false}
+use borrow.Author.Tests.{not-true, not-false}
 use lib.ListN.{length, drop}
 use Rattle.text_check.specs.Faults.{fault_in, string}
 use Rattle.text_bytes.specs.Bytes.{is_content}
@@ -53,7 +53,7 @@ returns-3 : tie.Need-returns-3 invariant-loop decreases-loop
 unfolding scanned Ahead is_content
 returns-3 c =
     let l = c.before.before.before.before.before.before.loop in
-    (sym (l.invariant.1 ∙ string_stray _ l.i c.before.before.before.before.before.loop-test.true _ _ c.before.before.before.if1.false (omega arith) (sym c.before.is-between.ensures ∙ not_true _ c.if3.true)), tt)
+    (sym (l.invariant.1 ∙ string_stray _ l.i c.before.before.before.before.before.loop-test.true _ _ c.before.before.before.if1.false (omega arith) (sym c.before.is-between.ensures ∙ not-true _ c.if3.true)), tt)
 
 add-i-2 : tie.Need-overflow-add-i-2 invariant-loop decreases-loop
 add-i-2 c = search rules

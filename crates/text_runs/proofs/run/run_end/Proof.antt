@@ -4,7 +4,7 @@ use Prim.Native.Nat.{◌+◌, ◌-◌}
 use native.Mathlib.Omega.{arith}
 use native.Mathlib.Numerals.{add-one}
 use borrow.Author.Rules.{rules}
-use borrow.Author.Tests.{not_true, not-false}
+use borrow.Author.Tests.{not-true, not-false}
 use lib.ListN.{length, drop}
 use Rattle.text_runs.specs.Runs.{run}
 use Rattle.text_runs.specs.Internal.Answers.{test_named}
@@ -32,7 +32,7 @@ returns c =
     let l = c.before.before.before.before.loop in
     let a = c.before.before.before.before.before.before.args in
     let e = c.before.belongs.ensures in
-    let stops = run-stop (test_named a.kind) a.text.now l.i c.before.before.before.loop-test.true (sym e ∙ not_true _ c.if1.true) in
+    let stops = run-stop (test_named a.kind) a.text.now l.i c.before.before.before.loop-test.true (sym e ∙ not-true _ c.if1.true) in
     omega (arith, l.invariant, stops)
 
 add-i : tie.Need-overflow-add-i invariant-loop decreases-loop

@@ -5,7 +5,7 @@ use mathlib.Core.Option.{none}
 use Prim.Native.Nat.{suc, ◌+◌, ◌-◌, ◌≤◌}
 use native.Mathlib.Omega.{arith}
 use native.Mathlib.Numerals.{add-one}
-use borrow.Author.Tests.{not_true, not-false}
+use borrow.Author.Tests.{not-true, not-false}
 use borrow.Author.Rules.{rules}
 use lib.Dec.{eqb}
 use lib.IntN.{pos}
@@ -63,7 +63,7 @@ returns-2 c =
     let b = c.before.before.before.before.before in
     let a = b.before.args in
     let n : a.end - b.loop.at ≡ suc (a.end - (b.loop.at + 1)) = omega arith in
-    sym (found b ∙ rw n (walk_found _ _ _ _ _ _ c.before.before.before.if1.false (sym (told c.before) ∙ not_true _ c.if2.true)))
+    sym (found b ∙ rw n (walk_found _ _ _ _ _ _ c.before.before.before.if1.false (sym (told c.before) ∙ not-true _ c.if2.true)))
 
 add-base : tie.Need-overflow-add-base invariant-loop decreases-loop
 add-base c = search rules

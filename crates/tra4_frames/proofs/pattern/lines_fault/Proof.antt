@@ -4,7 +4,7 @@ use Prim.Native.Nat.{suc, ◌+◌, ◌-◌, ◌≤◌}
 use native.Mathlib.Omega.{arith}
 use native.Mathlib.Numerals.{add-one}
 use borrow.Author.Rules.{rules}
-use borrow.Author.Tests.{not_true, not-false}
+use borrow.Author.Tests.{not-true, not-false}
 use lib.IntN.{pos}
 use lib.ListN.{length, take, drop, get_or}
 use mir.Syntax.{w64}
@@ -72,7 +72,7 @@ unfolding refusal
 returns-2 c =
     let b = c.before.before.before.before.before.before in
     let n : b.before.args.count - b.loop.row ≡ suc (b.before.args.count - (b.loop.row + 1)) = omega arith in
-    sym (found b ∙ rw n (walk_found 16 3 _ _ _ _ _ c.before.before.before.before.if1.false (sym (told c.before) ∙ not_true _ c.if2.true)))
+    sym (found b ∙ rw n (walk_found 16 3 _ _ _ _ _ c.before.before.before.before.if1.false (sym (told c.before) ∙ not-true _ c.if2.true)))
 
 add-base : tie.Need-overflow-add-base invariant-loop decreases-loop
 add-base c = search rules

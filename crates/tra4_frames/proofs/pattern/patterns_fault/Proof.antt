@@ -2,7 +2,7 @@
 use mathlib.Core.Path.{sym, ◌∙◌}
 use native.Mathlib.Omega.{arith}
 use borrow.Author.Rules.{rules}
-use borrow.Author.Tests.{not_true, not-false}
+use borrow.Author.Tests.{not-true, not-false}
 use mir.Facts.{to_z-of_z}
 use Rattle.refusal.specs.Internal.Answers.{refusal}
 use Rattle.tra4_frames.proofs.Patterns.{no_line, short-line, no_start, some_start}
@@ -22,7 +22,7 @@ has-start-requires c κs = search rules
 
 returns-3 : tie.Need-returns-3
 unfolding refusal
-returns-3 c = let m = c.before in no_start _ _ m.before.if2.false _ (let h = m.before.before.if1.false in omega arith) (sym m.has-start.ensures ∙ not_true _ c.if3.true)
+returns-3 c = let m = c.before in no_start _ _ m.before.if2.false _ (let h = m.before.before.if1.false in omega arith) (sym m.has-start.ensures ∙ not-true _ c.if3.true)
 
 lines-fault-requires : tie.Need-lines-fault-requires
 lines-fault-requires c κs = search rules
