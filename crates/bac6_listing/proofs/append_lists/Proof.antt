@@ -14,102 +14,76 @@ use borrow.Author.Rules.{rules}
 use Rattle.bac6_listing.proofs.append_lists.Statement.{statement}
 use Rattle.bac6_listing.proofs.append_lists.Tie as tie
 
-abbrev invariant-loop : tie.invariant-loop
+abbrev invariant-loop : tie.invariant-loop-i
 invariant-loop table buf₀ start words sizes widths counts p₀ i₀ buf p i =
     (i ≤ 11)
     × (length buf ≡ length buf₀)
     × (all_listed (reached p buf table) (lists_from (list_at words sizes widths counts) (11 - i) i) ≡ all_listed (reached p₀ buf₀ table) (lists_from (list_at words sizes widths counts) 11 0))
 
-abbrev decreases-loop : tie.decreases-loop
+abbrev decreases-loop : tie.decreases-loop-i
 decreases-loop table buf₀ start words sizes widths counts p₀ i₀ buf p i = 11 - i
 
-slice-aggregate-words : tie.Need-slice-aggregate-words invariant-loop decreases-loop
-slice-aggregate-words c = search rules
-
-loop-holds : tie.Need-loop-init invariant-loop decreases-loop
+loop-holds : tie.Need-loop-i-init invariant-loop decreases-loop
 loop-holds c = (omega arith, refl, refl)
 
-mul-from : tie.Need-overflow-mul-from invariant-loop decreases-loop
+mul-from : tie.Need-overflow_mul-from invariant-loop decreases-loop
 mul-from c = omega arith
 
-mul-end : tie.Need-overflow-mul-end invariant-loop decreases-loop
+mul-end : tie.Need-offset_bounds-sizes-i invariant-loop decreases-loop
 mul-end c = omega arith
 
-array-read-end : tie.Need-array-read-end invariant-loop decreases-loop
+array-read-end : tie.Need-bounds-sizes-i invariant-loop decreases-loop
 array-read-end c = omega arith
 
-add-end : tie.Need-overflow-add-end invariant-loop decreases-loop
-add-end c = omega (arith, size-most c.before.loop.i)
+add-end : tie.Need-overflow_add-end invariant-loop decreases-loop
+add-end c = omega (arith, size-most c.loop-i.i)
 
-sub-append-list : tie.Need-overflow-sub-append-list invariant-loop decreases-loop
+sub-append-list : tie.Need-slice_bounds-append_list-count invariant-loop decreases-loop
 sub-append-list c = omega arith
 
-part-append-list-start : tie.Need-slice-bounds-append-list-start invariant-loop decreases-loop
+part-append-list-start : tie.Need-slice_bounds-append_list-start invariant-loop decreases-loop
 part-append-list-start c = omega arith
 
-part-append-list-end : tie.Need-slice-bounds-append-list-end invariant-loop decreases-loop
-part-append-list-end c = omega (arith, size-most c.before.before.loop.i)
+part-append-list-end : tie.Need-slice_bounds-append_list-end invariant-loop decreases-loop
+part-append-list-end c = omega (arith, size-most c.loop-i.i)
 
-mul-append-list : tie.Need-overflow-mul-append-list invariant-loop decreases-loop
+mul-append-list : tie.Need-offset_bounds-widths-i invariant-loop decreases-loop
 mul-append-list c = omega arith
 
-array-read-append-list : tie.Need-array-read-append-list invariant-loop decreases-loop
+array-read-append-list : tie.Need-bounds-widths-i invariant-loop decreases-loop
 array-read-append-list c = omega arith
 
-mul-append-list-2 : tie.Need-overflow-mul-append-list-2 invariant-loop decreases-loop
+mul-append-list-2 : tie.Need-offset_bounds-counts-i invariant-loop decreases-loop
 mul-append-list-2 c = omega arith
 
-array-read-append-list-2 : tie.Need-array-read-append-list-2 invariant-loop decreases-loop
+array-read-append-list-2 : tie.Need-bounds-counts-i invariant-loop decreases-loop
 array-read-append-list-2 c = omega arith
 
-append-list-requires : tie.Need-append-list-requires invariant-loop decreases-loop
+append-list-requires : tie.Need-append_list-p-requires invariant-loop decreases-loop
 append-list-requires c κs = search rules
 
-add-i : tie.Need-overflow-add-i invariant-loop decreases-loop
+add-i : tie.Need-overflow_add-i invariant-loop decreases-loop
 add-i c = omega arith
 
-loop-less : tie.Need-loop-smaller invariant-loop decreases-loop
+loop-less : tie.Need-loop-i-smaller invariant-loop decreases-loop
 loop-less c = omega arith
 
-loop-again : tie.Need-loop-preserved invariant-loop decreases-loop
+loop-again : tie.Need-loop-i-preserved invariant-loop decreases-loop
 unfolding list_at
 loop-again c =
     let k = c.before.before in
-    let l = k.before.before.before.before.loop in
-    (omega arith, k.append-list.auto.0 ∙ l.invariant.1, next_row _ l.i _ _ (omega arith) k.append-list.ensures ∙ l.invariant.2)
+    let l = k.loop-i in
+    (omega arith, k.append_list-p.auto.0 ∙ l.invariant.1, next_row _ l.i _ _ (omega arith) k.append_list-p.ensures ∙ l.invariant.2)
 
-same_length : tie.Need-same-length invariant-loop decreases-loop
-same_length c = c.before.loop.invariant.1
+same_length : tie.Need-shape_of-buf invariant-loop decreases-loop
+same_length c = c.loop-i.invariant.1
 
 returns : tie.Need-returns invariant-loop decreases-loop
 unfolding put_of reached figure_lists bytes list_at lists_from
 returns c =
-    let l = c.before.loop in
-    let a = c.before.before.before.before.args in
-    ap put_of (all-rows _ l.i _ _ (omega arith) l.invariant.2) ∙ all_lines (output a.start a.buf.now) a.table.now (figure_lists a.n)
+    let l = c.loop-i in
+    let a = c.args in
+    ap put_of (all-rows _ l.i _ _ (omega arith) l.invariant.2) ∙ all_lines (output a.start a.buf-1.now) a.table.now (figure_lists a.n)
 
-pub append-lists-spec : {M : Type 1} → statement M
-append-lists-spec =
-    tie.close
-    (tie.spec
-    invariant-loop
-    decreases-loop
-    slice-aggregate-words
-    loop-holds
-    mul-from
-    mul-end
-    array-read-end
-    add-end
-    sub-append-list
-    part-append-list-start
-    part-append-list-end
-    mul-append-list
-    array-read-append-list
-    mul-append-list-2
-    array-read-append-list-2
-    append-list-requires
-    add-i
-    loop-less
-    loop-again
-    same_length
-    returns)
+pub append_lists_spec : {M : Type 1} → statement M
+append_lists_spec = tie.close (tie.spec invariant-loop decreases-loop loop-holds mul-from mul-end array-read-end add-end sub-append-list part-append-list-start part-append-list-end mul-append-list array-read-append-list mul-append-list-2 array-read-append-list-2 append-list-requires add-i loop-less loop-again same_length returns)

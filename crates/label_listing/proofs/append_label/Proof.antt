@@ -11,40 +11,28 @@ use Rattle.label_listing.proofs.LabelParts.{label-put}
 use Rattle.label_listing.proofs.append_label.Statement.{statement}
 use Rattle.label_listing.proofs.append_label.Tie as tie
 
-slice-aggregate-append : tie.Need-slice-aggregate-append
-slice-aggregate-append c = search rules
-
-append-requires : tie.Need-append-requires
+append-requires : tie.Need-append-word-requires
 append-requires c κs = search rules
 
-slice-aggregate-append-2 : tie.Need-slice-aggregate-append-2
-slice-aggregate-append-2 c = search rules
-
-append-requires-2 : tie.Need-append-requires-2
+append-requires-2 : tie.Need-append-first-requires
 append-requires-2 c κs = search rules
 
 shown-requires : tie.Need-shown-requires
 shown-requires c κs = search rules
 
-append-number-requires : tie.Need-append-number-requires
+append-number-requires : tie.Need-append_number-row-requires
 append-number-requires c κs = search rules
 
-slice-aggregate-append-3 : tie.Need-slice-aggregate-append-3
-slice-aggregate-append-3 c = search rules
-
-append-requires-3 : tie.Need-append-requires-3
+append-requires-3 : tie.Need-append-second-requires
 append-requires-3 c κs = search rules
 
-append-requires-4 : tie.Need-append-requires-4
+append-requires-4 : tie.Need-append-end-requires
 append-requires-4 c κs = search rules
 
-slice-aggregate-append-4 : tie.Need-slice-aggregate-append-4
-slice-aggregate-append-4 c = search rules
-
-append-requires-5 : tie.Need-append-requires-5
+append-requires-5 : tie.Need-append-requires
 append-requires-5 c κs = search rules
 
-same_length : tie.Need-same-length
+same_length : tie.Need-shape_of-buf
 same_length c = search rules
 
 returns : tie.Need-returns
@@ -57,24 +45,9 @@ returns c =
     let s = k3.before in
     let k2 = s.before.before.before.before in
     let k1 = k2.before.before.before.before.before in
-    let a = k1.before.before.before.before.before.args in
-    let row : output k3.append-number.result k3.append-number.new.0 ≡ appended (output k2.append2.result k2.append2.new.0) (numeral (to_z w64 (of_z w64 s.shown.result))) = k3.append-number.ensures in
-    label-put a.bone a.name.now a.n _ a.buf.now _ _ _ _ _ _ k1.append.ensures k2.append2.ensures (rw (held a.bone _ s.shown.ensures) at row) k4.append3.ensures k5.append4.ensures k6.append5.ensures
+    let a = k1.args in
+    let row : output k3.append_number-row.result k3.append_number-row.new.0 ≡ appended (output k2.append-first.result k2.append-first.new.0) (numeral (to_z w64 (of_z w64 s.shown.result))) = k3.append_number-row.ensures in
+    label-put a.bone a.name.now a.n _ a.buf-1.now _ _ _ _ _ _ k1.append-word.ensures k2.append-first.ensures (rw (held a.bone _ s.shown.ensures) at row) k4.append-second.ensures k5.append-end.ensures k6.append.ensures
 
-pub append-label-spec : {M : Type 1} → statement M
-append-label-spec =
-    tie.close
-    (tie.spec
-    slice-aggregate-append
-    append-requires
-    slice-aggregate-append-2
-    append-requires-2
-    shown-requires
-    append-number-requires
-    slice-aggregate-append-3
-    append-requires-3
-    append-requires-4
-    slice-aggregate-append-4
-    append-requires-5
-    same_length
-    returns)
+pub append_label_spec : {M : Type 1} → statement M
+append_label_spec = tie.close (tie.spec append-requires append-requires-2 shown-requires append-number-requires append-requires-3 append-requires-4 append-requires-5 same_length returns)

@@ -23,65 +23,53 @@ use Rattle.label_listing.proofs.append_labels.Tie as tie
 abbrev Label : List ℕ → FigureCounts → List ℤ → List ℕ → MovementCounts → List ℤ → ℕ → List (List ℕ)
 Label figure n table movement m moves bone = label_parts bone (or_empty (label_in figure n table movement m moves bone))
 
-abbrev invariant-loop : tie.invariant-loop
+abbrev invariant-loop : tie.invariant-loop-bone
 invariant-loop buf₀ filled figure table n movement moves m at₀ bone₀ bones buf at bone =
     (length buf ≡ length buf₀)
     × (appended_each (output filled buf₀) (lines_from (Label figure n table movement m moves) 0 (bones - 0)) ≡ appended_each (output at buf) (lines_from (Label figure n table movement m moves) bone (bones - bone)))
     × Short (Label figure n table movement m moves) 283 0 bone bones
 
-abbrev decreases-loop : tie.decreases-loop
+abbrev decreases-loop : tie.decreases-loop-bone
 decreases-loop buf₀ filled figure table n movement moves m at₀ bone₀ bones buf at bone = bones - bone
 
-loop-holds : tie.Need-loop-init invariant-loop decreases-loop
+loop-holds : tie.Need-loop-bone-init invariant-loop decreases-loop
 loop-holds c = (refl, refl, omega arith)
 
-label-requires : tie.Need-label-requires invariant-loop decreases-loop
+label-requires : tie.Need-label-name-requires invariant-loop decreases-loop
 label-requires c κs = search rules
 
-append-label-requires : tie.Need-append-label-requires invariant-loop decreases-loop
+append-label-requires : tie.Need-append_label-at-requires invariant-loop decreases-loop
 append-label-requires c κs = search rules
 
-add-bone : tie.Need-overflow-add-bone invariant-loop decreases-loop
+add-bone : tie.Need-overflow_add-bone invariant-loop decreases-loop
 add-bone c = search rules
 
-loop-less : tie.Need-loop-smaller invariant-loop decreases-loop
+loop-less : tie.Need-loop-bone-smaller invariant-loop decreases-loop
 loop-less c = search rules
 
-loop-again : tie.Need-loop-preserved invariant-loop decreases-loop
+loop-again : tie.Need-loop-bone-preserved invariant-loop decreases-loop
 loop-again c =
     let k = c.before.before in
     let s = k.before.before in
-    let l = s.before.before.loop in
-    let a = s.before.before.before.before.before.before.args in
-    let h = s.before.loop-test.true in
+    let l = s.loop-bone in
+    let a = s.args in
+    let h = s.loop-bone-test.true in
     let f = Label a.figure.now a.n a.table.now a.movement.now a.m a.moves.now in
-    let put = label-put l.at l.bone _ l.buf _ _ _ s.label.ensures (label-most a.figure.now a.n a.table.now a.movement.now a.m a.moves.now l.bone) k.append-label.ensures in
-    (k.append-label.auto.0 ∙ l.invariant.0, rw add-one (l.invariant.1 ∙ turn_put f 283 l.bone a.n.bones l.at _ l.buf _ h put.0), rw add-one (turn_short f 283 0 l.bone a.n.bones h put.1 l.invariant.2))
+    let put = label-put l.at l.bone _ l.buf-1 _ _ _ s.label-name.ensures (label-most a.figure.now a.n a.table.now a.movement.now a.m a.moves.now l.bone) k.append_label-at.ensures in
+    (k.append_label-at.auto.0 ∙ l.invariant.0, rw add-one (l.invariant.1 ∙ turn_put f 283 l.bone a.n.bones l.at _ l.buf-1 _ h put.0), rw add-one (turn_short f 283 0 l.bone a.n.bones h put.1 l.invariant.2))
 
-same_length : tie.Need-same-length invariant-loop decreases-loop
-same_length c = c.before.loop.invariant.0
+same_length : tie.Need-shape_of-buf invariant-loop decreases-loop
+same_length c = c.loop-bone.invariant.0
 
 returns : tie.Need-returns invariant-loop decreases-loop
 unfolding labels_in
 returns c =
-    let l = c.before.loop in
-    let a = c.before.before.before.before.before.args in
+    let l = c.loop-bone in
+    let a = c.args in
     let f = Label a.figure.now a.n a.table.now a.movement.now a.m a.moves.now in
-    let h = c.loop-test.false in
+    let h = c.loop-bone-test.false in
     let whole : a.n.bones - 0 ≡ a.n.bones = omega arith in
-    (rw whole at (all_lines f 283 0 l.bone a.n.bones a.filled _ a.buf.now l.buf h l.invariant.1), rw whole at (all_short f 283 0 l.bone a.n.bones h l.invariant.2))
+    (rw whole at (all_lines f 283 0 l.bone a.n.bones a.filled _ a.buf-1.now l.buf-1 h l.invariant.1), rw whole at (all_short f 283 0 l.bone a.n.bones h l.invariant.2))
 
-pub append-labels-spec : {M : Type 1} → statement M
-append-labels-spec =
-    tie.close
-    (tie.spec
-    invariant-loop
-    decreases-loop
-    loop-holds
-    label-requires
-    append-label-requires
-    add-bone
-    loop-less
-    loop-again
-    same_length
-    returns)
+pub append_labels_spec : {M : Type 1} → statement M
+append_labels_spec = tie.close (tie.spec invariant-loop decreases-loop loop-holds label-requires append-label-requires add-bone loop-less loop-again same_length returns)

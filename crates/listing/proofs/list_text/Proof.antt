@@ -8,39 +8,31 @@ use borrow.Author.Rules.{rules}
 use Rattle.listing.proofs.list_text.Statement.{statement}
 use Rattle.listing.proofs.list_text.Tie as tie
 
-slice-aggregate-read : tie.Need-slice-aggregate-read
+slice-aggregate-read : tie.Need-slice_bounds-read-end
 slice-aggregate-read c = search rules
 
-read-requires : tie.Need-read-requires
+read-requires : tie.Need-read-answer-requires
 read-requires c κs = search rules
 
-slice-aggregate-list-figure : tie.Need-slice-aggregate-list-figure
+slice-aggregate-list-figure : tie.Need-slice_bounds-list_figure-end
 slice-aggregate-list-figure c = search rules
 
-list-figure-requires : tie.Need-list-figure-requires
+list-figure-requires : tie.Need-list_figure-requires
 list-figure-requires c κs = search rules
 
-same_length : tie.Need-same-length
+same_length : tie.Need-shape_of-buf
 same_length c = search rules
 
 returns : tie.Need-returns
 unfolding start_table
 returns c =
-    let l = c.before.before.list-figure in
+    let l = c.list_figure in
     let k = c.before.before.before.before.before.before in
-    let r = k.read in
-    let a = c.before.before.before.before.before.before.before.before.before.before.args in
+    let r = k.read-answer in
+    let a = c.args in
     let lines = same_lines a.text.now r.new.1.0 r.result r.ensures.0 r.ensures.1 in
     let text = same_text a.text.now r.new.1.0 r.result r.ensures.0 r.ensures.1 in
-    (l.ensures.0 ∙ ap (appended_each (output 0 a.buf.now)) lines, (l.ensures.1.0, λ h. l.ensures.1.1 (rw text h) ∙ text))
+    (l.ensures.0 ∙ ap (appended_each (output 0 a.buf-1.now)) lines, (l.ensures.1.0, λ h. l.ensures.1.1 (rw text h) ∙ text))
 
-pub list-text-spec : {M : Type 1} → statement M
-list-text-spec =
-    tie.close
-    (tie.spec
-    slice-aggregate-read
-    read-requires
-    slice-aggregate-list-figure
-    list-figure-requires
-    same_length
-    returns)
+pub list_text_spec : {M : Type 1} → statement M
+list_text_spec = tie.close (tie.spec slice-aggregate-read read-requires slice-aggregate-list-figure list-figure-requires same_length returns)

@@ -4,27 +4,26 @@ use borrow.Author.Rules.{rules}
 use Rattle.pair_corners.proofs.corner_number.Statement.{statement}
 use Rattle.pair_corners.proofs.corner_number.Tie as tie
 
-enum_told : tie.Need-enum-told
+enum_told : tie.Need-enum_told-1
 enum_told c = search rules
 
-enum-known-value : tie.Need-enum-known-value
+enum-known-value : tie.Need-enum_known-value
 enum-known-value c = search rules
 
-enum-known-value-2 : tie.Need-enum-known-value-2
+enum-known-value-2 : tie.Need-enum_known-value-in-Textured-1
 enum-known-value-2 c = search rules
 
-returns : tie.Need-returns
+returns : tie.Need-returns-in-Refused
 unfolding cornered
-returns c = rw c.enum_told.given.1
+returns c = rw c.in-Refused.is
 
-returns-2 : tie.Need-returns-2
+returns-2 : tie.Need-returns-in-Plain
 unfolding cornered
-returns-2 c = rw c.before.value.given.1
+returns-2 c = rw c.in-Plain.is
 
-returns-3 : tie.Need-returns-3
+returns-3 : tie.Need-returns-in-Textured
 unfolding cornered
-returns-3 c = rw c.before.value2.given.1
+returns-3 c = rw c.in-Textured.is
 
-pub corner-number-spec : {M : Type 1} → statement M
-corner-number-spec =
-    tie.close (tie.spec enum_told enum-known-value enum-known-value-2 returns returns-2 returns-3)
+pub corner_number_spec : {M : Type 1} → statement M
+corner_number_spec = tie.close (tie.spec enum_told enum-known-value enum-known-value-2 returns returns-2 returns-3)

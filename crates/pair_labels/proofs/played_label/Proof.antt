@@ -15,50 +15,39 @@ use borrow.Author.Rules.{rules}
 use Rattle.pair_labels.proofs.played_label.Statement.{statement}
 use Rattle.pair_labels.proofs.played_label.Tie as tie
 
-load-requires : tie.Need-load-requires
+load-requires : tie.Need-load-a-requires
 load-requires c κs = search rules
 
 part-requires : tie.Need-part-requires
 part-requires c κs = search rules
 
-same_length : tie.Need-same-length
+same_length : tie.Need-shape_of-table-then-a-eq0
 same_length c = search rules
 
-same-length-2 : tie.Need-same-length-2
+same-length-2 : tie.Need-shape_of-moves-then-a-eq0
 same-length-2 c = search rules
 
-returns : tie.Need-returns
+returns : tie.Need-returns-then-a-eq0
 unfolding bytes_of or_empty
-returns c = let l = c.before.before.before.before.before.load in
-    let a = c.before.before.before.before.before.before.before.before.before.before.args in
-    (c.part.ensures ∙ part_none _ _ _ (omega arith) ∙ ap bytes_of (pair-refused (λ (f : Figure) (m : Movement). label_asked f m a.bone) _ _ l.ensures.0 c.before.if1.true), l.ensures.1)
+returns c = let l = c.load-a in
+    let a = c.args in
+    (c.part.ensures ∙ part_none _ _ _ (omega arith) ∙ ap bytes_of (pair-refused (λ (f : Figure) (m : Movement). label_asked f m a.bone) _ _ l.ensures.0 c.if-a-eq0.true), l.ensures.1)
 
 label-requires : tie.Need-label-requires
 label-requires c κs = search rules
 
-same-length-3 : tie.Need-same-length-3
+same-length-3 : tie.Need-shape_of-table
 same-length-3 c = search rules
 
-same-length-4 : tie.Need-same-length-4
+same-length-4 : tie.Need-shape_of-moves
 same-length-4 c = search rules
 
-returns-2 : tie.Need-returns-2
-returns-2 c = let l = c.before.before.before.before.before.before.before.before.before.load in
-    let a = c.before.before.before.before.before.before.before.before.before.before.before.before.before.before.args in
-    let o = pair-loaded _ _ l.ensures.0 c.before.before.before.before.before.if1.false in
-    let same = label_of a.figure.now a.table.now a.movement.now a.moves.now o.figure o.movement o.is l.result.figure _ l.result.movement _ (ap (λ (x : PairAnswer). x.figure) l.ensures.0) l.ensures.1.0 (ap (λ (x : PairAnswer). x.movement) l.ensures.0) l.ensures.1.1 a.bone in
+returns-2 : tie.Need-returns
+returns-2 c = let l = c.load-a in
+    let a = c.args in
+    let o = pair-loaded _ _ l.ensures.0 c.if-a-eq0.false in
+    let same = label_of a.figure.now a.table-1.now a.movement.now a.moves-1.now o.figure o.movement o.is l.result.figure _ l.result.movement _ (ap (λ (x : PairAnswer). x.figure) l.ensures.0) l.ensures.1.0 (ap (λ (x : PairAnswer). x.movement) l.ensures.0) l.ensures.1.1 a.bone in
     (c.label.ensures ∙ bytes_some _ ∙ ap bytes_of (by_texts (λ (f : Figure) (m : Movement). label_asked f m a.bone) _ o _ same), l.ensures.1)
 
-pub played-label-spec : {M : Type 1} → statement M
-played-label-spec =
-    tie.close
-    (tie.spec
-    load-requires
-    part-requires
-    same_length
-    same-length-2
-    returns
-    label-requires
-    same-length-3
-    same-length-4
-    returns-2)
+pub played_label_spec : {M : Type 1} → statement M
+played_label_spec = tie.close (tie.spec load-requires part-requires same_length same-length-2 returns label-requires same-length-3 same-length-4 returns-2)

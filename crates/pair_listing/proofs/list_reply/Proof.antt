@@ -12,28 +12,28 @@ use Rattle.pair_listing.proofs.Replies.{taken_put, refused_put}
 use Rattle.pair_listing.proofs.list_reply.Statement.{statement}
 use Rattle.pair_listing.proofs.list_reply.Tie as tie
 
-slice-aggregate-append-row : tie.Need-slice-aggregate-append-row
+slice-aggregate-append-row : tie.Need-slice_bounds-append_row-end-then-refusal-ne0
 slice-aggregate-append-row c = search rules
 
 shown-requires : tie.Need-shown-requires
 shown-requires c κs = search rules
 
-shown-requires-2 : tie.Need-shown-requires-2
+shown-requires-2 : tie.Need-shown-requires-then-refusal-ne0
 shown-requires-2 c κs = search rules
 
-shown-requires-3 : tie.Need-shown-requires-3
+shown-requires-3 : tie.Need-shown-requires-then-refusal-ne0-2
 shown-requires-3 c κs = search rules
 
-slice-aggregate-append-row-2 : tie.Need-slice-aggregate-append-row-2
+slice-aggregate-append-row-2 : tie.Need-slice_bounds-append_row-end-3
 slice-aggregate-append-row-2 c = search rules
 
-append-row-requires : tie.Need-append-row-requires
+append-row-requires : tie.Need-append_row-requires
 append-row-requires c κs = search rules
 
-same_length : tie.Need-same-length
+same_length : tie.Need-shape_of-buf-then-refusal-ne0
 same_length c = search rules
 
-returns : tie.Need-returns
+returns : tie.Need-returns-then-refusal-ne0
 unfolding bytes
 returns c =
     let k = c.before.before in
@@ -41,57 +41,34 @@ returns c =
     let s2 = s3.before in
     let s1 = s2.before in
     let t = s1.before.before.before in
-    let a = t.before.before.args in
-    let e : output k.append-row.result k.append-row.new.0 ≡ appended (output 0 a.buf.now) (line (bytes "refused") (to_z w64 (of_z w64 s1.shown.result) ∷ to_z w64 (of_z w64 s2.shown2.result) ∷ to_z w64 (of_z w64 s3.shown3.result) ∷ [])) = k.append-row.ensures in
-    refused_put a.refusal a.place a.file a.figure-total a.movement-total _ a.buf.now _ t.if1.true
-    (rw (held a.refusal _ s1.shown.ensures, held a.place _ s2.shown2.ensures, held a.file _ s3.shown3.ensures) at e)
+    let a = t.args in
+    let e : output k.append_row.result k.append_row.new.0 ≡ appended (output 0 a.buf-1.now) (line (bytes "refused") (to_z w64 (of_z w64 s1.shown.result) ∷ to_z w64 (of_z w64 s2.shown-then-refusal-ne0.result) ∷ to_z w64 (of_z w64 s3.shown-then-refusal-ne0-2.result) ∷ [])) = k.append_row.ensures in
+    refused_put a.refusal a.place a.file a.figure-total a.movement-total _ a.buf-1.now _ t.if-refusal-ne0.true
+    (rw (held a.refusal _ s1.shown.ensures, held a.place _ s2.shown-then-refusal-ne0.ensures, held a.file _ s3.shown-then-refusal-ne0-2.ensures) at e)
 
-slice-aggregate-append-row-3 : tie.Need-slice-aggregate-append-row-3
-slice-aggregate-append-row-3 c = search rules
-
-shown-requires-4 : tie.Need-shown-requires-4
+shown-requires-4 : tie.Need-shown-requires-2
 shown-requires-4 c κs = search rules
 
-shown-requires-5 : tie.Need-shown-requires-5
+shown-requires-5 : tie.Need-shown-requires-3
 shown-requires-5 c κs = search rules
 
-slice-aggregate-append-row-4 : tie.Need-slice-aggregate-append-row-4
-slice-aggregate-append-row-4 c = search rules
-
-append-row-requires-2 : tie.Need-append-row-requires-2
+append-row-requires-2 : tie.Need-append_row-requires-2
 append-row-requires-2 c κs = search rules
 
-same-length-2 : tie.Need-same-length-2
+same-length-2 : tie.Need-shape_of-buf
 same-length-2 c = search rules
 
-returns-2 : tie.Need-returns-2
+returns-2 : tie.Need-returns
 unfolding bytes
 returns-2 c =
     let k = c.before.before in
     let s2 = k.before.before in
     let s1 = s2.before in
     let t = s1.before.before.before in
-    let a = t.before.before.args in
-    let e : output k.append-row2.result k.append-row2.new.0 ≡ appended (output 0 a.buf.now) (line (bytes "pair") (to_z w64 (of_z w64 s1.shown4.result) ∷ to_z w64 (of_z w64 s2.shown5.result) ∷ [])) = k.append-row2.ensures in
-    taken_put a.refusal a.place a.file a.figure-total a.movement-total _ a.buf.now _ t.if1.false
-    (rw (held a.figure-total _ s1.shown4.ensures, held a.movement-total _ s2.shown5.ensures) at e)
+    let a = t.args in
+    let e : output k.append_row-2.result k.append_row-2.new.0 ≡ appended (output 0 a.buf-1.now) (line (bytes "pair") (to_z w64 (of_z w64 s1.shown-2.result) ∷ to_z w64 (of_z w64 s2.shown-3.result) ∷ [])) = k.append_row-2.ensures in
+    taken_put a.refusal a.place a.file a.figure-total a.movement-total _ a.buf-1.now _ t.if-refusal-ne0.false
+    (rw (held a.figure-total _ s1.shown-2.ensures, held a.movement-total _ s2.shown-3.ensures) at e)
 
-pub list-reply-spec : {M : Type 1} → statement M
-list-reply-spec =
-    tie.close
-    (tie.spec
-    slice-aggregate-append-row
-    shown-requires
-    shown-requires-2
-    shown-requires-3
-    slice-aggregate-append-row-2
-    append-row-requires
-    same_length
-    returns
-    slice-aggregate-append-row-3
-    shown-requires-4
-    shown-requires-5
-    slice-aggregate-append-row-4
-    append-row-requires-2
-    same-length-2
-    returns-2)
+pub list_reply_spec : {M : Type 1} → statement M
+list_reply_spec = tie.close (tie.spec shown-requires shown-requires-2 shown-requires-3 slice-aggregate-append-row append-row-requires same_length returns shown-requires-4 shown-requires-5 slice-aggregate-append-row-2 append-row-requires-2 same-length-2 returns-2)

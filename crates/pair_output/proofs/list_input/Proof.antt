@@ -7,62 +7,49 @@ use Rattle.pair_output.proofs.list_input.Tie as tie
 divide-requires : tie.Need-divide-requires
 divide-requires c κs = search rules
 
-enum-known-number : tie.Need-enum-known-number
+enum-known-number : tie.Need-enum_known-number
 enum-known-number c = search rules
 
-list-reply-requires : tie.Need-list-reply-requires
+list-reply-requires : tie.Need-list_reply-requires
 list-reply-requires c κs = search rules
 
-enum-known-end : tie.Need-enum-known-end
+enum-known-end : tie.Need-enum_known-end
 enum-known-end c = search rules
 
 part-requires : tie.Need-part-requires
 part-requires c κs = search rules
 
-part-requires-2 : tie.Need-part-requires-2
+part-requires-2 : tie.Need-part-requires-in-Figure
 part-requires-2 c κs = search rules
 
-list-texts-requires : tie.Need-list-texts-requires
+list-texts-requires : tie.Need-list_texts-requires
 list-texts-requires c κs = search rules
 
-same_length : tie.Need-same-length
+same_length : tie.Need-shape_of-buf-in-Refused
 same_length c = search rules
 
-returns : tie.Need-returns
+returns : tie.Need-returns-in-Refused
 returns c =
     let r = c.before.before in
     let v = r.before.before in
-    let f = v.before.number.given in
+    let f = v.number-1.given in
     let d = v.before.before.before in
-    let a = d.before.before.before.args in
-    said_refused a.text.now a.more _ a.buf.now _ d.divide.result d.divide.ensures f.0.0 f.1 r.list-reply.ensures.0
+    let a = d.args in
+    said_refused a.text.now a.more _ a.buf-1.now _ d.divide.result d.divide.ensures f.0.0 f.1 r.list_reply.ensures.line
 
-same-length-2 : tie.Need-same-length-2
+same-length-2 : tie.Need-shape_of-buf-in-Figure
 same-length-2 c = search rules
 
-returns-2 : tie.Need-returns-2
+returns-2 : tie.Need-returns-in-Figure
 returns-2 c =
     let t = c.before.before in
     let p2 = t.before in
     let p1 = p2.before in
     let v = p1.before.before in
-    let f = v.before.end.given in
+    let f = v.end-1.given in
     let d = v.before.before.before in
-    let a = d.before.before.before.args in
-    said_figure a.text.now a.more _ a.buf.now _ d.divide.result d.divide.ensures f.0.0 f.1 _ _ p1.part.ensures p2.part2.ensures t.list-texts.ensures
+    let a = d.args in
+    said_figure a.text.now a.more _ a.buf-1.now _ d.divide.result d.divide.ensures f.0.0 f.1 _ _ p1.part.ensures p2.part-in-Figure.ensures t.list_texts.ensures
 
-pub list-input-spec : {M : Type 1} → statement M
-list-input-spec =
-    tie.close
-    (tie.spec
-    divide-requires
-    enum-known-number
-    list-reply-requires
-    enum-known-end
-    part-requires
-    part-requires-2
-    list-texts-requires
-    same_length
-    returns
-    same-length-2
-    returns-2)
+pub list_input_spec : {M : Type 1} → statement M
+list_input_spec = tie.close (tie.spec divide-requires enum-known-number list-reply-requires enum-known-end part-requires part-requires-2 list-texts-requires same_length returns same-length-2 returns-2)

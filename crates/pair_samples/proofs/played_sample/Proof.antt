@@ -16,51 +16,40 @@ use borrow.Author.Rules.{rules}
 use Rattle.pair_samples.proofs.played_sample.Statement.{statement}
 use Rattle.pair_samples.proofs.played_sample.Tie as tie
 
-load-requires : tie.Need-load-requires
+load-requires : tie.Need-load-a-requires
 load-requires c κs = search rules
 
-same_length : tie.Need-same-length
+same_length : tie.Need-shape_of-table-then-a-eq0
 same_length c = search rules
 
-same-length-2 : tie.Need-same-length-2
+same-length-2 : tie.Need-shape_of-moves-then-a-eq0
 same-length-2 c = search rules
 
-returns : tie.Need-returns
+returns : tie.Need-returns-then-a-eq0
 unfolding sample_told sampled
-returns c = let l = c.before.before.before.before.load in
-    (pair-refused (λ (f : Figure) (m : Movement). sample_asked m _ _ _) _ _ l.ensures.0 c.if1.true, l.ensures.1)
+returns c = let l = c.load-a in
+    (pair-refused (λ (f : Figure) (m : Movement). sample_asked m _ _ _) _ _ l.ensures.0 c.if-a-eq0.true, l.ensures.1)
 
-sample-requires : tie.Need-sample-requires
+sample-requires : tie.Need-sample-value-requires
 sample-requires c κs = search rules
 
-sample-number-requires : tie.Need-sample-number-requires
+sample-number-requires : tie.Need-sample_number-requires
 sample-number-requires c κs = search rules
 
-same-length-3 : tie.Need-same-length-3
+same-length-3 : tie.Need-shape_of-table
 same-length-3 c = search rules
 
-same-length-4 : tie.Need-same-length-4
+same-length-4 : tie.Need-shape_of-moves
 same-length-4 c = search rules
 
-returns-2 : tie.Need-returns-2
+returns-2 : tie.Need-returns
 unfolding sample_told
 returns-2 c =
-    let l = c.before.before.before.before.before.before.before.before.load in
-    let a = c.before.before.before.before.before.before.before.before.before.before.before.before.before.args in
-    let o = pair-loaded _ _ l.ensures.0 c.before.before.before.before.if1.false in
-    let same = ap₂ (λ (n : MovementCounts) (t : List ℤ). sample_in n t a.bone a.channel a.at) (ap (λ (x : PairAnswer). x.movement) l.ensures.0) l.ensures.1.1 ∙ every_sample a.figure.now a.table.now a.movement.now a.moves.now o.figure o.movement o.is a.bone a.channel a.at in
-    (told_by (λ (f : Figure) (m : Movement). sample_asked m a.bone a.channel a.at) _ o _ same _ _ c.sample-number.ensures c.before.sample.ensures, l.ensures.1)
+    let l = c.load-a in
+    let a = c.args in
+    let o = pair-loaded _ _ l.ensures.0 c.if-a-eq0.false in
+    let same = ap₂ (λ (n : MovementCounts) (t : List ℤ). sample_in n t a.bone a.channel a.at) (ap (λ (x : PairAnswer). x.movement) l.ensures.0) l.ensures.1.1 ∙ every_sample a.figure.now a.table-1.now a.movement.now a.moves-1.now o.figure o.movement o.is a.bone a.channel a.at in
+    (told_by (λ (f : Figure) (m : Movement). sample_asked m a.bone a.channel a.at) _ o _ same _ _ c.sample_number.ensures c.sample-value.ensures, l.ensures.1)
 
-pub played-sample-spec : {M : Type 1} → statement M
-played-sample-spec =
-    tie.close
-    (tie.spec
-    load-requires
-    same_length
-    same-length-2
-    returns
-    sample-requires
-    sample-number-requires
-    same-length-3
-    same-length-4
-    returns-2)
+pub played_sample_spec : {M : Type 1} → statement M
+played_sample_spec = tie.close (tie.spec load-requires same_length same-length-2 returns sample-requires sample-number-requires same-length-3 same-length-4 returns-2)

@@ -4,27 +4,26 @@ use borrow.Author.Rules.{rules}
 use Rattle.pair_shown.proofs.shown_number.Statement.{statement}
 use Rattle.pair_shown.proofs.shown_number.Tie as tie
 
-enum_told : tie.Need-enum-told
+enum_told : tie.Need-enum_told-1
 enum_told c = search rules
 
-enum-told-2 : tie.Need-enum-told-2
+enum-told-2 : tie.Need-enum_told-in-Shown
 enum-told-2 c = search rules
 
-enum-told-3 : tie.Need-enum-told-3
+enum-told-3 : tie.Need-enum_told-in-Hidden
 enum-told-3 c = search rules
 
-returns : tie.Need-returns
+returns : tie.Need-returns-in-Refused
 unfolding showed
-returns c = rw c.enum_told.given.1
+returns c = rw c.in-Refused.is
 
-returns-2 : tie.Need-returns-2
+returns-2 : tie.Need-returns-in-Shown
 unfolding showed
-returns-2 c = rw c.enum-told2.given.1
+returns-2 c = rw c.in-Shown.is
 
-returns-3 : tie.Need-returns-3
+returns-3 : tie.Need-returns-in-Hidden
 unfolding showed
-returns-3 c = rw c.enum-told3.given.1
+returns-3 c = rw c.in-Hidden.is
 
-pub shown-number-spec : {M : Type 1} → statement M
-shown-number-spec =
-    tie.close (tie.spec enum_told enum-told-2 enum-told-3 returns returns-2 returns-3)
+pub shown_number_spec : {M : Type 1} → statement M
+shown_number_spec = tie.close (tie.spec enum_told enum-told-2 enum-told-3 returns returns-2 returns-3)

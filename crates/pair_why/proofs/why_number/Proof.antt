@@ -9,15 +9,15 @@ use borrow.Author.Rules.{rules}
 use Rattle.pair_why.proofs.why_number.Statement.{statement}
 use Rattle.pair_why.proofs.why_number.Tie as tie
 
-enum_told : tie.Need-enum-told
+enum_told : tie.Need-enum_told-1
 enum_told c = search rules
 
-returns : tie.Need-returns
+returns : tie.Need-returns-in-Refused
 unfolding explained
-returns c = rw c.enum_told.given.1
+returns c = rw c.in-Refused.is
 
-returns-2 : tie.Need-returns-2
-returns-2 c = sym (ap (λ (t : ℕ × ℕ × ℕ × Option Reason). t.0) (answered c.before.args.value c.match.keys2).1)
+returns-2 : tie.Need-returns
+returns-2 c = sym (ap (λ (t : ℕ × ℕ × ℕ × Option Reason). t.0) (answered c.args.value c.in_default.keys2).1)
 
-pub why-number-spec : {M : Type 1} → statement M
-why-number-spec = tie.close (tie.spec enum_told returns returns-2)
+pub why_number_spec : {M : Type 1} → statement M
+why_number_spec = tie.close (tie.spec enum_told returns returns-2)

@@ -9,61 +9,46 @@ use borrow.Author.Rules.{rules}
 use Rattle.samples.proofs.tell_channel.Statement.{statement}
 use Rattle.samples.proofs.tell_channel.Tie as tie
 
-abbrev invariant-loop : tie.invariant-loop
+abbrev invariant-loop : tie.invariant-loop-at
 invariant-loop table n bone channel total out₀ at₀ out at = (at ≤ total) × (length out ≡ 28672)
 
-abbrev decreases-loop : tie.decreases-loop
+abbrev decreases-loop : tie.decreases-loop-at
 decreases-loop table n bone channel total out₀ at₀ out at = total - at
 
-loop-holds : tie.Need-loop-init invariant-loop decreases-loop
+loop-holds : tie.Need-loop-at-init invariant-loop decreases-loop
 loop-holds c = search rules
 
-sub-if1 : tie.Need-overflow-sub-if1 invariant-loop decreases-loop
+sub-if1 : tie.Need-overflow_sub-total invariant-loop decreases-loop
 sub-if1 c = search rules
 
-add-end : tie.Need-overflow-add-end invariant-loop decreases-loop
+add-end : tie.Need-overflow_add-end invariant-loop decreases-loop
 add-end c = search rules
 
-slice-aggregate-list-samples : tie.Need-slice-aggregate-list-samples invariant-loop decreases-loop
+slice-aggregate-list-samples : tie.Need-slice_bounds-list_samples-end invariant-loop decreases-loop
 slice-aggregate-list-samples c = search rules
 
-list-samples-requires : tie.Need-list-samples-requires invariant-loop decreases-loop
+list-samples-requires : tie.Need-list_samples-filled-requires invariant-loop decreases-loop
 list-samples-requires c κs = search rules
 
-array-share-prefix-out : tie.Need-array-share-prefix-out invariant-loop decreases-loop
+array-share-prefix-out : tie.Need-slice_bounds-out-end invariant-loop decreases-loop
 array-share-prefix-out c = search rules
 
-slice-aggregate-write-all : tie.Need-slice-aggregate-write-all invariant-loop decreases-loop
-slice-aggregate-write-all c = let l = c.before.before.list-samples in sym (length-take-le l.result l.new.0 l.ensures.1.0)
+slice-aggregate-write-all : tie.Need-slice_bounds-write_all-end invariant-loop decreases-loop
+slice-aggregate-write-all c = let l = c.list_samples-filled in sym (length-take-le l.result l.new.0 l.ensures.1.0)
 
-write-all-requires : tie.Need-write-all-requires invariant-loop decreases-loop
+write-all-requires : tie.Need-write_all-requires invariant-loop decreases-loop
 write-all-requires c κs = search rules
 
-loop-less : tie.Need-loop-smaller invariant-loop decreases-loop
-loop-less c = ⊎_elim (λ w. omega arith) (λ w. omega arith) c.before.before.before.before.before.if1.branch
+loop-less : tie.Need-loop-at-smaller invariant-loop decreases-loop
+loop-less c = ⊎_elim (λ w. omega arith) (λ w. omega arith) c.if-total-at-gt256.branch
 
-loop-again : tie.Need-loop-preserved invariant-loop decreases-loop
+loop-again : tie.Need-loop-at-preserved invariant-loop decreases-loop
 loop-again c =
     let l = c.before.before.before in
-    (⊎_elim (λ w. omega arith) (λ w. omega arith) c.before.before.before.before.before.if1.branch, l.list-samples.auto.0 ∙ c.before.before.before.before.before.before.before.loop.invariant.1)
+    (⊎_elim (λ w. omega arith) (λ w. omega arith) c.if-total-at-gt256.branch, l.list_samples-filled.auto.0 ∙ c.loop-at.invariant.1)
 
 returns : tie.Need-returns invariant-loop decreases-loop
 returns c = search rules
 
-pub tell-channel-spec : {M : Type 1} → statement M
-tell-channel-spec =
-    tie.close
-    (tie.spec
-    invariant-loop
-    decreases-loop
-    loop-holds
-    sub-if1
-    add-end
-    slice-aggregate-list-samples
-    list-samples-requires
-    array-share-prefix-out
-    slice-aggregate-write-all
-    write-all-requires
-    loop-less
-    loop-again
-    returns)
+pub tell_channel_spec : {M : Type 1} → statement M
+tell_channel_spec = tie.close (tie.spec invariant-loop decreases-loop loop-holds sub-if1 add-end slice-aggregate-list-samples list-samples-requires array-share-prefix-out slice-aggregate-write-all write-all-requires loop-less loop-again returns)

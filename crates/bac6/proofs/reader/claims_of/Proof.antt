@@ -4,13 +4,13 @@ use Rattle.bac6_bones.specs.Internal.Into.{fault_of}
 use Rattle.bac6.proofs.reader.claims_of.Statement.{statement}
 use Rattle.bac6.proofs.reader.claims_of.Tie as tie
 
-returns : tie.Need-returns
+returns : tie.Need-returns-then-p
 unfolding refusal fault_of
-returns c = rw c.if1.true
+returns c = rw c.if-p.true
 
-returns-2 : tie.Need-returns-2
+returns-2 : tie.Need-returns
 unfolding refusal fault_of
-returns-2 c = rw c.if1.false
+returns-2 c = rw c.if-p.false
 
-pub claims-of-spec : {M : Type 1} → statement M
-claims-of-spec = tie.close (tie.spec returns returns-2)
+pub claims_of_spec : {M : Type 1} → statement M
+claims_of_spec = tie.close (tie.spec returns returns-2)

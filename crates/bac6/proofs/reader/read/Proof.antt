@@ -12,98 +12,79 @@ use borrow.Author.Rules.{rules}
 use Rattle.bac6.proofs.reader.read.Statement.{statement}
 use Rattle.bac6.proofs.reader.read.Tie as tie
 
-check-text-requires : tie.Need-check-text-requires
+check-text-requires : tie.Need-check_text-requires
 check-text-requires c κs = search rules
 
-enum-known-number : tie.Need-enum-known-number
+enum-known-number : tie.Need-enum_known-number
 enum-known-number c = search rules
 
 refused-requires : tie.Need-refused-requires
 refused-requires c κs = search rules
 
-returns : tie.Need-returns
+returns : tie.Need-returns-in-Refused
 unfolding format_named figure_outcome
 returns c =
     let k = c.before.before.before.before in
-    let a = k.before.before.args in
-    outcome_answered a.text.now (text-refused _ _ _ a.text.now (refused_by k.check-text.ensures c.before.before.number.given.1)) (refused_answered refl c.refused.ensures a.table.now)
+    let a = k.args in
+    outcome_answered a.text.now (text-refused _ _ _ a.text.now (refused_by k.check_text.ensures c.in-Refused.is)) (refused_answered refl c.refused.ensures a.table-1.now)
 
-enum_told : tie.Need-enum-told
+enum_told : tie.Need-enum_told-1
 enum_told c = search rules
 
-slice-aggregate-parse : tie.Need-slice-aggregate-parse
+slice-aggregate-parse : tie.Need-slice_bounds-parse-end
 slice-aggregate-parse c = sym (length-replicate 34912 (pos 0))
 
-slice-aggregate-parse-2 : tie.Need-slice-aggregate-parse-2
+slice-aggregate-parse-2 : tie.Need-slice_bounds-parse-end-2
 slice-aggregate-parse-2 c = sym (length-replicate 2048 (negsuc 0))
 
-slice-aggregate-parse-3 : tie.Need-slice-aggregate-parse-3
+slice-aggregate-parse-3 : tie.Need-slice_bounds-parse-end-3
 slice-aggregate-parse-3 c = sym (length-replicate 64 (pos 0))
 
-parse-requires : tie.Need-parse-requires
+parse-requires : tie.Need-parse-p-requires
 parse-requires c κs = search rules
 
-refused-requires-2 : tie.Need-refused-requires-2
+refused-requires-2 : tie.Need-refused-requires-then-d-ne0
 refused-requires-2 c κs = search rules
 
-returns-2 : tie.Need-returns-2
+returns-2 : tie.Need-returns-then-d-ne0
 unfolding format_named figure_outcome
 returns-2 c =
     let k = c.before.before.before.before.before.before.before in
     let t = k.before.before.before.before in
     let b = t.before.before in
-    let a = b.before.before.args in
-    outcome_answered a.text.now (text-clear _ _ _ a.text.now (clear_by b.check-text.ensures t.enum_told.given.1)) (refused_answered (shape-refused a.text.now _ _ _ _ _ _ _ k.parse.ensures c.before.if1.true) c.refused2.ensures a.table.now)
+    let a = b.args in
+    outcome_answered a.text.now (text-clear _ _ _ a.text.now (clear_by b.check_text.ensures t.in_default.is)) (refused_answered (shape-refused a.text.now _ _ _ _ _ _ _ k.parse-p.ensures c.if-d-ne0.true) c.refused-then-d-ne0.ensures a.table-1.now)
 
-slice-aggregate-read-rows : tie.Need-slice-aggregate-read-rows
-slice-aggregate-read-rows c = sym (c.before.before.before.before.before.before.before.before.parse.auto.1.0 ∙ length-replicate 34912 (pos 0))
+slice-aggregate-read-rows : tie.Need-slice_bounds-read_rows-end
+slice-aggregate-read-rows c = sym (c.parse-p.auto.1.0 ∙ length-replicate 34912 (pos 0))
 
-slice-aggregate-read-rows-2 : tie.Need-slice-aggregate-read-rows-2
-slice-aggregate-read-rows-2 c = sym (c.before.before.before.before.before.before.before.before.before.parse.auto.1.1.0 ∙ length-replicate 2048 (negsuc 0))
+slice-aggregate-read-rows-2 : tie.Need-slice_bounds-read_rows-end-2
+slice-aggregate-read-rows-2 c = sym (c.parse-p.auto.1.1.0 ∙ length-replicate 2048 (negsuc 0))
 
-slice-aggregate-read-rows-3 : tie.Need-slice-aggregate-read-rows-3
-slice-aggregate-read-rows-3 c = sym (c.before.before.before.before.before.before.before.before.before.before.parse.auto.1.1.1.0 ∙ length-replicate 64 (pos 0))
+slice-aggregate-read-rows-3 : tie.Need-slice_bounds-read_rows-end-3
+slice-aggregate-read-rows-3 c = sym (c.parse-p.auto.1.1.1.0 ∙ length-replicate 64 (pos 0))
 
-read-rows-requires : tie.Need-read-rows-requires
+read-rows-requires : tie.Need-read_rows-requires
 unfolding format_named
 read-rows-requires c κs =
     let k = c.before.before.before.before.before.before.before.before.before.before in
     let t = k.before.before.before.before in
     let b = t.before.before in
-    (shape-held b.before.before.args.text.now _ _ _ _ _ _ _ k.parse.ensures c.before.before.before.before.if1.false (text-short _ _ (clear_by b.check-text.ensures t.enum_told.given.1)) (length-replicate 34912 (pos 0)) refl (length-replicate 64 (pos 0))).held
+    (shape-held b.args.text.now _ _ _ _ _ _ _ k.parse-p.ensures c.if-d-ne0.false (text-short _ _ (clear_by b.check_text.ensures t.in_default.is)) (length-replicate 34912 (pos 0)) refl (length-replicate 64 (pos 0))).held
 
-same_length : tie.Need-same-length
-same_length c = c.before.before.read-rows.auto.0
+same_length : tie.Need-shape_of-table
+same_length c = c.read_rows.auto.0
 
-returns-3 : tie.Need-returns-3
+returns-3 : tie.Need-returns
 unfolding format_named figure_outcome
 returns-3 c =
     let k = c.before.before.before.before.before.before.before.before.before.before.before.before.before in
     let t = k.before.before.before.before in
     let b = t.before.before in
-    let a = b.before.before.args in
-    let e = clear_by b.check-text.ensures t.enum_told.given.1 in
+    let a = b.args in
+    let e = clear_by b.check_text.ensures t.in_default.is in
     outcome_answered a.text.now (text-clear _ _ _ a.text.now e)
-    (held_answered (shape-held a.text.now _ _ _ _ _ _ _ k.parse.ensures c.before.before.before.before.before.before.before.if1.false (text-short _ _ e) (length-replicate 34912 (pos 0)) refl (length-replicate 64 (pos 0))) c.before.before.read-rows.ensures)
+    (held_answered (shape-held a.text.now _ _ _ _ _ _ _ k.parse-p.ensures c.if-d-ne0.false (text-short _ _ e) (length-replicate 34912 (pos 0)) refl (length-replicate 64 (pos 0))) c.read_rows.ensures)
 
 pub read_spec : {M : Type 1} → statement M
-read_spec =
-    tie.close
-    (tie.spec
-    check-text-requires
-    enum-known-number
-    refused-requires
-    returns
-    enum_told
-    slice-aggregate-parse
-    slice-aggregate-parse-2
-    slice-aggregate-parse-3
-    parse-requires
-    refused-requires-2
-    returns-2
-    slice-aggregate-read-rows
-    slice-aggregate-read-rows-2
-    slice-aggregate-read-rows-3
-    read-rows-requires
-    same_length
-    returns-3)
+read_spec = tie.close (tie.spec check-text-requires enum-known-number refused-requires returns enum_told slice-aggregate-parse slice-aggregate-parse-2 slice-aggregate-parse-3 parse-requires refused-requires-2 returns-2 slice-aggregate-read-rows slice-aggregate-read-rows-2 slice-aggregate-read-rows-3 read-rows-requires same_length returns-3)

@@ -13,102 +13,85 @@ use Rattle.bac6.proofs.reader.read_rows.Statement.{statement}
 use Rattle.bac6.proofs.reader.read_rows.Tie as tie
 
 -- the answer of the rules is that of what was parsed
-faults-are : (f : tie.After-first-fault) → refusal f.first-fault.result ≡ rules_fault f.before.before.before.args.p f.before.before.before.args.rows.now
+faults-are : (f : tie.After-first_fault) → refusal f.first_fault.result ≡ rules_fault f.args.p f.args.rows-1.now
 faults-are f =
-    let a = f.before.before.before.args in
-    rules_by a.p _ _ a.rows.now f.before.before.claims-of.ensures f.first-fault.ensures.0
+    let a = f.args in
+    rules_by a.p _ _ a.rows-1.now f.claims_of.ensures f.first_fault.ensures.answer
 
-clean : (e : tie.After-enum-told) → rules_fault e.before.before.before.before.before.before.args.p e.before.before.before.before.before.before.args.rows.now ≡ clear
-clean e = clear_by (faults-are e.before.before.before) e.enum_told.given.1
+clean : (e : tie.In_default) → rules_fault e.args.p e.args.rows-1.now ≡ clear
+clean e = clear_by (faults-are e.before.before.before) e.in_default.is
 
-claims-of-requires : tie.Need-claims-of-requires
+claims-of-requires : tie.Need-claims_of-requires
 claims-of-requires c κs = search rules
 
-first-fault-requires : tie.Need-first-fault-requires
+first-fault-requires : tie.Need-first_fault-requires
 first-fault-requires c κs = search rules
 
-enum-known-number : tie.Need-enum-known-number
+enum-known-number : tie.Need-enum_known-number
 enum-known-number c = search rules
 
 refused-requires : tie.Need-refused-requires
 refused-requires c κs = search rules
 
-same_length : tie.Need-same-length
+same_length : tie.Need-shape_of-rows-in-Refused
 same_length c = search rules
 
-returns : tie.Need-returns
+returns : tie.Need-returns-in-Refused
 returns c =
     let f = c.before.before.before.before.before in
-    let e = refused_by (faults-are f) c.before.before.number.given.1 in
-    record { outcome = λ h. broken_rows h e c.refused.ensures f.before.before.before.args.table.now }
+    let e = refused_by (faults-are f) c.in-Refused.is in
+    record { outcome = λ h. broken_rows h e c.refused.ensures f.args.table-1.now }
 
-enum_told : tie.Need-enum-told
+enum_told : tie.Need-enum_told-1
 enum_told c = search rules
 
-total-of-requires : tie.Need-total-of-requires
-total-of-requires c κs = none_over c.before.before.before.before.before.before.before.requires (clean c.before)
+total-of-requires : tie.Need-total_of-total-requires
+total-of-requires c κs = none_over c.requires (clean c.before)
 
-refused-requires-2 : tie.Need-refused-requires-2
+refused-requires-2 : tie.Need-refused-requires-then-table-total
 refused-requires-2 c κs = search rules
 
-same-length-2 : tie.Need-same-length-2
+same-length-2 : tie.Need-shape_of-rows-then-table-total
 same-length-2 c = search rules
 
-returns-2 : tie.Need-returns-2
+returns-2 : tie.Need-returns-then-table-total
 returns-2 c =
     let t = c.before.before in
     let e = t.before.before in
     let f = e.before.before.before in
-    record { outcome = λ h. short-rows h (clean e) _ f.first-fault.ensures.1 _ t.total_of.ensures f.before.before.before.args.table.now c.refused2.ensures c.before.if1.true }
+    record { outcome = λ h. short-rows h (clean e) _ f.first_fault.ensures.content _ t.total_of-total.ensures f.args.table-1.now c.refused-then-table-total.ensures c.if-table-total.true }
 
 cast-t19 : tie.Need-overflow-cast-t19
-cast-t19 c = let z = name-fits c.before.before.before.before.before.before.before.before.before.requires in search rules
+cast-t19 c = let z = name-fits c.requires in search rules
 
-cast-t20 : tie.Need-overflow-cast-t20
-cast-t20 c = let z = name-fits c.before.before.before.before.before.before.before.before.before.requires in search rules
+cast-t20 : tie.Need-overflow_cast-name
+cast-t20 c = let z = name-fits c.requires in search rules
 
-slice-aggregate-lay : tie.Need-slice-aggregate-lay
+slice-aggregate-lay : tie.Need-slice_bounds-lay-end
 slice-aggregate-lay c = search rules
 
 lay-requires : tie.Need-lay-requires
 lay-requires c κs = search rules
 
-same-length-3 : tie.Need-same-length-3
+same-length-3 : tie.Need-shape_of-table
 same-length-3 c = search rules
 
-same-length-4 : tie.Need-same-length-4
+same-length-4 : tie.Need-shape_of-rows
 same-length-4 c = search rules
 
-returns-3 : tie.Need-returns-3
+returns-3 : tie.Need-returns
 returns-3 c =
     let l = c.before.before.before.before.before in
     let t = l.before in
     let e = t.before.before in
     let f = e.before.before.before in
-    let a = f.before.before.before.args in
-    let z = name-fits f.before.before.before.requires in
-    let n = named_by a.p _ _ _ a.owners.now a.names.now a.table.now _ (bits_pos a.p.place (omega (arith, z.0))) (bits_pos a.p.length (omega (arith, z.1))) c.before.lay.ensures in
-    record { outcome = λ h. long_rows h (clean e) _ f.first-fault.ensures.1 _ t.total_of.ensures a.table.now _ l.if1.false n }
+    let a = f.args in
+    let z = name-fits f.requires in
+    let n = named_by a.p _ _ _ a.owners.now a.names.now a.table-1.now _ (bits_pos a.p.place (omega (arith, z.0))) (bits_pos a.p.length (omega (arith, z.1))) c.lay.ensures in
+    record { outcome = λ h. long_rows h (clean e) _ f.first_fault.ensures.content _ t.total_of-total.ensures a.table-1.now _ l.if-table-total.false n }
 
-pub read-rows-spec : {M : Type 1} → statement M
-read-rows-spec =
-    tie.close
-    (tie.spec
-    claims-of-requires
-    first-fault-requires
-    enum-known-number
-    refused-requires
-    same_length
-    returns
-    enum_told
-    total-of-requires
-    refused-requires-2
-    same-length-2
-    returns-2
-    cast-t19
-    cast-t20
-    slice-aggregate-lay
-    lay-requires
-    same-length-3
-    same-length-4
-    returns-3)
+the_overflow_cast_name_2 : tie.Need-overflow_cast-name-2
+the_overflow_cast_name_2 = search rules
+
+pub read_rows_spec : {M : Type 1} → statement M
+read_rows_spec = tie.close (tie.spec claims-of-requires first-fault-requires enum-known-number refused-requires same_length returns enum_told total-of-requires refused-requires-2 same-length-2 returns-2 cast-t20 the_overflow_cast_name_2 slice-aggregate-lay lay-requires same-length-3 same-length-4 returns-3)

@@ -6,12 +6,12 @@ use Rattle.bac6.specs.Answers.{refused_with}
 use Rattle.bac6.proofs.setting.refused.Statement.{statement}
 use Rattle.bac6.proofs.setting.refused.Tie as tie
 
-no-figure-requires : tie.Need-no-figure-requires
+no-figure-requires : tie.Need-no_figure-requires
 no-figure-requires c κs = search rules
 
 returns : tie.Need-returns
 unfolding refused_with
-returns c = ap (λ (n : FigureCounts). record { refusal = c.before.args.number; place = c.before.args.place; file = 0; total = 0; counts = n }) c.no_figure.ensures
+returns c = ap (λ (n : FigureCounts). record { refusal = c.args.number; place = c.args.place; file = 0; total = 0; counts = n }) c.no_figure.ensures
 
-pub refused-spec : {M : Type 1} → statement M
-refused-spec = tie.close (tie.spec no-figure-requires returns)
+pub refused_spec : {M : Type 1} → statement M
+refused_spec = tie.close (tie.spec no-figure-requires returns)

@@ -6,56 +6,41 @@ use borrow.Author.Rules.{rules}
 use Rattle.bac6_bone.proofs.bone.bone_tail.Statement.{statement}
 use Rattle.bac6_bone.proofs.bone.bone_tail.Tie as tie
 
-slice-aggregate-keyword : tie.Need-slice-aggregate-keyword
-slice-aggregate-keyword c = search rules
-
-keyword-requires : tie.Need-keyword-requires
+keyword-requires : tie.Need-keyword-d-requires
 keyword-requires c κs = search rules
 
-bone-fields-requires : tie.Need-bone-fields-requires
+bone-fields-requires : tie.Need-bone_fields-r-requires
 bone-fields-requires c κs = search rules
 
-same_length : tie.Need-same-length
+same_length : tie.Need-shape_of-owners-then-e-ne0
 same_length c = search rules
 
-returns : tie.Need-returns
+returns : tie.Need-returns-then-e-ne0
 unfolding bytes
 returns c =
     let f = c.before.before.before.before in
     let k = f.before.before.before in
-    bone_off _ _ _ _ _ _ _ _ _ _ k.keyword.ensures _ f.bone-fields.ensures.read c.if1.true
+    bone_off _ _ _ _ _ _ _ _ _ _ k.keyword-d.ensures _ f.bone_fields-r.ensures.read c.if-e-ne0.true
 
-slice-aggregate-store : tie.Need-slice-aggregate-store
-slice-aggregate-store c = sym (state_wide _ _ _ _ _ _ (c.before.before.before.before.before.before.bone-fields.ensures.kept c.before.before.if1.false))
+slice-aggregate-store : tie.Need-slice_bounds-store-end
+slice-aggregate-store c = sym (state_wide _ _ _ _ _ _ (c.bone_fields-r.ensures.kept c.if-e-ne0.false))
 
 store-requires : tie.Need-store-requires
 store-requires c κs = search rules
 
-same-length-2 : tie.Need-same-length-2
+same-length-2 : tie.Need-shape_of-out
 same-length-2 c = search rules
 
-same-length-3 : tie.Need-same-length-3
+same-length-3 : tie.Need-shape_of-owners
 same-length-3 c = search rules
 
-returns-2 : tie.Need-returns-2
+returns-2 : tie.Need-returns
 unfolding bytes
 returns-2 c =
     let f = c.before.before.before.before.before.before.before.before in
     let k = f.before.before.before in
-    rw c.before.store.ensures
-    (bone_on _ _ _ _ _ _ _ _ _ _ _ k.keyword.ensures k.before.before.before.ranges.bone f.bone-fields.ensures)
+    rw c.store.ensures
+    (bone_on _ _ _ _ _ _ _ _ _ _ _ k.keyword-d.ensures k.ranges.bone f.bone_fields-r.ensures)
 
-pub bone-tail-spec : {M : Type 1} → statement M
-bone-tail-spec =
-    tie.close
-    (tie.spec
-    slice-aggregate-keyword
-    keyword-requires
-    bone-fields-requires
-    same_length
-    returns
-    slice-aggregate-store
-    store-requires
-    same-length-2
-    same-length-3
-    returns-2)
+pub bone_tail_spec : {M : Type 1} → statement M
+bone_tail_spec = tie.close (tie.spec keyword-requires bone-fields-requires same_length returns slice-aggregate-store store-requires same-length-2 same-length-3 returns-2)

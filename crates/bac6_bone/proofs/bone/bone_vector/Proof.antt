@@ -5,13 +5,13 @@ use borrow.Author.Rules.{rules}
 use Rattle.bac6_bone.proofs.bone.bone_vector.Statement.{statement}
 use Rattle.bac6_bone.proofs.bone.bone_vector.Tie as tie
 
-sub-to : tie.Need-overflow-sub-to
+sub-to : tie.Need-overflow_sub-to
 sub-to c = search rules
 
-mul-to : tie.Need-overflow-mul-to
+mul-to : tie.Need-overflow_mul-to
 mul-to c = search rules
 
-numbers-requires : tie.Need-numbers-requires
+numbers-requires : tie.Need-numbers-d-requires
 numbers-requires c κs = search rules
 
 closing-requires : tie.Need-closing-requires
@@ -21,8 +21,8 @@ returns : tie.Need-returns
 unfolding form_named
 returns c =
     let n = c.before in
-    let p = n.before.before.before.requires in
-    vector_read _ _ _ _ _ _ c.closing.ensures _ p.0 p.1 n.numbers.ensures.0
+    let p = n.requires in
+    vector_read _ _ _ _ _ _ c.closing.ensures _ p.0 p.1 n.numbers-d.ensures.meaning
 
-pub bone-vector-spec : {M : Type 1} → statement M
-bone-vector-spec = tie.close (tie.spec sub-to mul-to numbers-requires closing-requires returns)
+pub bone_vector_spec : {M : Type 1} → statement M
+bone_vector_spec = tie.close (tie.spec sub-to mul-to numbers-requires closing-requires returns)

@@ -4,34 +4,26 @@ use borrow.Author.Rules.{rules}
 use Rattle.bac6_bones.proofs.list.bones.Statement.{statement}
 use Rattle.bac6_bones.proofs.list.bones.Tie as tie
 
-opening-requires : tie.Need-opening-requires
+opening-requires : tie.Need-opening-start-requires
 opening-requires c κs = search rules
 
-next-bone-requires : tie.Need-next-bone-requires
+next-bone-requires : tie.Need-next_bone-first-requires
 next-bone-requires c κs = search rules
 
-more-bones-requires : tie.Need-more-bones-requires
+more-bones-requires : tie.Need-more_bones-requires
 more-bones-requires c κs = search rules
 
-same_length : tie.Need-same-length
+same_length : tie.Need-shape_of-table
 same_length c = search rules
 
-same-length-2 : tie.Need-same-length-2
+same-length-2 : tie.Need-shape_of-owners
 same-length-2 c = search rules
 
 returns : tie.Need-returns
 returns c =
     let m = c.before.before in
     let n = m.before.before.before.before.before in
-    bones-from _ _ _ _ _ _ _ _ _ _ n.before.before.before.opening.ensures n.next-bone.ensures.0 m.more-bones.ensures
+    bones-from _ _ _ _ _ _ _ _ _ _ n.opening-start.ensures n.next_bone-first.ensures.owners_after m.more_bones.ensures
 
-pub bones-spec : {M : Type 1} → statement M
-bones-spec =
-    tie.close
-    (tie.spec
-    opening-requires
-    next-bone-requires
-    more-bones-requires
-    same_length
-    same-length-2
-    returns)
+pub bones_spec : {M : Type 1} → statement M
+bones_spec = tie.close (tie.spec opening-requires next-bone-requires more-bones-requires same_length same-length-2 returns)

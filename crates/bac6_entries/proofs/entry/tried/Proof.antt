@@ -7,17 +7,17 @@ use Rattle.bac6_entries.proofs.entry.tried.Tie as tie
 claim-requires : tie.Need-claim-requires
 claim-requires c κs = search rules
 
-same_length : tie.Need-same-length
+same_length : tie.Need-shape_of-owners-then-fine
 same_length c = search rules
 
-returns : tie.Need-returns
+returns : tie.Need-returns-then-fine
 returns c =
     let b = c.before.before.before in
     let a = b.before in
-    tried_yes _ _ _ _ _ _ _ a.ranges.bone a.ranges.z b.if1.true c.before.claim.ensures.0 c.before.claim.ensures.1
+    tried_yes _ _ _ _ _ _ _ a.ranges.bone a.ranges.z b.if-fine.true c.claim.ensures.answer c.claim.ensures.content
 
-returns-2 : tie.Need-returns-2
-returns-2 c = tried_no _ _ _ _ _ c.if1.false
+returns-2 : tie.Need-returns
+returns-2 c = tried_no _ _ _ _ _ c.if-fine.false
 
-pub tried-spec : {M : Type 1} → statement M
-tried-spec = tie.close (tie.spec claim-requires same_length returns returns-2)
+pub tried_spec : {M : Type 1} → statement M
+tried_spec = tie.close (tie.spec claim-requires same_length returns returns-2)

@@ -15,90 +15,72 @@ use Rattle.table_columns.proofs.Rows.{row-length, row-part}
 use Rattle.bac6_face_rules.proofs.face.face_fault.Statement.{statement}
 use Rattle.bac6_face_rules.proofs.face.face_fault.Tie as tie
 
-abbrev invariant-loop : tie.invariant-loop
+abbrev invariant-loop : tie.invariant-loop-row
 invariant-loop table count materials points uvs base₀ row₀ base row =
     (row ≤ count)
     × (base ≤ length table)
     × (first_bad 13 (face_row_fine materials points uvs) 0 (rows_of 11 count table) ≡ bad_from 13 11 (face_row_fine materials points uvs) table row (count - row) base)
 
-abbrev decreases-loop : tie.decreases-loop
+abbrev decreases-loop : tie.decreases-loop-row
 decreases-loop table count materials points uvs base₀ row₀ base row = count - row
 
-loop-holds : tie.Need-loop-init invariant-loop decreases-loop
+loop-holds : tie.Need-loop-row-init invariant-loop decreases-loop
 loop-holds c = (omega arith, omega arith, walk_start 13 11 _ _ _)
 
-sub-if1 : tie.Need-overflow-sub-if1 invariant-loop decreases-loop
+sub-if1 : tie.Need-overflow_sub-table invariant-loop decreases-loop
 sub-if1 c = search rules
 
-returns : tie.Need-returns invariant-loop decreases-loop
+returns : tie.Need-returns-then-table-base-lt-FACE_WIDTH invariant-loop decreases-loop
 unfolding refusal
-returns c = sym (c.before.before.loop.invariant.2 ∙ walk_short 13 11 _ _ _ _ _ c.if1.true)
+returns c = sym (c.loop-row.invariant.2 ∙ walk_short 13 11 _ _ _ _ _ c.if-table-base-lt-FACE_WIDTH.true)
 
-add-next : tie.Need-overflow-add-next invariant-loop decreases-loop
+add-next : tie.Need-overflow_add-next invariant-loop decreases-loop
 add-next c = search rules
 
-mul-is-fine : tie.Need-overflow-mul-is-fine invariant-loop decreases-loop
+mul-is-fine : tie.Need-offset_bounds-table-base invariant-loop decreases-loop
 mul-is-fine c = search rules
 
-sub-is-fine : tie.Need-overflow-sub-is-fine invariant-loop decreases-loop
+sub-is-fine : tie.Need-slice_bounds-is_fine-count invariant-loop decreases-loop
 sub-is-fine c = search rules
 
-part-is-fine-start : tie.Need-slice-bounds-is-fine-start invariant-loop decreases-loop
+part-is-fine-start : tie.Need-slice_bounds-is_fine-start invariant-loop decreases-loop
 part-is-fine-start c = search rules
 
-part-is-fine-end : tie.Need-slice-bounds-is-fine-end invariant-loop decreases-loop
+part-is-fine-end : tie.Need-slice_bounds-is_fine-end invariant-loop decreases-loop
 part-is-fine-end c = search rules
 
-is-fine-requires : tie.Need-is-fine-requires invariant-loop decreases-loop
-is-fine-requires c κs = let b = c.before.before.before in rw (row-part 11 b.loop.base) (row-length 11 b.before.args.table.now b.loop.base c.before.if1.false)
+is-fine-requires : tie.Need-is_fine-requires invariant-loop decreases-loop
+is-fine-requires c κs = let b = c.before.before.before in rw (row-part 11 b.loop-row.base) (row-length 11 b.args.table.now b.loop-row.base c.if-table-base-lt-FACE_WIDTH.false)
 
 -- what the call says of the row
-told : (c : tie.After-is-fine invariant-loop decreases-loop) → c.is-fine.result ≡ face_row_fine c.before.before.before.before.before.args.materials c.before.before.before.before.before.args.points c.before.before.before.before.before.args.uvs (take 11 (drop c.before.before.before.before.loop.base c.before.before.before.before.before.args.table.now))
-told c = rw (row-part 11 c.before.before.before.before.loop.base) at c.is-fine.ensures
+told : (c : tie.After-is_fine invariant-loop decreases-loop) → c.is_fine.result ≡ face_row_fine c.args.materials c.args.points c.args.uvs (take 11 (drop c.loop-row.base c.args.table.now))
+told c = rw (row-part 11 c.loop-row.base) at c.is_fine.ensures
 
-returns-2 : tie.Need-returns-2 invariant-loop decreases-loop
+returns-2 : tie.Need-returns-then-not-is_fine invariant-loop decreases-loop
 unfolding refusal
 returns-2 c =
     let b = c.before.before.before.before.before in
-    let n : b.before.args.count - b.loop.row ≡ suc (b.before.args.count - (b.loop.row + 1)) = omega arith in
-    sym (b.loop.invariant.2 ∙ rw n (walk_found 13 11 _ _ _ _ _ c.before.before.before.if1.false (sym (told c.before) ∙ not-true _ c.if2.true)))
+    let n : b.args.count - b.loop-row.row ≡ suc (b.args.count - (b.loop-row.row + 1)) = omega arith in
+    sym (b.loop-row.invariant.2 ∙ rw n (walk_found 13 11 _ _ _ _ _ c.if-table-base-lt-FACE_WIDTH.false (sym (told c.before) ∙ not-true _ c.if-not-is_fine.true-raw)))
 
-add_row : tie.Need-overflow-add-row invariant-loop decreases-loop
+add_row : tie.Need-overflow_add-row invariant-loop decreases-loop
 add_row c = search rules
 
-loop-less : tie.Need-loop-smaller invariant-loop decreases-loop
+loop-less : tie.Need-loop-row-smaller invariant-loop decreases-loop
 loop-less c = search rules
 
-loop-again : tie.Need-loop-preserved invariant-loop decreases-loop
+loop-again : tie.Need-loop-row-preserved invariant-loop decreases-loop
 loop-again c =
     let b = c.before.before.before.before.before in
-    let n : b.before.args.count - b.loop.row ≡ suc (b.before.args.count - (b.loop.row + 1)) = omega arith in
-    let w : 11 ≤ length b.before.args.table.now - b.loop.base = c.before.before.before.if1.false in
-    (omega arith, omega arith, b.loop.invariant.2 ∙ rw (n, add-one b.loop.row) (walk_passed 13 11 _ _ _ _ _ w (sym (told c.before) ∙ not-false _ c.if2.false)))
+    let n : b.args.count - b.loop-row.row ≡ suc (b.args.count - (b.loop-row.row + 1)) = omega arith in
+    let w : 11 ≤ length b.args.table.now - b.loop-row.base = c.if-table-base-lt-FACE_WIDTH.false in
+    (omega arith, omega arith, b.loop-row.invariant.2 ∙ rw (n, add-one b.loop-row.row) (walk_passed 13 11 _ _ _ _ _ w (sym (told c.before) ∙ not-false _ c.if-not-is_fine.false-raw)))
 
-returns-3 : tie.Need-returns-3 invariant-loop decreases-loop
+returns-3 : tie.Need-returns invariant-loop decreases-loop
 unfolding refusal
 returns-3 c =
-    let e : c.before.before.args.count - c.before.loop.row ≡ 0 = omega arith in
-    sym (c.before.loop.invariant.2 ∙ rw e (walk_done 13 11 _ _ _ _))
+    let e : c.args.count - c.loop-row.row ≡ 0 = omega arith in
+    sym (c.loop-row.invariant.2 ∙ rw e (walk_done 13 11 _ _ _ _))
 
-pub face-fault-spec : {M : Type 1} → statement M
-face-fault-spec =
-    tie.close
-    (tie.spec
-    invariant-loop
-    decreases-loop
-    loop-holds
-    sub-if1
-    returns
-    add-next
-    mul-is-fine
-    sub-is-fine
-    part-is-fine-start
-    part-is-fine-end
-    is-fine-requires
-    returns-2
-    add_row
-    loop-less
-    loop-again
-    returns-3)
+pub face_fault_spec : {M : Type 1} → statement M
+face_fault_spec = tie.close (tie.spec invariant-loop decreases-loop loop-holds sub-if1 returns add-next mul-is-fine sub-is-fine part-is-fine-start part-is-fine-end is-fine-requires returns-2 add_row loop-less loop-again returns-3)

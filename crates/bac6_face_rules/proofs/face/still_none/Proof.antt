@@ -7,14 +7,14 @@ use borrow.Author.Rules.{rules}
 use Rattle.bac6_face_rules.proofs.face.still_none.Statement.{statement}
 use Rattle.bac6_face_rules.proofs.face.still_none.Tie as tie
 
-returns : tie.Need-returns
-returns c = rw (not-true c.before.args.none c.if1.true) refl
+returns : tie.Need-returns-then-not-none
+returns c = rw (not-true c.args.none c.if-not-none.true-raw) refl
 
-is-none-requires : tie.Need-is-none-requires
+is-none-requires : tie.Need-is_none-requires
 is-none-requires c κs = search rules
 
-returns-2 : tie.Need-returns-2
-returns-2 c = rw (not-false c.before.before.before.args.none c.before.before.if1.false) (tested is_none c.before.before.before.args.u.0 (record { sfits = c.before.struct_told.given.0.1 }) c.is_none.ensures)
+returns-2 : tie.Need-returns
+returns-2 c = rw (not-false c.args.none c.if-not-none.false-raw) (tested is_none c.args.u.0 (record { sfits = c.struct_told-1.given.0.1 }) c.is_none.ensures)
 
-pub still-none-spec : {M : Type 1} → statement M
-still-none-spec = tie.close (tie.spec returns is-none-requires returns-2)
+pub still_none_spec : {M : Type 1} → statement M
+still_none_spec = tie.close (tie.spec returns is-none-requires returns-2)

@@ -7,14 +7,14 @@ use borrow.Author.Rules.{rules}
 use Rattle.bac6_face_rules.proofs.face.still_uvs.Statement.{statement}
 use Rattle.bac6_face_rules.proofs.face.still_uvs.Tie as tie
 
-returns : tie.Need-returns
-returns c = rw (not-true c.before.args.rows c.if1.true) refl
+returns : tie.Need-returns-then-not-rows
+returns c = rw (not-true c.args.rows c.if-not-rows.true-raw) refl
 
-is-row-requires : tie.Need-is-row-requires
+is-row-requires : tie.Need-is_row-requires
 is-row-requires c κs = search rules
 
-returns-2 : tie.Need-returns-2
-returns-2 c = rw (not-false c.before.before.before.args.rows c.before.before.if1.false) (tested (is_row c.before.before.before.args.uvs) c.before.before.before.args.u.0 (record { sfits = c.before.struct_told.given.0.1 }) c.is_row.ensures)
+returns-2 : tie.Need-returns
+returns-2 c = rw (not-false c.args.rows c.if-not-rows.false-raw) (tested (is_row c.args.uvs) c.args.u.0 (record { sfits = c.struct_told-1.given.0.1 }) c.is_row.ensures)
 
-pub still-uvs-spec : {M : Type 1} → statement M
-still-uvs-spec = tie.close (tie.spec returns is-row-requires returns-2)
+pub still_uvs_spec : {M : Type 1} → statement M
+still_uvs_spec = tie.close (tie.spec returns is-row-requires returns-2)

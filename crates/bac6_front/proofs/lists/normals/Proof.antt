@@ -12,43 +12,27 @@ use borrow.Author.Rules.{rules}
 use Rattle.bac6_front.proofs.lists.normals.Statement.{statement}
 use Rattle.bac6_front.proofs.lists.normals.Tie as tie
 
-slice-aggregate-opened : tie.Need-slice-aggregate-opened
-slice-aggregate-opened c = search rules
-
-opened-requires : tie.Need-opened-requires
+opened-requires : tie.Need-opened-begun-requires
 opened-requires c κs = search rules
 
-slice-aggregate-rows : tie.Need-slice-aggregate-rows
-slice-aggregate-rows c = search rules
-
-rows-requires : tie.Need-rows-requires
+rows-requires : tie.Need-rows-k-requires
 rows-requires c κs = search rules
 
-closing-requires : tie.Need-closing-requires
+closing-requires : tie.Need-closing-k-requires
 closing-requires c κs = search rules
 
-with-end-requires : tie.Need-with-end-requires
+with-end-requires : tie.Need-with_end-requires
 with-end-requires c κs = search rules
 
-same_length : tie.Need-same-length
+same_length : tie.Need-shape_of-rows
 same_length c = search rules
 
 returns : tie.Need-returns
 unfolding normal_section rows_into opened row bytes form_named
 returns c =
-    let a = c.before.before.before.before.before.before.before.before.before.before.args in
-    let e = c.with-end.ensures in
-    (ended _ _ _ _ _ e _ (list_read _ _ _ normal_section 3 a.at _ a.rows.now _ (then_read _ _ _ _ _ _ _ _ _ c.before.before.before.before.before.before.before.opened.ensures (closed_at _ _ _ _ _ _ c.before.before.before.before.rows.ensures.0 c.before.closing.ensures ∙ sym (from-same _ _ _ _ (closed-map _ _))))), ends-within _ _ _ _ _ e)
+    let a = c.args in
+    let e = c.with_end.ensures in
+    (ended _ _ _ _ _ e _ (list_read _ _ _ normal_section 3 a.at _ a.rows-k.now _ (then_read _ _ _ _ _ _ _ _ _ c.opened-begun.ensures (closed_at _ _ _ _ _ _ c.rows-k.ensures.meaning c.closing-k.ensures ∙ sym (from-same _ _ _ _ (closed-map _ _))))), ends-within _ _ _ _ _ e)
 
-pub normals-spec : {M : Type 1} → statement M
-normals-spec =
-    tie.close
-    (tie.spec
-    slice-aggregate-opened
-    opened-requires
-    slice-aggregate-rows
-    rows-requires
-    closing-requires
-    with-end-requires
-    same_length
-    returns)
+pub normals_spec : {M : Type 1} → statement M
+normals_spec = tie.close (tie.spec opened-requires rows-requires closing-requires with-end-requires same_length returns)

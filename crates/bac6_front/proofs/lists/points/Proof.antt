@@ -10,28 +10,19 @@ use borrow.Author.Rules.{rules}
 use Rattle.bac6_front.proofs.lists.points.Statement.{statement}
 use Rattle.bac6_front.proofs.lists.points.Tie as tie
 
-slice-aggregate-opened : tie.Need-slice-aggregate-opened
-slice-aggregate-opened c = search rules
-
 opened-requires : tie.Need-opened-requires
 opened-requires c κs = search rules
 
-slice-aggregate-opened-2 : tie.Need-slice-aggregate-opened-2
-slice-aggregate-opened-2 c = search rules
-
-opened-requires-2 : tie.Need-opened-requires-2
+opened-requires-2 : tie.Need-opened-begun-requires
 opened-requires-2 c κs = search rules
 
-slice-aggregate-some-rows : tie.Need-slice-aggregate-some-rows
-slice-aggregate-some-rows c = search rules
-
-some-rows-requires : tie.Need-some-rows-requires
+some-rows-requires : tie.Need-some_rows-k-requires
 some-rows-requires c κs = search rules
 
-with-end-requires : tie.Need-with-end-requires
+with-end-requires : tie.Need-with_end-requires
 with-end-requires c κs = search rules
 
-same_length : tie.Need-same-length
+same_length : tie.Need-shape_of-rows
 same_length c = search rules
 
 returns : tie.Need-returns
@@ -39,19 +30,8 @@ unfolding point_section some_into opened row bytes form_named
 returns c =
     let r = c.before.before in
     let o = r.before.before.before in
-    let a = o.before.before.before.before.before.args in
-    ended _ _ _ _ _ c.with-end.ensures _ (list_read _ _ _ point_section 3 a.at _ a.rows.now _ (then_read _ _ _ _ _ _ _ _ _ (seq _ _ _ _ _ _ _ _ o.before.before.opened.ensures o.opened2.ensures) r.some-rows.ensures.0))
+    let a = o.args in
+    ended _ _ _ _ _ c.with_end.ensures _ (list_read _ _ _ point_section 3 a.at _ a.rows-1.now _ (then_read _ _ _ _ _ _ _ _ _ (seq _ _ _ _ _ _ _ _ o.opened.ensures o.opened-begun.ensures) r.some_rows-k.ensures.meaning))
 
-pub points-spec : {M : Type 1} → statement M
-points-spec =
-    tie.close
-    (tie.spec
-    slice-aggregate-opened
-    opened-requires
-    slice-aggregate-opened-2
-    opened-requires-2
-    slice-aggregate-some-rows
-    some-rows-requires
-    with-end-requires
-    same_length
-    returns)
+pub points_spec : {M : Type 1} → statement M
+points_spec = tie.close (tie.spec opened-requires opened-requires-2 some-rows-requires with-end-requires same_length returns)

@@ -8,29 +8,27 @@ use borrow.Author.Rules.{rules}
 use Rattle.bac6_layout.proofs.figure.put_back.Statement.{statement}
 use Rattle.bac6_layout.proofs.figure.put_back.Tie as tie
 
-sub-t6 : tie.Need-overflow-sub-t6
+sub-t6 : tie.Need-overflow_sub-sizes
 sub-t6 c = search rules
 
-sub-t7 : tie.Need-overflow-sub-t7
+sub-t7 : tie.Need-overflow_sub-sizes-2
 sub-t7 c = search rules
 
-slice-aggregate-put-lists : tie.Need-slice-aggregate-put-lists
+slice-aggregate-put-lists : tie.Need-slice_bounds-put_lists-end
 slice-aggregate-put-lists c = search rules
 
-put-lists-requires : tie.Need-put-lists-requires
-put-lists-requires c κs = back_room c.before.before.before.before.args.e _ c.before.before.before.before.requires
+put-lists-requires : tie.Need-put_lists-requires
+put-lists-requires c κs = back_room c.args.e _ c.requires
 
-same_length : tie.Need-same-length
+same_length : tie.Need-shape_of-table
 same_length c = search rules
 
 returns : tie.Need-returns
 returns c =
-    let a = c.before.before.before.before.before.before.args in
+    let a = c.args in
     let e = a.e in
-    let s = back_sum e _ c.before.before.before.before.before.before.requires in
-    (content_by a.at _ (e.faces - e.bones) e.bones e.bones a.rows.now a.table.now _ s refl c.before.put-lists.ensures.0, next_by a.at _ (e.faces - e.bones) _ (length a.table.now) s c.before.put-lists.ensures.1)
+    let s = back_sum e _ c.requires in
+    (content_by a.at _ (e.faces - e.bones) e.bones e.bones a.rows.now a.table-1.now _ s refl c.put_lists.ensures.content, next_by a.at _ (e.faces - e.bones) _ (length a.table-1.now) s c.put_lists.ensures.next)
 
-pub put-back-spec : {M : Type 1} → statement M
-put-back-spec =
-    tie.close
-    (tie.spec sub-t6 sub-t7 slice-aggregate-put-lists put-lists-requires same_length returns)
+pub put_back_spec : {M : Type 1} → statement M
+put_back_spec = tie.close (tie.spec sub-t6 sub-t7 slice-aggregate-put-lists put-lists-requires same_length returns)

@@ -14,7 +14,7 @@ closing-requires c κs = search rules
 
 returns : tie.Need-returns
 unfolding close_with reads
-returns c = rw (to_z-of_z {w = w64} {z = c.before.before.before.before.args.n.value} (record { sfits = c.struct_told.given.1.0.1 })) (seq _ _ _ _ _ _ _ _ c.before.closing.ensures refl)
+returns c = rw (to_z-of_z {w = w64} {z = c.args.n.value} (record { sfits = c.struct_told-1.given.1.0.1 })) (seq _ _ _ _ _ _ _ _ c.closing.ensures refl)
 
 pub close_spec : {M : Type 1} → statement M
 close_spec = tie.close (tie.spec closing-requires returns)

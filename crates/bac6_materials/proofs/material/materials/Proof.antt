@@ -14,13 +14,13 @@ use Rattle.bac6_materials.proofs.material.materials.Tie as tie
 opening-requires : tie.Need-opening-requires
 opening-requires c κs = search rules
 
-material-tail-requires : tie.Need-material-tail-requires
+material-tail-requires : tie.Need-material_tail-first-requires
 material-tail-requires c κs = search rules
 
-more-materials-requires : tie.Need-more-materials-requires
+more-materials-requires : tie.Need-more_materials-requires
 more-materials-requires c κs = search rules
 
-same_length : tie.Need-same-length
+same_length : tie.Need-shape_of-out
 same_length c = search rules
 
 returns : tie.Need-returns
@@ -28,11 +28,9 @@ unfolding material_into
 returns c =
     let m = c.before in
     let t = m.before.before.before in
-    (folded-first (row_step 9) material material_tail material_opens _ _ _ _ _ _ _ _ t.before.before.opening.ensures
-    (row-stepped material_tail 9 0 0 _ _ _ _ _ refl t.material-tail.ensures) m.more-materials.ensures)
+    (folded-first (row_step 9) material material_tail material_opens _ _ _ _ _ _ _ _ t.opening.ensures
+    (row-stepped material_tail 9 0 0 _ _ _ _ _ refl t.material_tail-first.ensures) m.more_materials.ensures)
     ∙ sym (from-same _ _ _ _ (materials-same _))
 
-pub materials-spec : {M : Type 1} → statement M
-materials-spec =
-    tie.close
-    (tie.spec opening-requires material-tail-requires more-materials-requires same_length returns)
+pub materials_spec : {M : Type 1} → statement M
+materials_spec = tie.close (tie.spec opening-requires material-tail-requires more-materials-requires same_length returns)

@@ -16,89 +16,74 @@ use Rattle.bac6_materials.proofs.Chunks.{material_opens, material_keeps, materia
 use Rattle.bac6_materials.proofs.material.more_materials.Statement.{statement}
 use Rattle.bac6_materials.proofs.material.more_materials.Tie as tie
 
-abbrev invariant-loop : tie.invariant-loop
+abbrev invariant-loop : tie.invariant-loop-start
 invariant-loop text out₀ d₀ i₀ count₀ out d i count =
     (from text d₀ (folded (row_step 9) material (1, out₀)) ≡ from text d (folded (row_step 9) material (count, out)))
     × (length out ≡ length out₀)
     × (min i (length out) ≡ min (count * 9) (length out))
     × (count + length (lex_at text d.at) ≤ 2 + length text)
 
-abbrev decreases-loop : tie.decreases-loop
+abbrev decreases-loop : tie.decreases-loop-start
 decreases-loop text out₀ d₀ i₀ count₀ out d i count = length (lex_at text d.at)
 
 rows_on : (r i n len len' : ℕ) → len' ≡ len → min i len ≡ min (n * 9) len → min r len' ≡ min (i + 9) len' → min r len' ≡ min ((n + 1) * 9) len'
 rows_on r i n len len' e h k = omega arith
 
 -- a turn: the materials left are one fewer
-stepping : (m : tie.After-material-tail invariant-loop decreases-loop) → reads m.before.before.before.before.before.before.before.args.text.now m.material-tail.result (m.before.before.before.before.before.loop.count + 1, m.material-tail.new.1.1.0) ≡ from m.before.before.before.before.before.before.before.args.text.now m.before.before.before.before.next-item.result.cursor (stepped (row_step 9) material_tail (m.before.before.before.before.before.loop.count, m.before.before.before.before.before.loop.out))
+stepping : (m : tie.After-material_tail-d invariant-loop decreases-loop) → reads m.args.text.now m.material_tail-d.result (m.loop-start.count + 1, m.material_tail-d.new.1.1.0) ≡ from m.args.text.now m.next_item-item.result.cursor (stepped (row_step 9) material_tail (m.loop-start.count, m.loop-start.out-1))
 unfolding material_into
 stepping m =
-    let l = m.before.before.before.before.before.loop in
-    row-stepped material_tail 9 l.count l.i l.out _ _ _ _ l.invariant.2 m.material-tail.ensures
+    let l = m.loop-start in
+    row-stepped material_tail 9 l.count l.i l.out-1 _ _ _ _ l.invariant.2 m.material_tail-d.ensures
 
-turn : (m : tie.After-material-tail invariant-loop decreases-loop) → from m.before.before.before.before.before.before.before.args.text.now m.before.before.before.before.before.loop.d (folded (row_step 9) material (m.before.before.before.before.before.loop.count, m.before.before.before.before.before.loop.out)) ≡ from m.before.before.before.before.before.before.before.args.text.now m.material-tail.result (folded (row_step 9) material (m.before.before.before.before.before.loop.count + 1, m.material-tail.new.1.1.0))
-turn m = folded_more (row_step 9) material material_tail material_takes material_keeps material_opens _ _ _ _ m.before.before.before.before.next-item.ensures _ _ _ (stepping m) m.before.before.if1.false
+turn : (m : tie.After-material_tail-d invariant-loop decreases-loop) → from m.args.text.now m.loop-start.d (folded (row_step 9) material (m.loop-start.count, m.loop-start.out-1)) ≡ from m.args.text.now m.material_tail-d.result (folded (row_step 9) material (m.loop-start.count + 1, m.material_tail-d.new.1.1.0))
+turn m = folded_more (row_step 9) material material_tail material_takes material_keeps material_opens _ _ _ _ m.next_item-item.ensures _ _ _ (stepping m) m.if-item.false
 
-falling : (m : tie.After-material-tail invariant-loop decreases-loop) → m.material-tail.result.refusal ≡ 0 → length (lex_at m.before.before.before.before.before.before.before.args.text.now m.material-tail.result.at) < length (lex_at m.before.before.before.before.before.before.before.args.text.now m.before.before.before.before.before.loop.d.at)
-falling m o = folded_fall (row_step 9) material material_tail material_takes material_keeps material_opens _ _ _ _ m.before.before.before.before.next-item.ensures _ _ _ (stepping m) o
+falling : (m : tie.After-material_tail-d invariant-loop decreases-loop) → m.material_tail-d.result.refusal ≡ 0 → length (lex_at m.args.text.now m.material_tail-d.result.at) < length (lex_at m.args.text.now m.loop-start.d.at)
+falling m o = folded_fall (row_step 9) material material_tail material_takes material_keeps material_opens _ _ _ _ m.next_item-item.ensures _ _ _ (stepping m) o
 
-loop-holds : tie.Need-loop-init invariant-loop decreases-loop
-loop-holds c = (refl, refl, refl, omega (arith, lex_at_count c.before.args.text.now c.before.args.c.at))
+loop-holds : tie.Need-loop-start-init invariant-loop decreases-loop
+loop-holds c = (refl, refl, refl, omega (arith, lex_at_count c.args.text.now c.args.c.at))
 
-next-item-requires : tie.Need-next-item-requires invariant-loop decreases-loop
+next-item-requires : tie.Need-next_item-item-requires invariant-loop decreases-loop
 next-item-requires c κs = search rules
 
-same_length : tie.Need-same-length invariant-loop decreases-loop
+same_length : tie.Need-shape_of-out-then-item invariant-loop decreases-loop
 same_length c = search rules
 
-returns : tie.Need-returns invariant-loop decreases-loop
+returns : tie.Need-returns-then-item invariant-loop decreases-loop
 returns c =
     let b = c.before.before in
-    sym (b.before.loop.invariant.0 ∙ folded_end (row_step 9) material material_tail material_takes material_keeps material_opens _ _ _ _ b.next-item.ensures _ c.if1.true)
+    sym (b.loop-start.invariant.0 ∙ folded_end (row_step 9) material material_tail material_takes material_keeps material_opens _ _ _ _ b.next_item-item.ensures _ c.if-item.true)
 
-material-tail-requires : tie.Need-material-tail-requires invariant-loop decreases-loop
+material-tail-requires : tie.Need-material_tail-d-requires invariant-loop decreases-loop
 material-tail-requires c κs = search rules
 
-same-length-2 : tie.Need-same-length-2 invariant-loop decreases-loop
+same-length-2 : tie.Need-shape_of-out-then-d-ne0 invariant-loop decreases-loop
 same-length-2 c = search rules
 
-returns-2 : tie.Need-returns-2 invariant-loop decreases-loop
+returns-2 : tie.Need-returns-then-d-ne0 invariant-loop decreases-loop
 returns-2 c =
     let m = c.before.before.before in
     let e = m.before.before in
-    passed _ _ _ _ c.if2.true
-    ∙ sym (e.before.before.before.loop.invariant.0 ∙ turn m)
+    passed _ _ _ _ c.if-d-ne0.true
+    ∙ sym (e.loop-start.invariant.0 ∙ turn m)
 
-add-count : tie.Need-overflow-add-count invariant-loop decreases-loop
+add-count : tie.Need-overflow_add-count invariant-loop decreases-loop
 add-count c = search rules
 
-advance-requires : tie.Need-advance-requires invariant-loop decreases-loop
+advance-requires : tie.Need-advance-i-requires invariant-loop decreases-loop
 advance-requires c κs = search rules
 
-loop-less : tie.Need-loop-smaller invariant-loop decreases-loop
-loop-less c = falling c.before.before.before.before c.before.if2.false
+loop-less : tie.Need-loop-start-smaller invariant-loop decreases-loop
+loop-less c = falling c.before.before.before.before c.if-d-ne0.false
 
-loop-again : tie.Need-loop-preserved invariant-loop decreases-loop
+loop-again : tie.Need-loop-start-preserved invariant-loop decreases-loop
 loop-again c =
     let m = c.before.before.before.before in
-    let l = m.before.before.before.before.before.loop in
-    let fewer = falling m c.before.if2.false in
-    (l.invariant.0 ∙ turn m, m.material-tail.auto.1.1.0 ∙ l.invariant.1, rows_on c.advance.result l.i l.count _ _ m.material-tail.auto.1.1.0 l.invariant.2 c.advance.ensures, omega arith)
+    let l = m.loop-start in
+    let fewer = falling m c.if-d-ne0.false in
+    (l.invariant.0 ∙ turn m, m.material_tail-d.auto.1.1.0 ∙ l.invariant.1, rows_on c.advance-i.result l.i l.count _ _ m.material_tail-d.auto.1.1.0 l.invariant.2 c.advance-i.ensures, omega arith)
 
-pub more-materials-spec : {M : Type 1} → statement M
-more-materials-spec =
-    tie.close
-    (tie.spec
-    invariant-loop
-    decreases-loop
-    loop-holds
-    next-item-requires
-    same_length
-    returns
-    material-tail-requires
-    same-length-2
-    returns-2
-    add-count
-    advance-requires
-    loop-less
-    loop-again)
+pub more_materials_spec : {M : Type 1} → statement M
+more_materials_spec = tie.close (tie.spec invariant-loop decreases-loop loop-holds next-item-requires same_length returns material-tail-requires same-length-2 returns-2 add-count advance-requires loop-less loop-again)

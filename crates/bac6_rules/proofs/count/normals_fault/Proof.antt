@@ -5,13 +5,13 @@ use Rattle.bac6_rules.proofs.Counts.{normals-same, normals-other}
 use Rattle.bac6_rules.proofs.count.normals_fault.Statement.{statement}
 use Rattle.bac6_rules.proofs.count.normals_fault.Tie as tie
 
-returns : tie.Need-returns
+returns : tie.Need-returns-then-points-normals
 unfolding refusal
-returns c = sym (normals-other _ _ c.if1.true)
+returns c = sym (normals-other _ _ c.if-points-normals.true)
 
-returns-2 : tie.Need-returns-2
+returns-2 : tie.Need-returns
 unfolding refusal
-returns-2 c = sym (normals-same _ _ c.if1.false)
+returns-2 c = sym (normals-same _ _ c.if-points-normals.false)
 
-pub normals-fault-spec : {M : Type 1} → statement M
-normals-fault-spec = tie.close (tie.spec returns returns-2)
+pub normals_fault_spec : {M : Type 1} → statement M
+normals_fault_spec = tie.close (tie.spec returns returns-2)

@@ -9,41 +9,31 @@ use Rattle.bac6_rules.proofs.order.counts_fault.Tie as tie
 use Rattle.table_counts.specs.Counts.{figure_mosts}
 use Rattle.table_counts.specs.Counts.{figure_lists}
 
-slice-aggregate-too-many : tie.Need-slice-aggregate-too-many
+slice-aggregate-too-many : tie.Need-slice_bounds-too_many-end
 slice-aggregate-too-many c = search rules
 
-slice-aggregate-too-many-2 : tie.Need-slice-aggregate-too-many-2
+slice-aggregate-too-many-2 : tie.Need-slice_bounds-too_many-end-2
 slice-aggregate-too-many-2 c = search rules
 
-too-many-requires : tie.Need-too-many-requires
+too-many-requires : tie.Need-too_many-requires
 too-many-requires c κs = search rules
 
-enum-known-number : tie.Need-enum-known-number
+enum-known-number : tie.Need-enum_known-number
 enum-known-number c = search rules
 
-enum_told : tie.Need-enum-told
+enum_told : tie.Need-enum_told-1
 enum_told c = search rules
 
-normals-fault-requires : tie.Need-normals-fault-requires
+normals-fault-requires : tie.Need-normals_fault-requires
 normals-fault-requires c κs = search rules
 
-returns : tie.Need-returns
+returns : tie.Need-returns-in-Refused
 unfolding refusal figure_lists counts_fault figure_mosts
-returns c = sym (or-fault _ (refused_by c.before.before.before.too_many.ensures c.before.number.given.1))
+returns c = sym (or-fault _ (refused_by c.too_many.ensures c.in-Refused.is))
 
-returns-2 : tie.Need-returns-2
+returns-2 : tie.Need-returns-in-Clear
 unfolding figure_lists counts_fault figure_mosts
-returns-2 c = c.normals-fault.ensures ∙ sym (or-clear _ (clear_by c.before.before.before.too_many.ensures c.before.enum_told.given.1))
+returns-2 c = c.normals_fault.ensures ∙ sym (or-clear _ (clear_by c.too_many.ensures c.in-Clear.is))
 
-pub counts-fault-spec : {M : Type 1} → statement M
-counts-fault-spec =
-    tie.close
-    (tie.spec
-    slice-aggregate-too-many
-    slice-aggregate-too-many-2
-    too-many-requires
-    enum-known-number
-    enum_told
-    normals-fault-requires
-    returns
-    returns-2)
+pub counts_fault_spec : {M : Type 1} → statement M
+counts_fault_spec = tie.close (tie.spec slice-aggregate-too-many slice-aggregate-too-many-2 too-many-requires enum-known-number enum_told normals-fault-requires returns returns-2)

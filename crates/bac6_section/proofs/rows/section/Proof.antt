@@ -7,43 +7,34 @@ use borrow.Author.Rules.{rules}
 use Rattle.bac6_section.proofs.rows.section.Statement.{statement}
 use Rattle.bac6_section.proofs.rows.section.Tie as tie
 
-optional-requires : tie.Need-optional-requires
+optional-requires : tie.Need-optional-s-requires
 optional-requires c κs = search rules
 
-rows-requires : tie.Need-rows-requires
+rows-requires : tie.Need-rows-k-requires
 rows-requires c κs = search rules
 
-with-end-requires : tie.Need-with-end-requires
+with-end-requires : tie.Need-with_end-requires
 with-end-requires c κs = search rules
 
-same_length : tie.Need-same-length
+same_length : tie.Need-shape_of-out-then-s
 same_length c = search rules
 
-returns : tie.Need-returns
+returns : tie.Need-returns-then-s
 unfolding rows_if rows_into
 returns c =
-    let a = c.before.before.before.before.before.before.before.before.before.before.args in
-    let e = c.with-end.ensures in
-    (ended _ _ _ _ _ e _ (section_read _ _ _ _ a.name.now a.word.now (form_named a.form) a.width (a.at, a.out.now) _ _ _ c.before.before.before.before.before.before.optional.ensures c.before.before.before.before.if1.true (list_read _ _ _ _ a.width a.at _ a.out.now _ c.before.before.rows.ensures.0)), ends-within _ _ _ _ _ e)
+    let a = c.args in
+    let e = c.with_end.ensures in
+    (ended _ _ _ _ _ e _ (section_read _ _ _ _ a.name.now a.word.now (form_named a.form) a.width (a.at, a.out-1.now) _ _ _ c.optional-s.ensures c.if-s.true (list_read _ _ _ _ a.width a.at _ a.out-1.now _ c.rows-k.ensures.meaning)), ends-within _ _ _ _ _ e)
 
-with-end-requires-2 : tie.Need-with-end-requires-2
+with-end-requires-2 : tie.Need-with_end-requires-2
 with-end-requires-2 c κs = search rules
 
-returns-2 : tie.Need-returns-2
+returns-2 : tie.Need-returns
 unfolding rows_if
 returns-2 c =
-    let a = c.before.before.before.before.before.before.before.args in
-    let e = c.with-end2.ensures in
-    (ended _ _ _ _ _ e _ (section_read _ _ _ _ a.name.now a.word.now (form_named a.form) a.width (a.at, a.out.now) _ _ _ c.before.before.before.optional.ensures c.before.if1.false (list_read _ _ _ _ a.width a.at _ a.out.now _ (none_read _ _ a.at a.out.now))), ends-within _ _ _ _ _ e)
+    let a = c.args in
+    let e = c.with_end-2.ensures in
+    (ended _ _ _ _ _ e _ (section_read _ _ _ _ a.name.now a.word.now (form_named a.form) a.width (a.at, a.out-1.now) _ _ _ c.optional-s.ensures c.if-s.false (list_read _ _ _ _ a.width a.at _ a.out-1.now _ (none_read _ _ a.at a.out-1.now))), ends-within _ _ _ _ _ e)
 
-pub section-spec : {M : Type 1} → statement M
-section-spec =
-    tie.close
-    (tie.spec
-    optional-requires
-    rows-requires
-    with-end-requires
-    same_length
-    returns
-    with-end-requires-2
-    returns-2)
+pub section_spec : {M : Type 1} → statement M
+section_spec = tie.close (tie.spec optional-requires rows-requires with-end-requires same_length returns with-end-requires-2 returns-2)

@@ -15,56 +15,38 @@ use borrow.Author.Rules.{rules}
 use Rattle.bac6_shape.proofs.shape.parse.Statement.{statement}
 use Rattle.bac6_shape.proofs.shape.parse.Tie as tie
 
-read-front-requires : tie.Need-read-front-requires
+read-front-requires : tie.Need-read_front-f-requires
 read-front-requires c κs = search rules
 
-read-bones-requires : tie.Need-read-bones-requires
+read-bones-requires : tie.Need-read_bones-b-requires
 read-bones-requires c κs = search rules
 
-slice-aggregate-section : tie.Need-slice-aggregate-section
-slice-aggregate-section c = search rules
-
-slice-aggregate-section-2 : tie.Need-slice-aggregate-section-2
-slice-aggregate-section-2 c = search rules
-
-section-requires : tie.Need-section-requires
+section-requires : tie.Need-section-u-requires
 section-requires c κs = search rules
 
-read-end-requires : tie.Need-read-end-requires
+read-end-requires : tie.Need-read_end-q-requires
 read-end-requires c κs = search rules
 
-same_length : tie.Need-same-length
-same_length c = c.before.before.before.read-end.auto.1.1.0 ∙ c.before.before.before.before.before.before.before.before.section.auto.1.1.1.1.1.1.0 ∙ c.before.before.before.before.before.before.before.before.before.before.before.before.before.before.before.read-bones.auto.1.1.1.0 ∙ c.before.before.before.before.before.before.before.before.before.before.before.before.before.before.before.before.before.before.before.before.read-front.auto.1.1.0
+same_length : tie.Need-shape_of-rows
+same_length c = c.read_end-q.auto.1.1.0 ∙ c.section-u.auto.1.1.1.1.1.1.0 ∙ c.read_bones-b.auto.1.1.1.0 ∙ c.read_front-f.auto.1.1.0
 
-same-length-2 : tie.Need-same-length-2
+same-length-2 : tie.Need-shape_of-owners
 same-length-2 c = search rules
 
-same-length-3 : tie.Need-same-length-3
+same-length-3 : tie.Need-shape_of-names
 same-length-3 c = search rules
 
 returns : tie.Need-returns
 unfolding back_steps kept kept_by front_value uv_section reads bytes form_named
 returns c =
-    let a = c.before.before.before.before.before.before.before.before.before.before.before.before.before.before.before.before.before.before.before.before.before.before.before.args in
-    join _ _ _ _ _ _ _ (back_steps a.rows.now a.owners.now a.names.now) c.before.before.before.before.before.before.before.before.before.before.before.before.before.before.before.before.before.before.before.before.read-front.ensures.0
-    (join _ _ _ _ _ _ _ _ c.before.before.before.before.before.before.before.before.before.before.before.before.before.before.before.read-bones.ensures
-    (join _ _ _ _ _ _ _ _ (section_list "TextureCoords" "f2" FLOAT 2 _ _ _ c.before.before.before.before.before.before.before.before.section.ensures.0)
-    (join _ _ _ _ _ _ _ _ c.before.before.before.read-end.ensures
+    let a = c.args in
+    join _ _ _ _ _ _ _ (back_steps a.rows-1.now a.owners-1.now a.names-1.now) c.read_front-f.ensures.content
+    (join _ _ _ _ _ _ _ _ c.read_bones-b.ensures
+    (join _ _ _ _ _ _ _ _ (section_list "TextureCoords" "f2" FLOAT 2 _ _ _ c.section-u.ensures.content)
+    (join _ _ _ _ _ _ _ _ c.read_end-q.ensures
     refl)))
     ∙ whole-text a.text.now _
-    ∙ figure-steps a.rows.now a.owners.now a.names.now _
+    ∙ figure-steps a.rows-1.now a.owners-1.now a.names-1.now _
 
-pub parse-spec : {M : Type 1} → statement M
-parse-spec =
-    tie.close
-    (tie.spec
-    read-front-requires
-    read-bones-requires
-    slice-aggregate-section
-    slice-aggregate-section-2
-    section-requires
-    read-end-requires
-    same_length
-    same-length-2
-    same-length-3
-    returns)
+pub parse_spec : {M : Type 1} → statement M
+parse_spec = tie.close (tie.spec read-front-requires read-bones-requires section-requires read-end-requires same_length same-length-2 same-length-3 returns)

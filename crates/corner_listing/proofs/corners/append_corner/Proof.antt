@@ -13,105 +13,81 @@ use borrow.Author.Rules.{rules}
 use Rattle.corner_listing.proofs.corners.append_corner.Statement.{statement}
 use Rattle.corner_listing.proofs.corners.append_corner.Tie as tie
 
-shown-requires : tie.Need-shown-requires
+shown-requires : tie.Need-shown-f-requires
 shown-requires c κs = search rules
 
-shown-requires-2 : tie.Need-shown-requires-2
+shown-requires-2 : tie.Need-shown-c-requires
 shown-requires-2 c κs = search rules
 
-enum_told : tie.Need-enum-told
+enum_told : tie.Need-enum_told-1
 enum_told c = search rules
 
-enum-known-answer : tie.Need-enum-known-answer
+enum-known-answer : tie.Need-enum_known-answer
 enum-known-answer c = search rules
 
-slice-aggregate-append-row : tie.Need-slice-aggregate-append-row
+slice-aggregate-append-row : tie.Need-slice_bounds-append_row-end-in-Plain
 slice-aggregate-append-row c = search rules
 
-slice-aggregate-append-row-2 : tie.Need-slice-aggregate-append-row-2
+slice-aggregate-append-row-2 : tie.Need-slice_bounds-append_row-end-in-Textured-2
 slice-aggregate-append-row-2 c = search rules
 
-append-row-requires : tie.Need-append-row-requires
+append-row-requires : tie.Need-append_row-requires
 append-row-requires c κs = search rules
 
-enum-known-answer-2 : tie.Need-enum-known-answer-2
+enum-known-answer-2 : tie.Need-enum_known-answer-in-Textured-1
 enum-known-answer-2 c = search rules
 
-slice-aggregate-append-row-3 : tie.Need-slice-aggregate-append-row-3
-slice-aggregate-append-row-3 c = search rules
-
-slice-aggregate-append-row-4 : tie.Need-slice-aggregate-append-row-4
-slice-aggregate-append-row-4 c = search rules
-
-append-row-requires-2 : tie.Need-append-row-requires-2
+append-row-requires-2 : tie.Need-append_row-requires-in-Textured
 append-row-requires-2 c κs = search rules
 
-returns : tie.Need-returns
+returns : tie.Need-returns-in-Refused
 returns c =
-    let a = c.before.before.before.before.before.args in
-    none_put a.n a.face a.k _ a.buf.now _ a.answer c.enum_told.given.1 refl
+    let a = c.args in
+    none_put a.n a.face a.k _ a.buf-1.now _ a.answer-1 c.in-Refused.is refl
 
-same_length : tie.Need-same-length
+same_length : tie.Need-shape_of-buf-in-Plain
 same_length c = search rules
 
-returns-2 : tie.Need-returns-2
+returns-2 : tie.Need-returns-in-Plain
 unfolding bytes AllFit
 returns-2 c =
     let k = c.before.before in
     let t = k.before.before.before.before in
     let s2 = t.before.before.before in
     let s1 = s2.before in
-    let a = s1.before.before.args in
-    let f = t.before.answer.given in
-    let x : SFits w64 f.0.0 = record { sfits = t.known-told.given.0.1 } in
-    let y : SFits w64 f.0.1.0 = record { sfits = t.known-told.given.1.0.1 } in
-    let z : SFits w64 f.0.1.1.0 = record { sfits = t.known-told.given.1.1.0.1 } in
-    let o : SFits w64 f.0.1.1.1.0 = record { sfits = t.known-told.given.1.1.1.0.1 } in
-    let m : SFits w64 f.0.1.1.1.1.0 = record { sfits = t.known-told.given.1.1.1.1.0.1 } in
-    let e : output k.append-row.result k.append-row.new.0 ≡ appended (output a.n a.buf.now) (line (bytes "corner") (to_z w64 (of_z w64 s1.shown.result) ∷ to_z w64 (of_z w64 s2.shown2.result) ∷ to_z w64 (of_z w64 f.0.0) ∷ to_z w64 (of_z w64 f.0.1.0) ∷ to_z w64 (of_z w64 f.0.1.1.0) ∷ to_z w64 (of_z w64 f.0.1.1.1.0) ∷ to_z w64 (of_z w64 f.0.1.1.1.1.0) ∷ [])) = k.append-row.ensures in
-    plain_put a.n a.face a.k _ a.buf.now _ a.answer f.0.0 f.0.1.0 f.0.1.1.0 f.0.1.1.1.0 f.0.1.1.1.1.0 f.1 (x, (y, (z, (o, (m, tt)))))
-    (rw (held a.face _ s1.shown.ensures, held a.k _ s2.shown2.ensures, to_z-of_z x, to_z-of_z y, to_z-of_z z, to_z-of_z o, to_z-of_z m) at e)
+    let a = s1.args in
+    let f = t.answer-1.given in
+    let x : SFits w64 f.0.0 = record { sfits = t.in-Plain.known_told-1-own.given.0.1 } in
+    let y : SFits w64 f.0.1.0 = record { sfits = t.in-Plain.known_told-1-own.given.1.0.1 } in
+    let z : SFits w64 f.0.1.1.0 = record { sfits = t.in-Plain.known_told-1-own.given.1.1.0.1 } in
+    let o : SFits w64 f.0.1.1.1.0 = record { sfits = t.in-Plain.known_told-1-own.given.1.1.1.0.1 } in
+    let m : SFits w64 f.0.1.1.1.1.0 = record { sfits = t.in-Plain.known_told-1-own.given.1.1.1.1.0.1 } in
+    let e : output k.append_row.result k.append_row.new.0 ≡ appended (output a.n a.buf-1.now) (line (bytes "corner") (to_z w64 (of_z w64 s1.shown-f.result) ∷ to_z w64 (of_z w64 s2.shown-c.result) ∷ to_z w64 (of_z w64 f.0.0) ∷ to_z w64 (of_z w64 f.0.1.0) ∷ to_z w64 (of_z w64 f.0.1.1.0) ∷ to_z w64 (of_z w64 f.0.1.1.1.0) ∷ to_z w64 (of_z w64 f.0.1.1.1.1.0) ∷ [])) = k.append_row.ensures in
+    plain_put a.n a.face a.k _ a.buf-1.now _ a.answer-1 f.0.0 f.0.1.0 f.0.1.1.0 f.0.1.1.1.0 f.0.1.1.1.1.0 f.1 (x, (y, (z, (o, (m, tt)))))
+    (rw (held a.face _ s1.shown-f.ensures, held a.k _ s2.shown-c.ensures, to_z-of_z x, to_z-of_z y, to_z-of_z z, to_z-of_z o, to_z-of_z m) at e)
 
-same-length-2 : tie.Need-same-length-2
+same-length-2 : tie.Need-shape_of-buf-in-Textured
 same-length-2 c = search rules
 
-returns-3 : tie.Need-returns-3
+returns-3 : tie.Need-returns-in-Textured
 unfolding bytes AllFit
 returns-3 c =
     let k = c.before.before in
     let t = k.before.before.before.before in
     let s2 = t.before.before.before in
     let s1 = s2.before in
-    let a = s1.before.before.args in
-    let f = t.before.answer2.given in
-    let x : SFits w64 f.0.0 = record { sfits = t.known-told2.given.0.1 } in
-    let y : SFits w64 f.0.1.0 = record { sfits = t.known-told2.given.1.0.1 } in
-    let z : SFits w64 f.0.1.1.0 = record { sfits = t.known-told2.given.1.1.0.1 } in
-    let o : SFits w64 f.0.1.1.1.0 = record { sfits = t.known-told2.given.1.1.1.0.1 } in
-    let m : SFits w64 f.0.1.1.1.1.0 = record { sfits = t.known-told2.given.1.1.1.1.0.1 } in
-    let u : SFits w64 f.0.1.1.1.1.1.0 = record { sfits = t.known-told2.given.1.1.1.1.1.0.1 } in
-    let v : SFits w64 f.0.1.1.1.1.1.1.0 = record { sfits = t.known-told2.given.1.1.1.1.1.1.0.1 } in
-    let e : output k.append-row2.result k.append-row2.new.0 ≡ appended (output a.n a.buf.now) (line (bytes "corner") (to_z w64 (of_z w64 s1.shown.result) ∷ to_z w64 (of_z w64 s2.shown2.result) ∷ to_z w64 (of_z w64 f.0.0) ∷ to_z w64 (of_z w64 f.0.1.0) ∷ to_z w64 (of_z w64 f.0.1.1.0) ∷ to_z w64 (of_z w64 f.0.1.1.1.0) ∷ to_z w64 (of_z w64 f.0.1.1.1.1.0) ∷ to_z w64 (of_z w64 f.0.1.1.1.1.1.0) ∷ to_z w64 (of_z w64 f.0.1.1.1.1.1.1.0) ∷ [])) = k.append-row2.ensures in
-    textured_put a.n a.face a.k _ a.buf.now _ a.answer f.0.0 f.0.1.0 f.0.1.1.0 f.0.1.1.1.0 f.0.1.1.1.1.0 f.0.1.1.1.1.1.0 f.0.1.1.1.1.1.1.0 f.1 (x, (y, (z, (o, (m, (u, (v, tt)))))))
-    (rw (held a.face _ s1.shown.ensures, held a.k _ s2.shown2.ensures, to_z-of_z x, to_z-of_z y, to_z-of_z z, to_z-of_z o, to_z-of_z m, to_z-of_z u, to_z-of_z v) at e)
+    let a = s1.args in
+    let f = t.answer-in-Textured-1.given in
+    let x : SFits w64 f.0.0 = record { sfits = t.in-Textured.known_told-in-Textured-1-own.given.0.1 } in
+    let y : SFits w64 f.0.1.0 = record { sfits = t.in-Textured.known_told-in-Textured-1-own.given.1.0.1 } in
+    let z : SFits w64 f.0.1.1.0 = record { sfits = t.in-Textured.known_told-in-Textured-1-own.given.1.1.0.1 } in
+    let o : SFits w64 f.0.1.1.1.0 = record { sfits = t.in-Textured.known_told-in-Textured-1-own.given.1.1.1.0.1 } in
+    let m : SFits w64 f.0.1.1.1.1.0 = record { sfits = t.in-Textured.known_told-in-Textured-1-own.given.1.1.1.1.0.1 } in
+    let u : SFits w64 f.0.1.1.1.1.1.0 = record { sfits = t.in-Textured.known_told-in-Textured-1-own.given.1.1.1.1.1.0.1 } in
+    let v : SFits w64 f.0.1.1.1.1.1.1.0 = record { sfits = t.in-Textured.known_told-in-Textured-1-own.given.1.1.1.1.1.1.0.1 } in
+    let e : output k.append_row-in-Textured.result k.append_row-in-Textured.new.0 ≡ appended (output a.n a.buf-1.now) (line (bytes "corner") (to_z w64 (of_z w64 s1.shown-f.result) ∷ to_z w64 (of_z w64 s2.shown-c.result) ∷ to_z w64 (of_z w64 f.0.0) ∷ to_z w64 (of_z w64 f.0.1.0) ∷ to_z w64 (of_z w64 f.0.1.1.0) ∷ to_z w64 (of_z w64 f.0.1.1.1.0) ∷ to_z w64 (of_z w64 f.0.1.1.1.1.0) ∷ to_z w64 (of_z w64 f.0.1.1.1.1.1.0) ∷ to_z w64 (of_z w64 f.0.1.1.1.1.1.1.0) ∷ [])) = k.append_row-in-Textured.ensures in
+    textured_put a.n a.face a.k _ a.buf-1.now _ a.answer-1 f.0.0 f.0.1.0 f.0.1.1.0 f.0.1.1.1.0 f.0.1.1.1.1.0 f.0.1.1.1.1.1.0 f.0.1.1.1.1.1.1.0 f.1 (x, (y, (z, (o, (m, (u, (v, tt)))))))
+    (rw (held a.face _ s1.shown-f.ensures, held a.k _ s2.shown-c.ensures, to_z-of_z x, to_z-of_z y, to_z-of_z z, to_z-of_z o, to_z-of_z m, to_z-of_z u, to_z-of_z v) at e)
 
-pub append-corner-spec : {M : Type 1} → statement M
-append-corner-spec =
-    tie.close
-    (tie.spec
-    shown-requires
-    shown-requires-2
-    enum_told
-    enum-known-answer
-    slice-aggregate-append-row
-    slice-aggregate-append-row-2
-    append-row-requires
-    enum-known-answer-2
-    slice-aggregate-append-row-3
-    slice-aggregate-append-row-4
-    append-row-requires-2
-    returns
-    same_length
-    returns-2
-    same-length-2
-    returns-3)
+pub append_corner_spec : {M : Type 1} → statement M
+append_corner_spec = tie.close (tie.spec shown-requires shown-requires-2 enum_told enum-known-answer slice-aggregate-append-row append-row-requires enum-known-answer-2 slice-aggregate-append-row-2 append-row-requires-2 returns same_length returns-2 same-length-2 returns-3)

@@ -12,50 +12,50 @@ use Rattle.pair_head.proofs.Heads.{head-size, too_few, no_feed, head-value, neve
 use Rattle.pair_head.proofs.division.parse_head.Statement.{statement}
 use Rattle.pair_head.proofs.division.parse_head.Tie as tie
 
-returns : tie.Need-returns
+returns : tie.Need-returns-then-bytes-ne9
 unfolding length_named
-returns c = sym (head-size c.before.before.args.bytes.now c.if1.true)
+returns c = sym (head-size c.args.bytes.now c.if-bytes-ne9.true)
 
-slice-aggregate-digits : tie.Need-slice-aggregate-digits
-slice-aggregate-digits c = sym (length-take-le 8 c.before.before.before.args.bytes.now (omega arith))
+slice-aggregate-digits : tie.Need-slice_bounds-digits-end
+slice-aggregate-digits c = sym (length-take-le 8 c.args.bytes.now (omega arith))
 
-run-end-requires : tie.Need-run-end-requires
+run-end-requires : tie.Need-run_end-requires
 run-end-requires c κs = search rules
 
-returns-2 : tie.Need-returns-2
+returns-2 : tie.Need-returns-then-run_end-lt8
 unfolding length_named
 returns-2 c =
     let t = c.before in
     let e = t.before.before in
-    sym (too_few e.before.before.args.bytes.now e.if1.false _ t.run-end.ensures c.if2.true)
+    sym (too_few e.args.bytes.now e.if-bytes-ne9.false _ t.run_end.ensures c.if-run_end-lt8.true)
 
-shared-slice-read-if3 : tie.Need-shared-slice-read-if3
+shared-slice-read-if3 : tie.Need-bounds-bytes-8
 shared-slice-read-if3 c = search rules
 
-returns-3 : tie.Need-returns-3
+returns-3 : tie.Need-returns-then-bytes-ne10
 unfolding length_named
 returns-3 c =
     let k = c.before.before in
     let t = k.before in
     let e = t.before.before in
-    sym (no_feed e.before.before.args.bytes.now e.if1.false _ t.run-end.ensures k.if2.false c.if3.true)
+    sym (no_feed e.args.bytes.now e.if-bytes-ne9.false _ t.run_end.ensures k.if-run_end-lt8.false c.if-bytes-ne10.true)
 
 int-requires : tie.Need-int-requires
 int-requires c κs = search rules
 
-enum-known-value : tie.Need-enum-known-value
+enum-known-value : tie.Need-enum_known-value
 enum-known-value c = search rules
 
 magnitude-requires : tie.Need-magnitude-requires
 magnitude-requires c κs = search rules
 
-enum_told : tie.Need-enum-told
+enum_told : tie.Need-enum_told-1
 enum_told c = search rules
 
-enum-told-2 : tie.Need-enum-told-2
+enum-told-2 : tie.Need-enum_told-in-Malformed
 enum-told-2 c = search rules
 
-returns-4 : tie.Need-returns-4
+returns-4 : tie.Need-returns-in-Value
 unfolding length_named
 returns-4 c =
     let v = c.before in
@@ -63,43 +63,27 @@ returns-4 c =
     let k = i.before.before.before in
     let t = k.before in
     let e = t.before.before in
-    let f = v.before.value.given in
-    let fits : SFits w64 f.0.0 = record { sfits = v.known-told.given.0.1 } in
-    sym (head-value e.before.before.args.bytes.now e.if1.false _ t.run-end.ensures k.if2.false i.int.result f.0.0 _ i.before.if3.false i.int.ensures f.1 (c.magnitude.ensures ∙ ap nat_abs (to_z-of_z fits)))
+    let f = v.value-1.given in
+    let fits : SFits w64 f.0.0 = record { sfits = v.in-Value.known_told-1-own.given.0.1 } in
+    sym (head-value e.args.bytes.now e.if-bytes-ne9.false _ t.run_end.ensures k.if-run_end-lt8.false i.int.result f.0.0 _ i.if-bytes-ne10.false i.int.ensures f.1 (c.magnitude.ensures ∙ ap nat_abs (to_z-of_z fits)))
 
-returns-5 : tie.Need-returns-5
+returns-5 : tie.Need-returns-in-Beyond
 unfolding length_named
 returns-5 c =
     let i = c.before.before in
     let k = i.before.before.before in
     let t = k.before in
     let e = t.before.before in
-    absurd (never_beyond e.before.before.args.bytes.now e.if1.false _ t.run-end.ensures k.if2.false i.int.result i.int.ensures c.enum_told.given.1)
+    absurd (never_beyond e.args.bytes.now e.if-bytes-ne9.false _ t.run_end.ensures k.if-run_end-lt8.false i.int.result i.int.ensures c.in-Beyond.is)
 
-returns-6 : tie.Need-returns-6
+returns-6 : tie.Need-returns-in-Malformed
 unfolding length_named
 returns-6 c =
     let i = c.before.before in
     let k = i.before.before.before in
     let t = k.before in
     let e = t.before.before in
-    absurd (never_wrong e.before.before.args.bytes.now e.if1.false _ t.run-end.ensures k.if2.false i.int.result i.int.ensures c.enum-told2.given.1)
+    absurd (never_wrong e.args.bytes.now e.if-bytes-ne9.false _ t.run_end.ensures k.if-run_end-lt8.false i.int.result i.int.ensures c.in-Malformed.is)
 
-pub parse-head-spec : {M : Type 1} → statement M
-parse-head-spec =
-    tie.close
-    (tie.spec
-    returns
-    slice-aggregate-digits
-    run-end-requires
-    returns-2
-    shared-slice-read-if3
-    returns-3
-    int-requires
-    enum-known-value
-    magnitude-requires
-    enum_told
-    enum-told-2
-    returns-4
-    returns-5
-    returns-6)
+pub parse_head_spec : {M : Type 1} → statement M
+parse_head_spec = tie.close (tie.spec returns slice-aggregate-digits run-end-requires returns-2 shared-slice-read-if3 returns-3 int-requires enum-known-value magnitude-requires enum_told enum-told-2 returns-4 returns-5 returns-6)

@@ -25,57 +25,57 @@ use Rattle.pair_load.proofs.pair.load.Statement.{statement}
 use Rattle.pair_load.proofs.pair.load.Tie as tie
 
 -- what is read into a table of the most numbers
-read_is : (e : tie.After-read) → e.read.result ≡ answer_of (fitted layout_of 37026 (figure_outcome e.before.before.before.before.args.figure.now))
+read_is : (e : tie.After-read-answer) → e.read-answer.result ≡ answer_of (fitted layout_of 37026 (figure_outcome e.args.figure.now))
 unfolding figure_answer
-read_is e = e.read.ensures.0 ∙ ap (λ (n : ℕ). answer_of (fitted layout_of n (figure_outcome e.before.before.before.before.args.figure.now))) (length-replicate 37026 (pos 0))
+read_is e = e.read-answer.ensures.answer ∙ ap (λ (n : ℕ). answer_of (fitted layout_of n (figure_outcome e.args.figure.now))) (length-replicate 37026 (pos 0))
 
-module _ (e : tie.Else1) where
+module _ (e : tie.Else-total-eq0) where
   abbrev text : List ℕ
-  text = e.before.before.before.before.before.before.args.figure.now
+  text = e.args.figure.now
 
   abbrev zeros : List ℤ
   zeros = replicate 37026 (pos 0)
 
   abbrev last : List ℤ
-  last = e.before.before.read.last.1.0
+  last = e.read-answer.last.1.0
 
-  took : Read figure-held 37026 (figure_outcome text) e.before.before.read.result
-  took = read_taken figure-held 37026 _ (figure_small _) _ (read_is e.before.before) e.if1.left
+  took : Read figure-held 37026 (figure_outcome text) e.read-answer.result
+  took = read_taken figure-held 37026 _ (figure_small _) _ (read_is e.before.before) e.if-total-eq0.left
 
   taken : figure_answer text (length zeros) ≡ accepted took.value
   unfolding figure_answer
   taken = ap (λ (n : ℕ). fitted layout_of n (figure_outcome text)) (length-replicate 37026 (pos 0)) ∙ read_whole figure-held 37026 _ _ took (figure_small _)
 
   left : last ≡ table_after text zeros
-  left = e.before.before.read.ensures.1
+  left = e.read-answer.ensures.content
 
   laid-down : last ≡ layout_of took.value ++ drop (length (layout_of took.value)) zeros
   laid-down = left ∙ figure-table text zeros took.value taken
 
-  long : e.before.before.read.result.total ≤ length last
+  long : e.read-answer.result.total ≤ length last
   long = let a = ap length laid-down ∙ length-append (layout_of took.value) _ in let b = total-is figure-held 37026 _ _ took in omega arith
 
 -- the pair as the movement's half with the figure's own table
-module _ (l : tie.After-load-movement) where
-  abbrev before-it : tie.Else1
+module _ (l : tie.After-load_movement-moved) where
+  abbrev before-it : tie.Else-total-eq0
   before-it = l.before.before.before.before.before
 
   abbrev movement : List ℕ
-  movement = before-it.before.before.before.before.before.before.args.movement.now
+  movement = before-it.args.movement.now
 
   abbrev space : ℕ
-  space = length before-it.before.before.before.before.before.before.args.moves.now
+  space = length before-it.args.moves-1.now
 
   abbrev half : Loaded Movement
-  half = moved_answer (text before-it) before-it.before.before.read.result.counts (last before-it) movement space
+  half = moved_answer (text before-it) before-it.read-answer.result.counts (last before-it) movement space
 
   abbrev whole : Loaded (Figure × Movement)
-  whole = pair_answer (text before-it) (length before-it.before.before.before.before.before.before.args.table.now) movement space
+  whole = pair_answer (text before-it) (length before-it.args.table-1.now) movement space
 
   paired : whole ≡ with_figure (took before-it).value half
   unfolding figure_answer answer_of
   paired =
-      pair_is _ _ _ _ (replicate 37026 (pos 0)) (took before-it).value (taken before-it) (figure_stands _ _ (took before-it).alone) (room_enough figure-held 37026 _ _ (took before-it) _ l.before.before.before.before.if2.left)
+      pair_is _ _ _ _ (replicate 37026 (pos 0)) (took before-it).value (taken before-it) (figure_stands _ _ (took before-it).alone) (room_enough figure-held 37026 _ _ (took before-it) _ l.if-table-total.left)
       ∙ ap (with_figure (took before-it).value) (sym (ap₂ (λ (n : FigureCounts) (t : List ℤ). moved_answer (text before-it) n t movement space) (ap (λ (a : FigureAnswer). a.counts) (took before-it).answer) (left before-it)))
 
   halved : half ≡ movement_of whole
@@ -85,96 +85,77 @@ module _ (l : tie.After-load-movement) where
   unfolding with_figure
   loaded-is m e = paired ∙ ap (with_figure (took before-it).value) e
 
-slice-aggregate-read : tie.Need-slice-aggregate-read
+slice-aggregate-read : tie.Need-slice_bounds-read-end
 slice-aggregate-read c = search rules
 
-read-requires : tie.Need-read-requires
+read-requires : tie.Need-read-answer-requires
 read-requires c κs = search rules
 
 refused-requires : tie.Need-refused-requires
 refused-requires c κs = search rules
 
-returns : tie.Need-returns
+returns : tie.Need-returns-then-total-eq0
 unfolding figure_answer
-returns c = let p = figure-refused _ _ _ _ _ _ (read-refused figure-held 37026 _ (figure_small _) _ (read_is c.before.before.before) c.before.if1.true _) in
+returns c = let p = figure-refused _ _ _ _ _ _ (read-refused figure-held 37026 _ (figure_small _) _ (read_is c.before.before.before) c.if-total-eq0.true _) in
     let b = refused-pair _ _ _ _ p _ in
     (c.refused.ensures ∙ b.0, (b.1, refused_half _ _ _ _ p _))
 
-refused-requires-2 : tie.Need-refused-requires-2
+refused-requires-2 : tie.Need-refused-requires-then-table-total
 refused-requires-2 c κs = search rules
 
-returns-2 : tie.Need-returns-2
+returns-2 : tie.Need-returns-then-table-total
 unfolding figure_answer
 returns-2 c = let e = c.before.before in
-    let p = figure-refused _ _ _ _ _ _ (room-short figure-held 37026 _ _ (took e) _ c.before.if2.true) in
+    let p = figure-refused _ _ _ _ _ _ (room-short figure-held 37026 _ _ (took e) _ c.if-table-total.true) in
     let b = refused-pair _ _ _ _ p _ in
-    (c.refused2.ensures ∙ b.0, (b.1, refused_half _ _ _ _ p _))
+    (c.refused-then-table-total.ensures ∙ b.0, (b.1, refused_half _ _ _ _ p _))
 
-slice-aggregate-load-movement : tie.Need-slice-aggregate-load-movement
+slice-aggregate-load-movement : tie.Need-slice_bounds-load_movement-end
 slice-aggregate-load-movement c = search rules
 
-load-movement-requires : tie.Need-load-movement-requires
+load-movement-requires : tie.Need-load_movement-moved-requires
 load-movement-requires c κs = search rules
 
-refused-requires-3 : tie.Need-refused-requires-3
+refused-requires-3 : tie.Need-refused-requires-then-moved-eq0
 refused-requires-3 c κs = search rules
 
-same_length : tie.Need-same-length
+same_length : tie.Need-shape_of-moves-then-moved-eq0
 same_length c = search rules
 
-returns-3 : tie.Need-returns-3
+returns-3 : tie.Need-returns-then-moved-eq0
 returns-3 c = let l = c.before.before.before.before in
     let e = l.before.before.before.before in
-    let p = paired l ∙ figure-kept _ _ _ _ _ (moved-refused _ _ l.load-movement.ensures.0 c.before.if3.true) in
+    let p = paired l ∙ figure-kept _ _ _ _ _ (moved-refused _ _ l.load_movement-moved.ensures.answer c.if-moved-eq0.true) in
     let b = refused-pair _ _ _ _ p _ in
-    (c.refused3.ensures ∙ b.0, (b.1, l.load-movement.ensures.1 ∙ ap (movement_left _) (halved l)))
+    (c.refused-then-moved-eq0.ensures ∙ b.0, (b.1, l.load_movement-moved.ensures.content ∙ ap (movement_left _) (halved l)))
 
-array-share-prefix-rows : tie.Need-array-share-prefix-rows
+array-share-prefix-rows : tie.Need-slice_bounds-rows-end
 array-share-prefix-rows c = long c.before.before.before.before.before.before.before.before.before
 
-slice-aggregate-put : tie.Need-slice-aggregate-put
+slice-aggregate-put : tie.Need-slice_bounds-put-end
 slice-aggregate-put c = let h = long c.before.before.before.before.before.before.before.before.before.before in simp length-take (omega arith)
 
 put-requires : tie.Need-put-requires
 put-requires c κs = search rules
 
-same-length-2 : tie.Need-same-length-2
+same-length-2 : tie.Need-shape_of-table
 same-length-2 c = search rules
 
-same-length-3 : tie.Need-same-length-3
+same-length-3 : tie.Need-shape_of-moves
 same-length-3 c = search rules
 
-returns-4 : tie.Need-returns-4
+returns-4 : tie.Need-returns
 unfolding figure_left laid
 returns-4 c = let l = c.before.before.before.before.before.before.before.before in
     let e = l.before.before.before.before.before in
-    let d = moved-taken _ _ l.load-movement.ensures.0 c.before.before.before.before.before.if3.false in
+    let d = moved-taken _ _ l.load_movement-moved.ensures.answer c.if-moved-eq0.false in
     let p = loaded-is l d.movement d.is in (
       reply-is _ _ _ _ (took e).answer d.answer ∙ ap pair_reply (sym p),
       (
-        c.before.before.put.ensures.0 ∙ rw (laid-down e, p) (left_is figure-held 37026 _ _ (took e) _ _ l.before.before.before.before.if2.false),
-        l.load-movement.ensures.1 ∙ ap (movement_left _) (halved l),
+        c.put.ensures.content ∙ rw (laid-down e, p) (left_is figure-held 37026 _ _ (took e) _ _ l.if-table-total.false),
+        l.load_movement-moved.ensures.content ∙ ap (movement_left _) (halved l),
       ),
     )
 
 pub load_spec : {M : Type 1} → statement M
-load_spec =
-    tie.close
-    (tie.spec
-    slice-aggregate-read
-    read-requires
-    refused-requires
-    returns
-    refused-requires-2
-    returns-2
-    slice-aggregate-load-movement
-    load-movement-requires
-    refused-requires-3
-    same_length
-    returns-3
-    array-share-prefix-rows
-    slice-aggregate-put
-    put-requires
-    same-length-2
-    same-length-3
-    returns-4)
+load_spec = tie.close (tie.spec slice-aggregate-read read-requires refused-requires returns refused-requires-2 returns-2 slice-aggregate-load-movement load-movement-requires refused-requires-3 same_length returns-3 array-share-prefix-rows slice-aggregate-put put-requires same-length-2 same-length-3 returns-4)

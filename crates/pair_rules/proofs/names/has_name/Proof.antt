@@ -5,23 +5,22 @@ use borrow.Author.Rules.{rules}
 use Rattle.pair_rules.proofs.names.has_name.Statement.{statement}
 use Rattle.pair_rules.proofs.names.has_name.Tie as tie
 
-figure-name-requires : tie.Need-figure-name-requires
+figure-name-requires : tie.Need-figure_name-requires
 figure-name-requires c κs = search rules
 
-enum_told : tie.Need-enum-told
+enum_told : tie.Need-enum_told-1
 enum_told c = search rules
 
-enum-known-start : tie.Need-enum-known-start
+enum-known-start : tie.Need-enum_known-start
 enum-known-start c = search rules
 
-returns : tie.Need-returns
+returns : tie.Need-returns-in-Refused
 unfolding is_some found
-returns c = rw (← c.before.before.figure-name.ensures, c.enum_told.given.1)
+returns c = rw (← c.figure_name.ensures, c.in-Refused.is)
 
-returns-2 : tie.Need-returns-2
+returns-2 : tie.Need-returns-in-At
 unfolding is_some found
-returns-2 c = rw (← c.before.before.before.figure-name.ensures, c.before.start.given.1)
+returns-2 c = rw (← c.figure_name.ensures, c.in-At.is)
 
-pub has-name-spec : {M : Type 1} → statement M
-has-name-spec =
-    tie.close (tie.spec figure-name-requires enum_told enum-known-start returns returns-2)
+pub has_name_spec : {M : Type 1} → statement M
+has_name_spec = tie.close (tie.spec figure-name-requires enum_told enum-known-start returns returns-2)

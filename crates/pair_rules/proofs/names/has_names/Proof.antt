@@ -14,56 +14,43 @@ use Rattle.pair_rules.proofs.BoneNames.{unheld_names, held-names, figure_some}
 use Rattle.pair_rules.proofs.names.has_names.Statement.{statement}
 use Rattle.pair_rules.proofs.names.has_names.Tie as tie
 
-abbrev invariant-loop : tie.invariant-loop
+abbrev invariant-loop : tie.invariant-loop-row
 invariant-loop figure table n bones row₀ row = (row ≤ bones) × (bones ≡ n.bones) × (is_some (names_in figure n table) ≡ named_left (figure_name figure n table) bones row)
 
-abbrev decreases-loop : tie.decreases-loop
+abbrev decreases-loop : tie.decreases-loop-row
 decreases-loop figure table n bones row₀ row = bones - row
 
-held : (e : tie.Else1 invariant-loop decreases-loop) → holds_figure e.before.before.before.args.n e.before.before.before.args.table.now ≡ true
-held e = sym e.before.holds-figure.ensures ∙ not-false _ e.if1.false
+held : (e : tie.Else-not-holds_figure invariant-loop decreases-loop) → holds_figure e.args.n e.args.table.now ≡ true
+held e = sym e.holds_figure.ensures ∙ not-false _ e.if-not-holds_figure.false-raw
 
-holds-figure-requires : tie.Need-holds-figure-requires invariant-loop decreases-loop
+holds-figure-requires : tie.Need-holds_figure-requires invariant-loop decreases-loop
 holds-figure-requires c κs = search rules
 
-returns : tie.Need-returns invariant-loop decreases-loop
-returns c = sym (unheld_names _ _ _ (sym c.before.holds-figure.ensures ∙ not-true _ c.if1.true))
+returns : tie.Need-returns-then-not-holds_figure invariant-loop decreases-loop
+returns c = sym (unheld_names _ _ _ (sym c.holds_figure.ensures ∙ not-true _ c.if-not-holds_figure.true-raw))
 
-loop-holds : tie.Need-loop-init invariant-loop decreases-loop
+loop-holds : tie.Need-loop-row-init invariant-loop decreases-loop
 loop-holds c = (omega arith, search rules, held-names _ _ _ (held c) ∙ named-all _ _)
 
-has-name-requires : tie.Need-has-name-requires invariant-loop decreases-loop
+has-name-requires : tie.Need-has_name-requires invariant-loop decreases-loop
 has-name-requires c κs = search rules
 
-returns-2 : tie.Need-returns-2 invariant-loop decreases-loop
-returns-2 c = let i = c.before.before.before.loop.invariant in
-    sym (i.2 ∙ named_none _ _ _ c.before.before.loop-test.true (sym (figure_some _ _ _ (held c.before.before.before.before) _ c.before.before.loop-test.true) ∙ sym c.before.has-name.ensures ∙ not-true _ c.if2.true))
+returns-2 : tie.Need-returns-then-not-has_name invariant-loop decreases-loop
+returns-2 c = let i = c.loop-row.invariant in
+    sym (i.2 ∙ named_none _ _ _ c.loop-row-test.true (sym (figure_some _ _ _ (held c.before.before.before.before) _ c.loop-row-test.true) ∙ sym c.has_name.ensures ∙ not-true _ c.if-not-has_name.true-raw))
 
-add_row : tie.Need-overflow-add-row invariant-loop decreases-loop
+add_row : tie.Need-overflow_add-row invariant-loop decreases-loop
 add_row c = omega arith
 
-loop-less : tie.Need-loop-smaller invariant-loop decreases-loop
+loop-less : tie.Need-loop-row-smaller invariant-loop decreases-loop
 loop-less c = omega arith
 
-loop-again : tie.Need-loop-preserved invariant-loop decreases-loop
-loop-again c = let i = c.before.before.before.loop.invariant in
-    (omega arith, i.1, i.2 ∙ named_more _ _ _ c.before.before.loop-test.true (sym (figure_some _ _ _ (held c.before.before.before.before) _ c.before.before.loop-test.true) ∙ sym c.before.has-name.ensures ∙ not-false _ c.if2.false))
+loop-again : tie.Need-loop-row-preserved invariant-loop decreases-loop
+loop-again c = let i = c.loop-row.invariant in
+    (omega arith, i.1, i.2 ∙ named_more _ _ _ c.loop-row-test.true (sym (figure_some _ _ _ (held c.before.before.before.before) _ c.loop-row-test.true) ∙ sym c.has_name.ensures ∙ not-false _ c.if-not-has_name.false-raw))
 
-returns-3 : tie.Need-returns-3 invariant-loop decreases-loop
-returns-3 c = sym (c.before.loop.invariant.2 ∙ named_end _ _ _ c.loop-test.false)
+returns-3 : tie.Need-returns invariant-loop decreases-loop
+returns-3 c = sym (c.loop-row.invariant.2 ∙ named_end _ _ _ c.loop-row-test.false)
 
-pub has-names-spec : {M : Type 1} → statement M
-has-names-spec =
-    tie.close
-    (tie.spec
-    invariant-loop
-    decreases-loop
-    holds-figure-requires
-    returns
-    loop-holds
-    has-name-requires
-    returns-2
-    add_row
-    loop-less
-    loop-again
-    returns-3)
+pub has_names_spec : {M : Type 1} → statement M
+has_names_spec = tie.close (tie.spec invariant-loop decreases-loop holds-figure-requires returns loop-holds has-name-requires returns-2 add_row loop-less loop-again returns-3)

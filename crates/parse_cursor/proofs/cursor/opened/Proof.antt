@@ -13,7 +13,7 @@ keyword-requires c κs = search rules
 
 returns : tie.Need-returns
 unfolding opened_of
-returns c = seq _ _ _ _ _ _ _ _ c.before.opening.ensures c.keyword.ensures
+returns c = seq _ _ _ _ _ _ _ _ c.opening.ensures c.keyword.ensures
 
-pub opened-spec : {M : Type 1} → statement M
-opened-spec = tie.close (tie.spec opening-requires keyword-requires returns)
+pub opened_spec : {M : Type 1} → statement M
+opened_spec = tie.close (tie.spec opening-requires keyword-requires returns)

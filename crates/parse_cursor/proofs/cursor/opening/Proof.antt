@@ -9,22 +9,22 @@ use borrow.Author.Rules.{rules}
 use Rattle.parse_cursor.proofs.cursor.opening.Statement.{statement}
 use Rattle.parse_cursor.proofs.cursor.opening.Tie as tie
 
-returns : tie.Need-returns
-returns c = passed _ _ tt open_bracket c.if1.true
+returns : tie.Need-returns-then-c-ne0
+returns c = passed _ _ tt open_bracket c.if-c-ne0.true
 
-next-requires : tie.Need-next-requires
+next-requires : tie.Need-next-t-requires
 next-requires c κs = search rules
 
-is-opening-requires : tie.Need-is-opening-requires
+is-opening-requires : tie.Need-is_opening-requires
 is-opening-requires c κs = search rules
 
-returns-2 : tie.Need-returns-2
+returns-2 : tie.Need-returns-then-is_opening
 unfolding open_bracket is_opening lexeme_of lexeme
-returns-2 c = took _ _ _ c.before.before.next.ensures c.before.before.before.if1.false is_opening refl (sym (c.before.is-opening.ensures _) ∙ c.if2.true)
+returns-2 c = took _ _ _ c.next-t.ensures c.if-c-ne0.false is_opening refl (sym (c.is_opening.ensures _) ∙ c.if-is_opening.true)
 
-returns-3 : tie.Need-returns-3
+returns-3 : tie.Need-returns
 unfolding open_bracket is_opening lexeme_of lexeme
-returns-3 c = balked _ _ _ c.before.before.next.ensures c.before.before.before.if1.false is_opening refl (sym (c.before.is-opening.ensures _) ∙ c.if2.false)
+returns-3 c = balked _ _ _ c.next-t.ensures c.if-c-ne0.false is_opening refl (sym (c.is_opening.ensures _) ∙ c.if-is_opening.false)
 
-pub opening-spec : {M : Type 1} → statement M
-opening-spec = tie.close (tie.spec returns next-requires is-opening-requires returns-2 returns-3)
+pub opening_spec : {M : Type 1} → statement M
+opening_spec = tie.close (tie.spec returns next-requires is-opening-requires returns-2 returns-3)

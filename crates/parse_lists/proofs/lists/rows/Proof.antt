@@ -17,87 +17,71 @@ use Rattle.parse_rows.proofs.Into.{row_past}
 use Rattle.parse_lists.proofs.lists.rows.Statement.{statement}
 use Rattle.parse_lists.proofs.lists.rows.Tie as tie
 
-abbrev invariant-loop : tie.invariant-loop
+abbrev invariant-loop : tie.invariant-loop-form
 invariant-loop text word lead form width out₀ at d₀ i₀ count₀ out d i count = (from text d₀ (rows_into word lead (form_named form) width at out₀) ≡ from text d (rows_on_lem word lead (form_named form) width count i out)) × (length out ≡ length out₀) × (count + length (lex_at text d.at) ≤ suc (length text)) × (take at out ≡ take at out₀) × (min at (length out) ≤ i)
 
-abbrev decreases-loop : tie.decreases-loop
+abbrev decreases-loop : tie.decreases-loop-form
 decreases-loop text word lead form width out₀ at d₀ i₀ count₀ out d i count = length (lex_at text d.at)
 
-loop-holds : tie.Need-loop-init invariant-loop decreases-loop
+loop-holds : tie.Need-loop-form-init invariant-loop decreases-loop
 loop-holds c = (from-same _ _ _ _ (rows_all _ _ _ _ _ _), refl, rw zero-add (lex_at_count _ _), refl, omega arith)
 
-next-item-requires : tie.Need-next-item-requires invariant-loop decreases-loop
+next-item-requires : tie.Need-next_item-item-requires invariant-loop decreases-loop
 next-item-requires c κs = search rules
 
-same_length : tie.Need-same-length invariant-loop decreases-loop
+same_length : tie.Need-shape_of-out-then-item invariant-loop decreases-loop
 same_length c = search rules
 
-returns : tie.Need-returns invariant-loop decreases-loop
+returns : tie.Need-returns-then-item invariant-loop decreases-loop
 returns c =
     let b = c.before.before in
-    (sym (b.before.loop.invariant.0 ∙ rows_end_lem _ _ _ _ _ _ _ _ b.next-item.ensures _ _ _ c.if1.true), b.before.loop.invariant.3)
+    (sym (b.loop-form.invariant.0 ∙ rows_end_lem _ _ _ _ _ _ _ _ b.next_item-item.ensures _ _ _ c.if-item.true), b.loop-form.invariant.3)
 
-row-tail-requires : tie.Need-row-tail-requires invariant-loop decreases-loop
+row-tail-requires : tie.Need-row_tail-d-requires invariant-loop decreases-loop
 row-tail-requires c κs = search rules
 
-same-length-2 : tie.Need-same-length-2 invariant-loop decreases-loop
+same-length-2 : tie.Need-shape_of-out-then-d-ne0 invariant-loop decreases-loop
 same-length-2 c = search rules
 
-returns-2 : tie.Need-returns-2 invariant-loop decreases-loop
+returns-2 : tie.Need-returns-then-d-ne0 invariant-loop decreases-loop
 returns-2 c =
     let m = c.before.before.before in
     let e = m.before.before in
     let b = e.before.before in (
-      passed _ _ _ _ c.if2.true
-          ∙ sym (b.before.loop.invariant.0 ∙ rows_more _ _ _ _ _ _ _ _ b.next-item.ensures _ _ _ _ _ m.row-tail.ensures.0 e.if1.false _ refl),
-      earlier _ b.before.loop.i _ _ m.row-tail.auto.1.1.1.1.1.1.0 b.before.loop.invariant.4 m.row-tail.ensures.1 ∙ b.before.loop.invariant.3,
+      passed _ _ _ _ c.if-d-ne0.true
+          ∙ sym (b.loop-form.invariant.0 ∙ rows_more _ _ _ _ _ _ _ _ b.next_item-item.ensures _ _ _ _ _ m.row_tail-d.ensures.meaning e.if-item.false _ refl),
+      earlier _ b.loop-form.i _ _ m.row_tail-d.auto.1.1.1.1.1.1.0 b.loop-form.invariant.4 m.row_tail-d.ensures.before ∙ b.loop-form.invariant.3,
     )
 
-add-count : tie.Need-overflow-add-count invariant-loop decreases-loop
+add-count : tie.Need-overflow_add-count invariant-loop decreases-loop
 add-count c = search rules
 
 advance-requires : tie.Need-advance-requires invariant-loop decreases-loop
 advance-requires c κs = search rules
 
-advance-requires-2 : tie.Need-advance-requires-2 invariant-loop decreases-loop
+advance-requires-2 : tie.Need-advance-i-requires invariant-loop decreases-loop
 advance-requires-2 c κs = search rules
 
-loop-less : tie.Need-loop-smaller invariant-loop decreases-loop
+loop-less : tie.Need-loop-form-smaller invariant-loop decreases-loop
 loop-less c =
     let m = c.before.before.before.before.before in
     let b = m.before.before.before.before in
-    rows_fall _ _ _ _ _ _ _ _ b.next-item.ensures 0 _ _ _ _ m.row-tail.ensures.0 c.before.before.if2.false
+    rows_fall _ _ _ _ _ _ _ _ b.next_item-item.ensures 0 _ _ _ _ m.row_tail-d.ensures.meaning c.if-d-ne0.false
 
-loop-again : tie.Need-loop-preserved invariant-loop decreases-loop
+loop-again : tie.Need-loop-form-preserved invariant-loop decreases-loop
 loop-again c =
     let m = c.before.before.before.before.before in
     let e = m.before.before in
     let b = e.before.before in
-    let l = b.before.loop in
-    let long = m.row-tail.auto.1.1.1.1.1.1.0 in
-    let fewer = rows_fall _ _ _ _ _ _ _ _ b.next-item.ensures 0 _ _ _ _ m.row-tail.ensures.0 c.before.before.if2.false in (
-      l.invariant.0 ∙ rows_more _ _ _ _ _ _ _ _ b.next-item.ensures _ _ _ _ _ m.row-tail.ensures.0 e.if1.false _ (row_past l.i _ _ _ _ _ c.before.advance.ensures c.advance2.ensures),
+    let l = b.loop-form in
+    let long = m.row_tail-d.auto.1.1.1.1.1.1.0 in
+    let fewer = rows_fall _ _ _ _ _ _ _ _ b.next_item-item.ensures 0 _ _ _ _ m.row_tail-d.ensures.meaning c.if-d-ne0.false in (
+      l.invariant.0 ∙ rows_more _ _ _ _ _ _ _ _ b.next_item-item.ensures _ _ _ _ _ m.row_tail-d.ensures.meaning e.if-item.false _ (row_past l.i _ _ _ _ _ c.advance.ensures c.advance-i.ensures),
       long ∙ l.invariant.1,
       omega arith,
-      earlier _ l.i _ _ long l.invariant.4 m.row-tail.ensures.1 ∙ l.invariant.3,
-      omega (arith, row_past l.i _ _ _ _ _ c.before.advance.ensures c.advance2.ensures, long, l.invariant.4),
+      earlier _ l.i _ _ long l.invariant.4 m.row_tail-d.ensures.before ∙ l.invariant.3,
+      omega (arith, row_past l.i _ _ _ _ _ c.advance.ensures c.advance-i.ensures, long, l.invariant.4),
     )
 
-pub rows-spec : {M : Type 1} → statement M
-rows-spec =
-    tie.close
-    (tie.spec
-    invariant-loop
-    decreases-loop
-    loop-holds
-    next-item-requires
-    same_length
-    returns
-    row-tail-requires
-    same-length-2
-    returns-2
-    add-count
-    advance-requires
-    advance-requires-2
-    loop-less
-    loop-again)
+pub rows_spec : {M : Type 1} → statement M
+rows_spec = tie.close (tie.spec invariant-loop decreases-loop loop-holds next-item-requires same_length returns row-tail-requires same-length-2 returns-2 add-count advance-requires advance-requires-2 loop-less loop-again)

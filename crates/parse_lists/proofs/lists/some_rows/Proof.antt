@@ -12,53 +12,51 @@ use borrow.Author.Rules.{rules}
 use Rattle.parse_lists.proofs.lists.some_rows.Statement.{statement}
 use Rattle.parse_lists.proofs.lists.some_rows.Tie as tie
 
-row-requires : tie.Need-row-requires
+row-requires : tie.Need-row-first-requires
 row-requires c κs = search rules
 
 advance-requires : tie.Need-advance-requires
 advance-requires c κs = search rules
 
-advance-requires-2 : tie.Need-advance-requires-2
+advance-requires-2 : tie.Need-advance-i-requires
 advance-requires-2 c κs = search rules
 
-rows-requires : tie.Need-rows-requires
+rows-requires : tie.Need-rows-more-requires
 rows-requires c κs = search rules
 
-same_length : tie.Need-same-length
+same_length : tie.Need-shape_of-out-then-d-ne0
 same_length c = search rules
 
-returns : tie.Need-returns
+returns : tie.Need-returns-then-d-ne0
 returns c =
     let r = c.before.before.before.before in
     let a = r.before.before in
     let f = a.before.before.before in
-    let next = row_past _ _ _ _ _ _ a.before.advance.ensures a.advance2.ensures in (
-      reads_same _ _ _ _ (λ o. absurd (c.if1.true o)) ∙ some_join _ _ _ _ _ _ _ _ _ _ _ _ _ _ f.row.ensures.0 next r.rows.ensures.0,
-      before_step _ _ _ _ _ r.rows.auto.1.1.1.1.1.1.0 next r.rows.ensures.1 ∙ f.row.ensures.1,
+    let next = row_past _ _ _ _ _ _ a.advance.ensures a.advance-i.ensures in (
+      reads_same _ _ _ _ (λ o. absurd (c.if-d-ne0.true o)) ∙ some_join _ _ _ _ _ _ _ _ _ _ _ _ _ _ f.row-first.ensures.meaning next r.rows-more.ensures.meaning,
+      before_step _ _ _ _ _ r.rows-more.auto.1.1.1.1.1.1.0 next r.rows-more.ensures.before ∙ f.row-first.ensures.before,
     )
 
-add-t16 : tie.Need-overflow-add-t16
+add-t16 : tie.Need-overflow_add-result
 add-t16 c =
     let r = c.before.before.before.before.before in
     let s = c.before.before.before.before.before.before.before.before.before.before.before.before.before.before in
     let text = s.args.text.now in
-    let few : r.rows.result.count ≤ suc (length text) = rows-counted _ _ _ _ _ _ _ _ _ _ _ r.rows.ensures.0 c.before.if1.false in
+    let few : r.rows-more.result.count ≤ suc (length text) = rows-counted _ _ _ _ _ _ _ _ _ _ _ r.rows-more.ensures.meaning c.if-d-ne0.false in
     omega (arith, few, s.well-formed.0)
 
-same-length-2 : tie.Need-same-length-2
+same-length-2 : tie.Need-shape_of-out
 same-length-2 c = search rules
 
-returns-2 : tie.Need-returns-2
+returns-2 : tie.Need-returns
 returns-2 c =
     let r = c.before.before.before.before.before in
     let a = r.before.before in
     let f = a.before.before.before in
-    let next = row_past _ _ _ _ _ _ a.before.advance.ensures a.advance2.ensures in (
-      some_join _ _ _ _ _ _ _ _ _ _ _ _ _ _ f.row.ensures.0 next r.rows.ensures.0,
-      before_step _ _ _ _ _ r.rows.auto.1.1.1.1.1.1.0 next r.rows.ensures.1 ∙ f.row.ensures.1,
+    let next = row_past _ _ _ _ _ _ a.advance.ensures a.advance-i.ensures in (
+      some_join _ _ _ _ _ _ _ _ _ _ _ _ _ _ f.row-first.ensures.meaning next r.rows-more.ensures.meaning,
+      before_step _ _ _ _ _ r.rows-more.auto.1.1.1.1.1.1.0 next r.rows-more.ensures.before ∙ f.row-first.ensures.before,
     )
 
-pub some-rows-spec : {M : Type 1} → statement M
-some-rows-spec =
-    tie.close
-    (tie.spec row-requires advance-requires advance-requires-2 rows-requires same_length returns add-t16 same-length-2 returns-2)
+pub some_rows_spec : {M : Type 1} → statement M
+some_rows_spec = tie.close (tie.spec row-requires advance-requires advance-requires-2 rows-requires same_length returns add-t16 same-length-2 returns-2)

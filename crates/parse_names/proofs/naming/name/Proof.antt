@@ -6,14 +6,14 @@ use borrow.Author.Rules.{rules}
 use Rattle.parse_names.proofs.naming.name.Statement.{statement}
 use Rattle.parse_names.proofs.naming.name.Tie as tie
 
-string-requires : tie.Need-string-requires
+string-requires : tie.Need-string-s-requires
 string-requires c κs = search rules
 
 closing-requires : tie.Need-closing-requires
 closing-requires c κs = search rules
 
 returns : tie.Need-returns
-returns c = closed_at _ _ _ _ _ _ c.before.before.string.ensures c.closing.ensures ∙ sym (from-same _ _ _ _ name_parts)
+returns c = closed_at _ _ _ _ _ _ c.string-s.ensures c.closing.ensures ∙ sym (from-same _ _ _ _ name_parts)
 
-pub name-spec : {M : Type 1} → statement M
-name-spec = tie.close (tie.spec string-requires closing-requires returns)
+pub name_spec : {M : Type 1} → statement M
+name_spec = tie.close (tie.spec string-requires closing-requires returns)

@@ -8,27 +8,23 @@ use borrow.Author.Rules.{rules}
 use Rattle.parse_names.proofs.naming.optional_name.Statement.{statement}
 use Rattle.parse_names.proofs.naming.optional_name.Tie as tie
 
-slice-aggregate-optional : tie.Need-slice-aggregate-optional
-slice-aggregate-optional c = search rules
-
-optional-requires : tie.Need-optional-requires
+optional-requires : tie.Need-optional-start-requires
 optional-requires c κs = search rules
 
 name-requires : tie.Need-name-requires
 name-requires c κs = search rules
 
-returns : tie.Need-returns
+returns : tie.Need-returns-then-start
 unfolding bytes
 returns c =
     let b = c.before.before.before in
-    optional_yes _ _ _ _ _ _ _ b.optional.ensures c.before.if1.true _ _ c.name.ensures ∙ sym (from-same _ _ _ _ optional_name_parts)
+    optional_yes _ _ _ _ _ _ _ b.optional-start.ensures c.if-start.true _ _ c.name.ensures ∙ sym (from-same _ _ _ _ optional_name_parts)
 
-returns-2 : tie.Need-returns-2
+returns-2 : tie.Need-returns
 unfolding bytes
 returns-2 c =
     let b = c.before.before in
-    optional_no _ _ _ _ _ _ _ b.optional.ensures c.if1.false ∙ sym (from-same _ _ _ _ optional_name_parts)
+    optional_no _ _ _ _ _ _ _ b.optional-start.ensures c.if-start.false ∙ sym (from-same _ _ _ _ optional_name_parts)
 
-pub optional-name-spec : {M : Type 1} → statement M
-optional-name-spec =
-    tie.close (tie.spec slice-aggregate-optional optional-requires name-requires returns returns-2)
+pub optional_name_spec : {M : Type 1} → statement M
+optional_name_spec = tie.close (tie.spec optional-requires name-requires returns returns-2)

@@ -9,46 +9,37 @@ use borrow.Author.Rules.{rules}
 use Rattle.parse_numbers.proofs.items.next_item.Statement.{statement}
 use Rattle.parse_numbers.proofs.items.next_item.Tie as tie
 
-returns : tie.Need-returns
-returns c = passed _ _ _ item_of c.if1.true
+returns : tie.Need-returns-then-c-ne0
+returns c = passed _ _ _ item_of c.if-c-ne0.true
 
-next-requires : tie.Need-next-requires
+next-requires : tie.Need-next-t-requires
 next-requires c κs = search rules
 
-is-closing-requires : tie.Need-is-closing-requires
+is-closing-requires : tie.Need-is_closing-requires
 is-closing-requires c κs = search rules
 
-returns-2 : tie.Need-returns-2
+returns-2 : tie.Need-returns-then-is_closing
 unfolding lexeme_of lexeme
 returns-2 c =
     let b = c.before.before in
-    item_ends _ _ _ b.next.ensures b.before.if1.false (sym (c.before.is-closing.ensures _) ∙ c.if2.true)
+    item_ends _ _ _ b.next-t.ensures b.if-c-ne0.false (sym (c.is_closing.ensures _) ∙ c.if-is_closing.true)
 
-is-opening-requires : tie.Need-is-opening-requires
+is-opening-requires : tie.Need-is_opening-requires
 is-opening-requires c κs = search rules
 
-returns-3 : tie.Need-returns-3
+returns-3 : tie.Need-returns-then-is_opening
 unfolding lexeme_of lexeme
 returns-3 c =
     let e = c.before.before in
     let b = e.before.before in
-    item_opens _ _ _ b.next.ensures b.before.if1.false (sym (e.before.is-closing.ensures _) ∙ e.if2.false) (sym (c.before.is-opening.ensures _) ∙ c.if3.true)
+    item_opens _ _ _ b.next-t.ensures b.if-c-ne0.false (sym (e.is_closing.ensures _) ∙ e.if-is_closing.false) (sym (c.is_opening.ensures _) ∙ c.if-is_opening.true)
 
-returns-4 : tie.Need-returns-4
+returns-4 : tie.Need-returns
 unfolding lexeme_of lexeme
 returns-4 c =
     let e = c.before.before in
     let b = e.before.before in
-    item_stops _ _ _ b.next.ensures b.before.if1.false (sym (e.before.is-closing.ensures _) ∙ e.if2.false) (sym (c.before.is-opening.ensures _) ∙ c.if3.false)
+    item_stops _ _ _ b.next-t.ensures b.if-c-ne0.false (sym (e.is_closing.ensures _) ∙ e.if-is_closing.false) (sym (c.is_opening.ensures _) ∙ c.if-is_opening.false)
 
-pub next-item-spec : {M : Type 1} → statement M
-next-item-spec =
-    tie.close
-    (tie.spec
-    returns
-    next-requires
-    is-closing-requires
-    returns-2
-    is-opening-requires
-    returns-3
-    returns-4)
+pub next_item_spec : {M : Type 1} → statement M
+next_item_spec = tie.close (tie.spec returns next-requires is-closing-requires returns-2 is-opening-requires returns-3 returns-4)

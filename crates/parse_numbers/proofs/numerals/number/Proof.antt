@@ -10,53 +10,42 @@ use borrow.Author.Rules.{rules}
 use Rattle.parse_numbers.proofs.numerals.number.Statement.{statement}
 use Rattle.parse_numbers.proofs.numerals.number.Tie as tie
 
-returns : tie.Need-returns
-returns c = passed _ _ _ (number _) c.if1.true
+returns : tie.Need-returns-then-c-ne0
+returns c = passed _ _ _ (number _) c.if-c-ne0.true
 
-next-requires : tie.Need-next-requires
+next-requires : tie.Need-next-t-requires
 next-requires c κs = search rules
 
-token-number-requires : tie.Need-token-number-requires
+token-number-requires : tie.Need-token_number-requires
 token-number-requires c κs = search rules
 
-enum-known-value : tie.Need-enum-known-value
+enum-known-value : tie.Need-enum_known-value
 enum-known-value c = search rules
 
-enum_told : tie.Need-enum-told
+enum_told : tie.Need-enum_told-1
 enum_told c = search rules
 
-enum-told-2 : tie.Need-enum-told-2
+enum-told-2 : tie.Need-enum_told-in-Malformed
 enum-told-2 c = search rules
 
-returns-2 : tie.Need-returns-2
+returns-2 : tie.Need-returns-in-Value
 unfolding number_named
 returns-2 c =
     let b = c.before.before.before in
-    rw (to_z-of_z {w = w64} {z = c.before.value.given.0.0} (record { sfits = c.known-told.given.0.1 }))
-    (number-value _ _ _ b.before.next.ensures b.before.before.if1.false _ _ (sym b.token-number.ensures ∙ ap number_named c.before.value.given.1))
+    rw (to_z-of_z {w = w64} {z = c.in-Value.value-1} (record { sfits = c.in-Value.known_told-1-own.given.0.1 }))
+    (number-value _ _ _ b.next-t.ensures b.if-c-ne0.false _ _ (sym b.token_number.ensures ∙ ap number_named c.in-Value.is))
 
-returns-3 : tie.Need-returns-3
+returns-3 : tie.Need-returns-in-Beyond
 unfolding number_named
 returns-3 c =
     let b = c.before.before in
-    number-beyond _ _ _ b.before.next.ensures b.before.before.if1.false _ _ (sym b.token-number.ensures ∙ ap number_named c.enum_told.given.1)
+    number-beyond _ _ _ b.next-t.ensures b.if-c-ne0.false _ _ (sym b.token_number.ensures ∙ ap number_named c.in-Beyond.is)
 
-returns-4 : tie.Need-returns-4
+returns-4 : tie.Need-returns-in-Malformed
 unfolding number_named
 returns-4 c =
     let b = c.before.before in
-    number-wrong _ _ _ b.before.next.ensures b.before.before.if1.false _ _ (sym b.token-number.ensures ∙ ap number_named c.enum-told2.given.1)
+    number-wrong _ _ _ b.next-t.ensures b.if-c-ne0.false _ _ (sym b.token_number.ensures ∙ ap number_named c.in-Malformed.is)
 
-pub number-spec : {M : Type 1} → statement M
-number-spec =
-    tie.close
-    (tie.spec
-    returns
-    next-requires
-    token-number-requires
-    enum-known-value
-    enum_told
-    enum-told-2
-    returns-2
-    returns-3
-    returns-4)
+pub number_spec : {M : Type 1} → statement M
+number_spec = tie.close (tie.spec returns next-requires token-number-requires enum-known-value enum_told enum-told-2 returns-2 returns-3 returns-4)

@@ -12,19 +12,19 @@ use Rattle.parse_rows.proofs.cells.row_tail.Tie as tie
 keyword-requires : tie.Need-keyword-requires
 keyword-requires c κs = search rules
 
-numbers-requires : tie.Need-numbers-requires
+numbers-requires : tie.Need-numbers-d-requires
 numbers-requires c κs = search rules
 
-advance-requires : tie.Need-advance-requires
+advance-requires : tie.Need-advance-i-requires
 advance-requires c κs = search rules
 
-numbers-requires-2 : tie.Need-numbers-requires-2
+numbers-requires-2 : tie.Need-numbers-requires
 numbers-requires-2 c κs = search rules
 
 closing-requires : tie.Need-closing-requires
 closing-requires c κs = search rules
 
-same_length : tie.Need-same-length
+same_length : tie.Need-shape_of-out
 same_length c = search rules
 
 returns : tie.Need-returns
@@ -33,19 +33,10 @@ returns c =
     let m = c.before.before in
     let v = m.before.before in
     let n = v.before.before in (
-      seq _ _ _ _ _ _ _ _ n.before.before.keyword.ensures
-          (closed_at _ _ _ _ _ _ (cells-joined _ _ _ _ _ _ _ _ _ _ _ _ n.numbers.ensures.0 v.advance.ensures m.numbers2.ensures.0) c.closing.ensures),
-      before_step _ _ _ _ _ m.numbers2.auto.1.1.1.1.0 v.advance.ensures m.numbers2.ensures.1 ∙ n.numbers.ensures.1,
+      seq _ _ _ _ _ _ _ _ n.keyword.ensures
+          (closed_at _ _ _ _ _ _ (cells-joined _ _ _ _ _ _ _ _ _ _ _ _ n.numbers-d.ensures.meaning v.advance-i.ensures m.numbers.ensures.meaning) c.closing.ensures),
+      before_step _ _ _ _ _ m.numbers.auto.1.1.1.1.0 v.advance-i.ensures m.numbers.ensures.before ∙ n.numbers-d.ensures.before,
     )
 
-pub row-tail-spec : {M : Type 1} → statement M
-row-tail-spec =
-    tie.close
-    (tie.spec
-    keyword-requires
-    numbers-requires
-    advance-requires
-    numbers-requires-2
-    closing-requires
-    same_length
-    returns)
+pub row_tail_spec : {M : Type 1} → statement M
+row_tail_spec = tie.close (tie.spec keyword-requires numbers-requires advance-requires numbers-requires-2 closing-requires same_length returns)

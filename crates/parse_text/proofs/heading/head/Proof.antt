@@ -6,13 +6,10 @@ use borrow.Author.Rules.{rules}
 use Rattle.parse_text.proofs.heading.head.Statement.{statement}
 use Rattle.parse_text.proofs.heading.head.Tie as tie
 
-slice-aggregate-opened : tie.Need-slice-aggregate-opened
-slice-aggregate-opened c = search rules
-
 opened-requires : tie.Need-opened-requires
 opened-requires c κs = search rules
 
-opened-requires-2 : tie.Need-opened-requires-2
+opened-requires-2 : tie.Need-opened-inside-requires
 opened-requires-2 c κs = search rules
 
 version-requires : tie.Need-version-requires
@@ -29,17 +26,8 @@ unfolding head_of opened bytes
 returns c =
     let k = c.before.before in
     let o = k.before in
-    seq _ _ _ _ _ _ _ _ (seq _ _ _ _ _ _ _ _ o.before.opened.ensures o.opened2.ensures)
-    (closed_at _ _ _ _ _ _ (closed_at _ _ _ _ _ _ k.version.ensures c.before.closing.ensures) c.closing2.ensures)
+    seq _ _ _ _ _ _ _ _ (seq _ _ _ _ _ _ _ _ o.opened.ensures o.opened-inside.ensures)
+    (closed_at _ _ _ _ _ _ (closed_at _ _ _ _ _ _ k.version.ensures c.closing.ensures) c.closing-2.ensures)
 
 pub head_spec : {M : Type 1} → statement M
-head_spec =
-    tie.close
-    (tie.spec
-    slice-aggregate-opened
-    opened-requires
-    opened-requires-2
-    version-requires
-    closing-requires
-    closing-requires-2
-    returns)
+head_spec = tie.close (tie.spec opened-requires opened-requires-2 version-requires closing-requires closing-requires-2 returns)

@@ -9,45 +9,36 @@ use borrow.Author.Rules.{rules}
 use Rattle.parse_text.proofs.heading.version.Statement.{statement}
 use Rattle.parse_text.proofs.heading.version.Tie as tie
 
-returns : tie.Need-returns
-returns c = passed _ _ _ (version _) c.if1.true
+returns : tie.Need-returns-then-c-ne0
+returns c = passed _ _ _ (version _) c.if-c-ne0.true
 
-next-requires : tie.Need-next-requires
+next-requires : tie.Need-next-t-requires
 next-requires c κs = search rules
 
-is-keyword-requires : tie.Need-is-keyword-requires
+is-keyword-requires : tie.Need-is_keyword-requires
 is-keyword-requires c κs = search rules
 
-returns-2 : tie.Need-returns-2
+returns-2 : tie.Need-returns-then-is_keyword
 unfolding lexeme_of lexeme
 returns-2 c =
     let b = c.before.before in
-    version_right _ _ _ b.next.ensures b.before.if1.false _ (sym c.before.is-keyword.ensures ∙ c.if2.true)
+    version_right _ _ _ b.next-t.ensures b.if-c-ne0.false _ (sym c.is_keyword.ensures ∙ c.if-is_keyword.true)
 
-is-plain-requires : tie.Need-is-plain-requires
+is-plain-requires : tie.Need-is_plain-requires
 is-plain-requires c κs = search rules
 
-returns-3 : tie.Need-returns-3
+returns-3 : tie.Need-returns-then-is_plain
 unfolding lexeme_of lexeme
 returns-3 c =
     let k = c.before.before in
     let b = k.before.before in
-    version-wrong _ _ _ b.next.ensures b.before.if1.false _ (sym k.before.is-keyword.ensures ∙ k.if2.false) (sym (c.before.is_plain.ensures _) ∙ c.if3.true)
+    version-wrong _ _ _ b.next-t.ensures b.if-c-ne0.false _ (sym k.is_keyword.ensures ∙ k.if-is_keyword.false) (sym (c.is_plain.ensures _) ∙ c.if-is_plain.true)
 
-returns-4 : tie.Need-returns-4
+returns-4 : tie.Need-returns
 unfolding lexeme_of lexeme
 returns-4 c =
     let b = c.before.before.before.before in
-    version_missing _ _ _ b.next.ensures b.before.if1.false _ (sym (c.before.is_plain.ensures _) ∙ c.if3.false)
+    version_missing _ _ _ b.next-t.ensures b.if-c-ne0.false _ (sym (c.is_plain.ensures _) ∙ c.if-is_plain.false)
 
-pub version-spec : {M : Type 1} → statement M
-version-spec =
-    tie.close
-    (tie.spec
-    returns
-    next-requires
-    is-keyword-requires
-    returns-2
-    is-plain-requires
-    returns-3
-    returns-4)
+pub version_spec : {M : Type 1} → statement M
+version_spec = tie.close (tie.spec returns next-requires is-keyword-requires returns-2 is-plain-requires returns-3 returns-4)

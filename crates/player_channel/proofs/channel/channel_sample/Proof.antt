@@ -12,31 +12,30 @@ use borrow.Author.Rules.{rules}
 use Rattle.player_channel.proofs.channel.channel_sample.Statement.{statement}
 use Rattle.player_channel.proofs.channel.channel_sample.Tie as tie
 
-is-asked-requires : tie.Need-is-asked-requires
+is-asked-requires : tie.Need-is_asked-requires
 is-asked-requires c κs = search rules
 
-told : (m : tie.After-is-asked) → let a = m.before.args in m.is-asked.result ≡ is_asked a.total a.at
-told m = m.is-asked.ensures ∙ ap (λ (z : ℤ). is_asked z m.before.args.at) (to_z-of_z m.before.ranges.total)
+told : (m : tie.After-is_asked) → let a = m.args in m.is_asked.result ≡ is_asked a.total a.at
+told m = m.is_asked.ensures ∙ ap (λ (z : ℤ). is_asked z m.args.at) (to_z-of_z m.ranges.total)
 
-asked : (e : tie.Else1) → let a = e.before.before.args in is_asked a.total a.at ≡ true
-asked e = sym (told e.before) ∙ not-false _ e.if1.false
+asked : (e : tie.Else-not-is_asked) → let a = e.args in is_asked a.total a.at ≡ true
+asked e = sym (told e.before) ∙ not-false _ e.if-not-is_asked.false-raw
 
-returns : tie.Need-returns
+returns : tie.Need-returns-then-not-is_asked
 unfolding numbered sampled
-returns c = ap numbered (not_asked _ _ _ _ (sym (told c.before) ∙ not-true _ c.if1.true))
+returns c = ap numbered (not_asked _ _ _ _ (sym (told c.before) ∙ not-true _ c.if-not-is_asked.true-raw))
 
-pass-over-requires : tie.Need-pass-over-requires
-pass-over-requires c κs = rw (to_z-of_z c.before.before.ranges.total) (key-rows _ _ _ (asked c))
+pass-over-requires : tie.Need-pass_over-requires
+pass-over-requires c κs = rw (to_z-of_z c.ranges.total) (key-rows _ _ _ (asked c))
 
-value-of-requires : tie.Need-value-of-requires
+value-of-requires : tie.Need-value_of-requires
 value-of-requires c κs = search rules
 
-returns-2 : tie.Need-returns-2
+returns-2 : tie.Need-returns
 returns-2 c =
     let e = c.before.before in
     let s = e.before.before in
-    c.value_of.ensures ∙ ap numbered ((rw (to_z-of_z s.ranges.total) at c.before.pass_over.ensures) ∙ played _ _ _ _ (asked e))
+    c.value_of.ensures ∙ ap numbered ((rw (to_z-of_z s.ranges.total) at c.pass_over.ensures) ∙ played _ _ _ _ (asked e))
 
-pub channel-sample-spec : {M : Type 1} → statement M
-channel-sample-spec =
-    tie.close (tie.spec is-asked-requires returns pass-over-requires value-of-requires returns-2)
+pub channel_sample_spec : {M : Type 1} → statement M
+channel_sample_spec = tie.close (tie.spec is-asked-requires returns pass-over-requires value-of-requires returns-2)

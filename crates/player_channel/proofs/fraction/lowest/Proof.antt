@@ -12,36 +12,35 @@ use borrow.Author.Rules.{rules}
 use Rattle.player_channel.proofs.fraction.lowest.Statement.{statement}
 use Rattle.player_channel.proofs.fraction.lowest.Tie as tie
 
-magnitude-requires : tie.Need-magnitude-requires
+magnitude-requires : tie.Need-magnitude-size-requires
 magnitude-requires c κs = search rules
 
-sized : (m : tie.After-magnitude) → m.magnitude.result ≡ nat_abs m.before.args.z
-sized m = m.magnitude.ensures ∙ ap nat_abs (to_z-of_z m.before.ranges.z)
+sized : (m : tie.After-magnitude-size) → m.magnitude-size.result ≡ nat_abs m.args.z
+sized m = m.magnitude-size.ensures ∙ ap nat_abs (to_z-of_z m.ranges.z)
 
-terms-requires : tie.Need-terms-requires
+terms-requires : tie.Need-terms-t-requires
 terms-requires c κs = let s = c.before in (s.requires.1, enough_200 _ _ (rw (sized c) s.requires.0) s.requires.1 s.requires.2)
 
 -- what is left of the steps
-left_is : (m : tie.After-terms) → let a = m.before.before.args in terms_left 200 (nat_abs a.z) a.d ≡ some m.terms.result.left
-left_is m = ap (λ (n : ℕ). terms_left 200 n m.before.before.args.d) (sym (sized m.before)) ∙ m.terms.ensures.2
+left_is : (m : tie.After-terms-t) → let a = m.args in terms_left 200 (nat_abs a.z) a.d ≡ some m.terms-t.result.left
+left_is m = ap (λ (n : ℕ). terms_left 200 n m.args.d) (sym (sized m.before)) ∙ m.terms-t.ensures.2
 
-cast-t7 : tie.Need-overflow-cast-t7
-cast-t7 c = let s = c.before.before.before in let t = c.before.terms.ensures in terms_fit _ _ _ _ _ s.ranges.z s.requires.0 c.before.before.magnitude.ensures t.0 t.1
+cast-t7 : tie.Need-overflow_cast-result
+cast-t7 c = let s = c.before.before.before in let t = c.terms-t.ensures in terms_fit _ _ _ _ _ s.ranges.z s.requires.0 c.magnitude-size.ensures t.0 t.1
 
-sub-t8 : tie.Need-overflow-sub-t8
-sub-t8 c = let s = c.before.before.before in let t = c.before.terms.ensures in negated_fits _ _ _ _ _ s.ranges.z s.requires.0 c.before.before.magnitude.ensures t.0 t.1
+sub-t8 : tie.Need-overflow_sub-result
+sub-t8 c = let s = c.before.before.before in let t = c.terms-t.ensures in negated_fits _ _ _ _ _ s.ranges.z s.requires.0 c.magnitude-size.ensures t.0 t.1
 
-returns : tie.Need-returns
+returns : tie.Need-returns-then-z-lt0
 unfolding ratio
-returns c = let s = c.before.before.before in let t = c.before.terms.ensures in (negative_terms _ _ _ _ _ s.ranges.z s.requires.0 c.before.before.magnitude.ensures t.0 t.1 c.if1.true, left_is c.before)
+returns c = let s = c.before.before.before in let t = c.terms-t.ensures in (negative_terms _ _ _ _ _ s.ranges.z s.requires.0 c.magnitude-size.ensures t.0 t.1 c.if-z-lt0.true, left_is c.before)
 
-cast-t9 : tie.Need-overflow-cast-t9
-cast-t9 c = let s = c.before.before.before in let t = c.before.terms.ensures in terms_fit _ _ _ _ _ s.ranges.z s.requires.0 c.before.before.magnitude.ensures t.0 t.1
+cast-t9 : tie.Need-overflow_cast-result-2
+cast-t9 c = let s = c.before.before.before in let t = c.terms-t.ensures in terms_fit _ _ _ _ _ s.ranges.z s.requires.0 c.magnitude-size.ensures t.0 t.1
 
-returns-2 : tie.Need-returns-2
+returns-2 : tie.Need-returns
 unfolding ratio
-returns-2 c = let s = c.before.before.before in let t = c.before.terms.ensures in (natural_terms _ _ _ _ _ s.ranges.z s.requires.0 c.before.before.magnitude.ensures t.0 t.1 c.if1.false, left_is c.before)
+returns-2 c = let s = c.before.before.before in let t = c.terms-t.ensures in (natural_terms _ _ _ _ _ s.ranges.z s.requires.0 c.magnitude-size.ensures t.0 t.1 c.if-z-lt0.false, left_is c.before)
 
-pub lowest-spec : {M : Type 1} → statement M
-lowest-spec =
-    tie.close (tie.spec magnitude-requires terms-requires cast-t7 sub-t8 returns cast-t9 returns-2)
+pub lowest_spec : {M : Type 1} → statement M
+lowest_spec = tie.close (tie.spec magnitude-requires terms-requires cast-t7 sub-t8 returns cast-t9 returns-2)

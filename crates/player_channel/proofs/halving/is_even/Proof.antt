@@ -11,5 +11,5 @@ returns : tie.Need-returns
 unfolding is_even
 returns c = ap (λ (n : ℕ). eqb n 0) (and_mask c.args.x 1)
 
-pub is-even-spec : {M : Type 1} → statement M
-is-even-spec = tie.close (tie.spec returns)
+pub is_even_spec : {M : Type 1} → statement M
+is_even_spec = tie.close (tie.spec returns)

@@ -28,122 +28,105 @@ use Rattle.player_corners.proofs.corners.row_corner.Tie as tie
 
 -- what was passed says of the row
 
-fine : (e : tie.Else1) → face_sound e.before.before.args.n e.before.before.args.row.now ≡ true
-fine e = sym e.before.face-sound.ensures ∙ not-false _ e.if1.false
+fine : (e : tie.Else-not-face_sound) → face_sound e.args.n e.args.row.now ≡ true
+fine e = sym e.face_sound.ensures ∙ not-false _ e.if-not-face_sound.false-raw
 
-size_fits : (m : tie.After-if22) → SFits w64 (face_size m.before.before.before.args.row.now)
-size_fits m = record { sfits = m.if22.given }
+size_fits : (m : tie.After-t19-1) → SFits w64 (face_size m.args.row.now)
+size_fits m = record { sfits = m.t19-1.given }
 
-used : (e : tie.Else2) → e.before.before.before.before.args.k < nat_abs (face_size e.before.before.before.before.args.row.now)
-used e = (let h = rw (to_z-of_z (size_fits e.before)) at e.if2.false in omega arith)
+used : (e : tie.Else-row-k) → e.args.k < nat_abs (face_size e.args.row.now)
+used e = (let h = rw (to_z-of_z (size_fits e.before)) at e.if-row-k.false in omega arith)
 
-below : (e : tie.Else2) → e.before.before.before.before.args.k < 4
+below : (e : tie.Else-row-k) → e.args.k < 4
 below e =
     let u = used e in
-    let s : nat_abs (face_size e.before.before.before.before.args.row.now) ≤ 4 = (face-size _ _ (fine e.before.before)).1 in
+    let s : nat_abs (face_size e.args.row.now) ≤ 4 = (face-size _ _ (fine e.before.before)).1 in
     omega arith
 
 -- the point is that of the corner's vertex
 
-vertex : (m : tie.After-face-vertex) → m.face_vertex.result.0 ≡ face_vertex m.before.before.before.before.before.before.args.row.now m.before.before.before.before.before.before.args.k
+vertex : (m : tie.After-face_vertex) → m.face_vertex.result.0 ≡ face_vertex m.args.row.now m.args.k
 vertex m = m.face_vertex.ensures ∙ corner-is 2 _ _ (below m.before.before)
 
-position : (m : tie.After-point-at) → let p = m.point_at.result in ◌≡◌ {A = List ℤ} (p.x ∷ p.y ∷ p.z ∷ []) (point_at m.before.before.before.before.before.before.before.args.n m.before.before.before.before.before.before.before.args.table.now (face_vertex m.before.before.before.before.before.before.before.args.row.now m.before.before.before.before.before.before.before.args.k))
-position m = m.point_at.ensures.0 ∙ ap (point_at m.before.before.before.before.before.before.before.args.n m.before.before.before.before.before.before.before.args.table.now) (vertex m.before)
+position : (m : tie.After-point_at-p) → let p = m.point_at-p.result in ◌≡◌ {A = List ℤ} (p.x ∷ p.y ∷ p.z ∷ []) (point_at m.args.n m.args.table.now (face_vertex m.args.row.now m.args.k))
+position m = m.point_at-p.ensures.position ∙ ap (point_at m.args.n m.args.table.now) (vertex m.before)
 
-owner : (m : tie.After-point-at) → m.point_at.result.owner ≡ owner_at m.before.before.before.before.before.before.before.args.n m.before.before.before.before.before.before.before.args.table.now (face_vertex m.before.before.before.before.before.before.before.args.row.now m.before.before.before.before.before.before.before.args.k)
-owner m = m.point_at.ensures.1.0 ∙ ap (owner_at m.before.before.before.before.before.before.before.args.n m.before.before.before.before.before.before.before.args.table.now) (vertex m.before)
+owner : (m : tie.After-point_at-p) → m.point_at-p.result.owner ≡ owner_at m.args.n m.args.table.now (face_vertex m.args.row.now m.args.k)
+owner m = m.point_at-p.ensures.owner.0 ∙ ap (owner_at m.args.n m.args.table.now) (vertex m.before)
 
-sound : (m : tie.After-point-at) → m.point_at.result.fine ≡ (all_float (point_at m.before.before.before.before.before.before.before.args.n m.before.before.before.before.before.before.before.args.table.now (face_vertex m.before.before.before.before.before.before.before.args.row.now m.before.before.before.before.before.before.before.args.k)) && is_index m.before.before.before.before.before.before.before.args.n.bones (owner_at m.before.before.before.before.before.before.before.args.n m.before.before.before.before.before.before.before.args.table.now (face_vertex m.before.before.before.before.before.before.before.args.row.now m.before.before.before.before.before.before.before.args.k)))
-sound m = m.point_at.ensures.1.1 ∙ ap₂ (λ (p : List ℤ) (o : ℤ). all_float p && is_index m.before.before.before.before.before.before.before.args.n.bones o) (position m) (owner m)
+sound : (m : tie.After-point_at-p) → m.point_at-p.result.fine ≡ (all_float (point_at m.args.n m.args.table.now (face_vertex m.args.row.now m.args.k)) && is_index m.args.n.bones (owner_at m.args.n m.args.table.now (face_vertex m.args.row.now m.args.k)))
+sound m = m.point_at-p.ensures.owner.1 ∙ ap₂ (λ (p : List ℤ) (o : ℤ). all_float p && is_index m.args.n.bones o) (position m) (owner m)
 
-point-sound : (e : tie.Else3) → (all_float (point_at e.before.before.before.before.before.before.before.before.before.before.before.before.before.args.n e.before.before.before.before.before.before.before.before.before.before.before.before.before.args.table.now (face_vertex e.before.before.before.before.before.before.before.before.before.before.before.before.before.args.row.now e.before.before.before.before.before.before.before.before.before.before.before.before.before.args.k)) && is_index e.before.before.before.before.before.before.before.before.before.before.before.before.before.args.n.bones (owner_at e.before.before.before.before.before.before.before.before.before.before.before.before.before.args.n e.before.before.before.before.before.before.before.before.before.before.before.before.before.args.table.now (face_vertex e.before.before.before.before.before.before.before.before.before.before.before.before.before.args.row.now e.before.before.before.before.before.before.before.before.before.before.before.before.before.args.k))) ≡ true
-point-sound e = sym (sound e.before.before.before.before.before.before) ∙ not-false _ e.if3.false
+point-sound : (e : tie.Else-not-p) → (all_float (point_at e.args.n e.args.table.now (face_vertex e.args.row.now e.args.k)) && is_index e.args.n.bones (owner_at e.args.n e.args.table.now (face_vertex e.args.row.now e.args.k))) ≡ true
+point-sound e = sym (sound e.before.before.before.before.before.before) ∙ not-false _ e.if-not-p.false
 
 -- and the texture coordinate that of its number
 
-uv : (m : tie.After-face-uv) → m.face-uv.result.0 ≡ face_uv m.before.before.before.before.before.before.before.before.before.before.before.before.before.before.args.row.now m.before.before.before.before.before.before.before.before.before.before.before.before.before.before.args.k
-uv m = m.face-uv.ensures ∙ corner-is 6 _ _ (below m.before.before.before.before.before.before.before.before.before.before)
+uv : (m : tie.After-face_uv-t) → m.face_uv-t.result.0 ≡ face_uv m.args.row.now m.args.k
+uv m = m.face_uv-t.ensures ∙ corner-is 6 _ _ (below m.before.before.before.before.before.before.before.before.before.before)
 
-none_told : (m : tie.After-is-none) → m.is_none.result ≡ is_none (face_uv m.before.before.before.before.before.before.before.before.before.before.before.before.before.before.before.before.args.row.now m.before.before.before.before.before.before.before.before.before.before.before.before.before.before.before.before.args.k)
-none_told m = tested is_none m.before.before.face-uv.result.0 (record { sfits = m.before.struct-told5.given.0.1 }) m.is_none.ensures ∙ ap is_none (uv m.before.before)
+none_told : (m : tie.After-is_none) → m.is_none.result ≡ is_none (face_uv m.args.row.now m.args.k)
+none_told m = tested is_none m.face_uv-t.result.0 (record { sfits = m.struct_told-5-1.given.0.1 }) m.is_none.ensures ∙ ap is_none (uv m.before.before)
 
-some_uv : (e : tie.Else4) → is_none (face_uv e.before.before.before.before.before.before.before.before.before.before.before.before.before.before.before.before.before.args.row.now e.before.before.before.before.before.before.before.before.before.before.before.before.before.before.before.before.before.args.k) ≡ false
-some_uv e = sym (none_told e.before) ∙ e.if4.false
+some_uv : (e : tie.Else-is_none) → is_none (face_uv e.args.row.now e.args.k) ≡ false
+some_uv e = sym (none_told e.before) ∙ e.if-is_none.false
 
-uv-numbers : (m : tie.After-uv-at) → let p = m.uv-at.result in ◌≡◌ {A = List ℤ} (p.u ∷ p.v ∷ []) (uv_row m.before.before.before.before.before.before.before.before.before.before.before.before.before.before.before.before.before.before.args.n m.before.before.before.before.before.before.before.before.before.before.before.before.before.before.before.before.before.before.args.table.now (face_uv m.before.before.before.before.before.before.before.before.before.before.before.before.before.before.before.before.before.before.args.row.now m.before.before.before.before.before.before.before.before.before.before.before.before.before.before.before.before.before.before.args.k))
-uv-numbers m = m.uv-at.ensures.0 ∙ ap (uv_row m.before.before.before.before.before.before.before.before.before.before.before.before.before.before.before.before.before.before.args.n m.before.before.before.before.before.before.before.before.before.before.before.before.before.before.before.before.before.before.args.table.now) (uv m.before.before.before.before)
+uv-numbers : (m : tie.After-uv_at-c) → let p = m.uv_at-c.result in ◌≡◌ {A = List ℤ} (p.u ∷ p.v ∷ []) (uv_row m.args.n m.args.table.now (face_uv m.args.row.now m.args.k))
+uv-numbers m = m.uv_at-c.ensures.numbers ∙ ap (uv_row m.args.n m.args.table.now) (uv m.before.before.before.before)
 
-uv-sound : (m : tie.After-uv-at) → m.uv-at.result.fine ≡ all_float (uv_row m.before.before.before.before.before.before.before.before.before.before.before.before.before.before.before.before.before.before.args.n m.before.before.before.before.before.before.before.before.before.before.before.before.before.before.before.before.before.before.args.table.now (face_uv m.before.before.before.before.before.before.before.before.before.before.before.before.before.before.before.before.before.before.args.row.now m.before.before.before.before.before.before.before.before.before.before.before.before.before.before.before.before.before.before.args.k))
-uv-sound m = m.uv-at.ensures.1 ∙ ap all_float (uv-numbers m)
+uv-sound : (m : tie.After-uv_at-c) → m.uv_at-c.result.fine ≡ all_float (uv_row m.args.n m.args.table.now (face_uv m.args.row.now m.args.k))
+uv-sound m = m.uv_at-c.ensures.sound ∙ ap all_float (uv-numbers m)
 
-face-sound-requires : tie.Need-face-sound-requires
+face-sound-requires : tie.Need-face_sound-requires
 face-sound-requires c κs = search rules
 
-returns : tie.Need-returns
+returns : tie.Need-returns-then-not-face_sound
 unfolding numbered cornered
-returns c = ap numbered (row_broken _ _ _ _ (sym c.before.face-sound.ensures ∙ not-true _ c.if1.true))
+returns c = ap numbered (row_broken _ _ _ _ (sym c.face_sound.ensures ∙ not-true _ c.if-not-face_sound.true-raw))
 
-shared-slice-copy-out-if2 : tie.Need-shared-slice-copy-out-if2
+shared-slice-copy-out-if2 : tie.Need-bounds-row-1
 shared-slice-copy-out-if2 c = search rules
 
-cast-if2 : tie.Need-overflow-cast-if2
+cast-if2 : tie.Need-overflow_cast-row
 cast-if2 c = natural_cast _ (size_fits c) (face-size _ _ (fine c.before)).0
 
-returns-2 : tie.Need-returns-2
+returns-2 : tie.Need-returns-then-row-k
 unfolding numbered cornered
-returns-2 c = ap numbered (no_corner _ _ _ _ (fine c.before.before) (rw (to_z-of_z (size_fits c.before)) at c.if2.true))
+returns-2 c = ap numbered (no_corner _ _ _ _ (fine c.before.before) (rw (to_z-of_z (size_fits c.before)) at c.if-row-k.true))
 
-shared-slice-copy-out-material : tie.Need-shared-slice-copy-out-material
+shared-slice-copy-out-material : tie.Need-bounds-row-0
 shared-slice-copy-out-material c = search rules
 
-face-vertex-requires : tie.Need-face-vertex-requires
+face-vertex-requires : tie.Need-face_vertex-requires
 face-vertex-requires c κs = search rules
 
-point-at-requires : tie.Need-point-at-requires
-point-at-requires c κs = (c.before.before.before.before.before.before.requires.0, ap (is_row c.before.before.before.before.before.before.args.n.points) (vertex c) ∙ face_vertex_lem _ _ (fine c.before.before.before.before) c.before.before.before.before.before.before.requires.1 _ (used c.before.before))
+point-at-requires : tie.Need-point_at-p-requires
+point-at-requires c κs = (c.requires.0, ap (is_row c.args.n.points) (vertex c) ∙ face_vertex_lem _ _ (fine c.before.before.before.before) c.requires.1 _ (used c.before.before))
 
-returns-3 : tie.Need-returns-3
+returns-3 : tie.Need-returns-then-not-p
 unfolding numbered cornered
-returns-3 c = ap numbered (point_broken _ _ _ _ (fine c.before.before.before.before.before.before.before.before.before.before.before) (used c.before.before.before.before.before.before.before.before.before) (sym (sound c.before.before.before.before.before.before) ∙ not-true _ c.if3.true))
+returns-3 c = ap numbered (point_broken _ _ _ _ (fine c.before.before.before.before.before.before.before.before.before.before.before) (used c.before.before.before.before.before.before.before.before.before) (sym (sound c.before.before.before.before.before.before) ∙ not-true _ c.if-not-p.true))
 
-face-uv-requires : tie.Need-face-uv-requires
+face-uv-requires : tie.Need-face_uv-t-requires
 face-uv-requires c κs = search rules
 
-is-none-requires : tie.Need-is-none-requires
+is-none-requires : tie.Need-is_none-requires
 is-none-requires c κs = search rules
 
-returns-4 : tie.Need-returns-4
+returns-4 : tie.Need-returns-then-is_none
 unfolding numbered cornered
-returns-4 c = ap numbered (ap some (corner-same none (three-same (to_z-of_z (record { sfits = c.before.before.before.before.before.before.before.before.before.struct_told.given.1.0.1 })) (to_z-of_z (record { sfits = c.before.before.before.before.before.before.before.before.struct-told2.given.1.1.0.1 })) (to_z-of_z (record { sfits = c.before.before.before.before.before.before.before.struct-told3.given.1.1.1.0.1 })) ∙ position c.before.before.before.before.before.before.before.before.before.before) (to_z-of_z (record { sfits = c.before.before.before.before.before.before.struct-told4.given.1.1.1.1.0.1 }) ∙ owner c.before.before.before.before.before.before.before.before.before.before) (to_z-of_z {w = w64} {z = face_material c.before.before.before.before.before.before.before.before.before.before.before.before.before.before.before.before.before.args.row.now} (record { sfits = c.before.before.before.before.before.before.before.before.before.before.before.before.material.given }))) ∙ plain _ _ _ _ (fine c.before.before.before.before.before.before.before.before.before.before.before.before.before.before.before) (used c.before.before.before.before.before.before.before.before.before.before.before.before.before) (point-sound c.before.before.before.before) (sym (none_told c.before) ∙ c.if4.true))
+returns-4 c = ap numbered (ap some (corner-same none (three-same (to_z-of_z (record { sfits = c.struct_told-1.given.1.0.1 })) (to_z-of_z (record { sfits = c.struct_told-2-1.given.1.1.0.1 })) (to_z-of_z (record { sfits = c.struct_told-3-1.given.1.1.1.0.1 })) ∙ position c.before.before.before.before.before.before.before.before.before.before) (to_z-of_z (record { sfits = c.struct_told-4-1.given.1.1.1.1.0.1 }) ∙ owner c.before.before.before.before.before.before.before.before.before.before) (to_z-of_z {w = w64} {z = face_material c.args.row.now} (record { sfits = c.material-1.given }))) ∙ plain _ _ _ _ (fine c.before.before.before.before.before.before.before.before.before.before.before.before.before.before.before) (used c.before.before.before.before.before.before.before.before.before.before.before.before.before) (point-sound c.before.before.before.before) (sym (none_told c.before) ∙ c.if-is_none.true))
 
-uv-at-requires : tie.Need-uv-at-requires
-uv-at-requires c κs = (c.before.before.before.before.before.before.before.before.before.before.before.before.before.before.before.before.before.requires.0, ap (is_row c.before.before.before.before.before.before.before.before.before.before.before.before.before.before.before.before.before.args.n.uvs) (uv c.before.before.before) ∙ face-uv _ _ (fine c.before.before.before.before.before.before.before.before.before.before.before.before.before.before.before) c.before.before.before.before.before.before.before.before.before.before.before.before.before.before.before.before.before.requires.1 _ (used c.before.before.before.before.before.before.before.before.before.before.before.before.before) (some_uv c))
+uv-at-requires : tie.Need-uv_at-c-requires
+uv-at-requires c κs = (c.requires.0, ap (is_row c.args.n.uvs) (uv c.before.before.before) ∙ face-uv _ _ (fine c.before.before.before.before.before.before.before.before.before.before.before.before.before.before.before) c.requires.1 _ (used c.before.before.before.before.before.before.before.before.before.before.before.before.before) (some_uv c))
 
-returns-5 : tie.Need-returns-5
+returns-5 : tie.Need-returns-then-not-c
 unfolding numbered cornered
-returns-5 c = ap numbered (uv_broken _ _ _ _ (fine c.before.before.before.before.before.before.before.before.before.before.before.before.before.before.before.before.before.before.before.before) (used c.before.before.before.before.before.before.before.before.before.before.before.before.before.before.before.before.before.before) (point-sound c.before.before.before.before.before.before.before.before.before) (some_uv c.before.before.before.before.before) (sym (uv-sound c.before.before.before.before) ∙ not-true _ c.if5.true))
+returns-5 c = ap numbered (uv_broken _ _ _ _ (fine c.before.before.before.before.before.before.before.before.before.before.before.before.before.before.before.before.before.before.before.before) (used c.before.before.before.before.before.before.before.before.before.before.before.before.before.before.before.before.before.before) (point-sound c.before.before.before.before.before.before.before.before.before) (some_uv c.before.before.before.before.before) (sym (uv-sound c.before.before.before.before) ∙ not-true _ c.if-not-c.true))
 
-returns-6 : tie.Need-returns-6
+returns-6 : tie.Need-returns
 unfolding numbered cornered
-returns-6 c = ap numbered (ap some (corner-same _ (three-same (to_z-of_z (record { sfits = c.before.before.before.before.before.before.before.before.before.before.before.before.before.before.struct_told.given.1.0.1 })) (to_z-of_z (record { sfits = c.before.before.before.before.before.before.before.before.before.before.before.before.before.struct-told2.given.1.1.0.1 })) (to_z-of_z (record { sfits = c.before.before.before.before.before.before.before.before.before.before.before.before.struct-told3.given.1.1.1.0.1 })) ∙ position c.before.before.before.before.before.before.before.before.before.before.before.before.before.before.before) (to_z-of_z (record { sfits = c.before.before.before.before.before.before.before.before.before.before.before.struct-told4.given.1.1.1.1.0.1 }) ∙ owner c.before.before.before.before.before.before.before.before.before.before.before.before.before.before.before) (to_z-of_z {w = w64} {z = face_material c.before.before.before.before.before.before.before.before.before.before.before.before.before.before.before.before.before.before.before.before.before.before.args.row.now} (record { sfits = c.before.before.before.before.before.before.before.before.before.before.before.before.before.before.before.before.before.material.given })) ∙ ap (textured_with _ _ _) (two_same (to_z-of_z (record { sfits = c.before.before.before.struct-told6.given.1.0.1 })) (to_z-of_z (record { sfits = c.before.before.struct-told7.given.1.1.0.1 })) ∙ uv-numbers c.before.before.before.before)) ∙ textured _ _ _ _ (fine c.before.before.before.before.before.before.before.before.before.before.before.before.before.before.before.before.before.before.before.before) (used c.before.before.before.before.before.before.before.before.before.before.before.before.before.before.before.before.before.before) (point-sound c.before.before.before.before.before.before.before.before.before) (some_uv c.before.before.before.before.before) (sym (uv-sound c.before.before.before.before) ∙ not-false _ c.if5.false))
+returns-6 c = ap numbered (ap some (corner-same _ (three-same (to_z-of_z (record { sfits = c.struct_told-1.given.1.0.1 })) (to_z-of_z (record { sfits = c.struct_told-2-1.given.1.1.0.1 })) (to_z-of_z (record { sfits = c.struct_told-3-1.given.1.1.1.0.1 })) ∙ position c.before.before.before.before.before.before.before.before.before.before.before.before.before.before.before) (to_z-of_z (record { sfits = c.struct_told-4-1.given.1.1.1.1.0.1 }) ∙ owner c.before.before.before.before.before.before.before.before.before.before.before.before.before.before.before) (to_z-of_z {w = w64} {z = face_material c.args.row.now} (record { sfits = c.material-1.given })) ∙ ap (textured_with _ _ _) (two_same (to_z-of_z (record { sfits = c.struct_told-6-1.given.1.0.1 })) (to_z-of_z (record { sfits = c.struct_told-7-1.given.1.1.0.1 })) ∙ uv-numbers c.before.before.before.before)) ∙ textured _ _ _ _ (fine c.before.before.before.before.before.before.before.before.before.before.before.before.before.before.before.before.before.before.before.before) (used c.before.before.before.before.before.before.before.before.before.before.before.before.before.before.before.before.before.before) (point-sound c.before.before.before.before.before.before.before.before.before) (some_uv c.before.before.before.before.before) (sym (uv-sound c.before.before.before.before) ∙ not-false _ c.if-not-c.false))
 
-pub row-corner-spec : {M : Type 1} → statement M
-row-corner-spec =
-    tie.close
-    (tie.spec
-    face-sound-requires
-    returns
-    shared-slice-copy-out-if2
-    cast-if2
-    returns-2
-    shared-slice-copy-out-material
-    face-vertex-requires
-    point-at-requires
-    returns-3
-    face-uv-requires
-    is-none-requires
-    returns-4
-    uv-at-requires
-    returns-5
-    returns-6)
+pub row_corner_spec : {M : Type 1} → statement M
+row_corner_spec = tie.close (tie.spec face-sound-requires returns shared-slice-copy-out-if2 cast-if2 returns-2 shared-slice-copy-out-material face-vertex-requires point-at-requires returns-3 face-uv-requires is-none-requires returns-4 uv-at-requires returns-5 returns-6)

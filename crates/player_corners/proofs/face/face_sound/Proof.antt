@@ -20,111 +20,89 @@ use Rattle.player_corners.proofs.face.face_sound.Tie as tie
 
 -- what each test that was passed says of its column
 
-fits : (m : tie.After-size) → SFits w64 (get_or m.before.before.before.before.args.row.now 1 (pos 0))
-fits m = record { sfits = m.size.given }
+fits : (m : tie.After-size-1) → SFits w64 (get_or m.args.row.now 1 (pos 0))
+fits m = record { sfits = m.size-1.given }
 
-row_told : (m : tie.After-is-row) → m.is_row.result ≡ is_row m.before.before.args.n.materials (get_or m.before.before.args.row.now 0 (pos 0))
-row_told m = tested (is_row _) _ (record { sfits = m.before.is-row-arg.given }) m.is_row.ensures
+row_told : (m : tie.After-is_row) → m.is_row.result ≡ is_row m.args.n.materials (get_or m.args.row.now 0 (pos 0))
+row_told m = tested (is_row _) _ (record { sfits = m.is_row-arg-1.given }) m.is_row.ensures
 
-size-told : (m : tie.After-size-fine) → m.size-fine.result ≡ size_fine (get_or m.before.before.before.before.before.args.row.now 1 (pos 0))
-size-told m = tested size_fine _ (fits m.before) m.size-fine.ensures
+size-told : (m : tie.After-size_fine) → m.size_fine.result ≡ size_fine (get_or m.args.row.now 1 (pos 0))
+size-told m = tested size_fine _ (fits m.before) m.size_fine.ensures
 
-vertices-told : (m : tie.After-corners-fine) → m.corners-fine.result ≡ corners_fine m.before.before.before.before.before.before.before.before.args.n.points (nat_abs (get_or m.before.before.before.before.before.before.before.before.args.row.now 1 (pos 0))) (take 4 (drop 2 m.before.before.before.before.before.before.before.before.args.row.now))
-vertices-told m = m.corners-fine.ensures ∙ ap (λ (z : ℤ). corners_fine m.before.before.before.before.before.before.before.before.args.n.points (nat_abs z) (take 4 (drop 2 m.before.before.before.before.before.before.before.before.args.row.now))) (to_z-of_z (fits m.before.before.before.before))
+vertices-told : (m : tie.After-corners_fine) → m.corners_fine.result ≡ corners_fine m.args.n.points (nat_abs (get_or m.args.row.now 1 (pos 0))) (take 4 (drop 2 m.args.row.now))
+vertices-told m = m.corners_fine.ensures ∙ ap (λ (z : ℤ). corners_fine m.args.n.points (nat_abs z) (take 4 (drop 2 m.args.row.now))) (to_z-of_z (fits m.before.before.before.before))
 
-uvs-told : (m : tie.After-uvs-fine) → m.uvs-fine.result ≡ (all_none (take 4 (drop 6 m.before.before.before.before.before.before.before.before.before.before.before.args.row.now)) || corners_fine m.before.before.before.before.before.before.before.before.before.before.before.args.n.uvs (nat_abs (get_or m.before.before.before.before.before.before.before.before.before.before.before.args.row.now 1 (pos 0))) (take 4 (drop 6 m.before.before.before.before.before.before.before.before.before.before.before.args.row.now)))
-uvs-told m = m.uvs-fine.ensures ∙ ap (λ (z : ℤ). all_none (take 4 (drop 6 m.before.before.before.before.before.before.before.before.before.before.before.args.row.now)) || corners_fine m.before.before.before.before.before.before.before.before.before.before.before.args.n.uvs (nat_abs z) (take 4 (drop 6 m.before.before.before.before.before.before.before.before.before.before.before.args.row.now))) (to_z-of_z (fits m.before.before.before.before.before.before.before))
+uvs-told : (m : tie.After-uvs_fine) → m.uvs_fine.result ≡ (all_none (take 4 (drop 6 m.args.row.now)) || corners_fine m.args.n.uvs (nat_abs (get_or m.args.row.now 1 (pos 0))) (take 4 (drop 6 m.args.row.now)))
+uvs-told m = m.uvs_fine.ensures ∙ ap (λ (z : ℤ). all_none (take 4 (drop 6 m.args.row.now)) || corners_fine m.args.n.uvs (nat_abs z) (take 4 (drop 6 m.args.row.now))) (to_z-of_z (fits m.before.before.before.before.before.before.before))
 
-material : (e : tie.Else1) → is_row e.before.before.before.args.n.materials (get_or e.before.before.before.args.row.now 0 (pos 0)) ≡ true
-material e = sym (row_told e.before) ∙ not-false _ e.if1.false
+material : (e : tie.Else-not-is_row) → is_row e.args.n.materials (get_or e.args.row.now 0 (pos 0)) ≡ true
+material e = sym (row_told e.before) ∙ not-false _ e.if-not-is_row.false-raw
 
-size : (e : tie.Else2) → size_fine (get_or e.before.before.before.before.before.before.args.row.now 1 (pos 0)) ≡ true
-size e = sym (size-told e.before) ∙ not-false _ e.if2.false
+size : (e : tie.Else-not-size_fine) → size_fine (get_or e.args.row.now 1 (pos 0)) ≡ true
+size e = sym (size-told e.before) ∙ not-false _ e.if-not-size_fine.false-raw
 
-vertices : (e : tie.Else3) → corners_fine e.before.before.before.before.before.before.before.before.before.args.n.points (nat_abs (get_or e.before.before.before.before.before.before.before.before.before.args.row.now 1 (pos 0))) (take 4 (drop 2 e.before.before.before.before.before.before.before.before.before.args.row.now)) ≡ true
-vertices e = sym (vertices-told e.before) ∙ not-false _ e.if3.false
+vertices : (e : tie.Else-not-corners_fine) → corners_fine e.args.n.points (nat_abs (get_or e.args.row.now 1 (pos 0))) (take 4 (drop 2 e.args.row.now)) ≡ true
+vertices e = sym (vertices-told e.before) ∙ not-false _ e.if-not-corners_fine.false-raw
 
-shared-slice-copy-out-is-row : tie.Need-shared-slice-copy-out-is-row
+shared-slice-copy-out-is-row : tie.Need-bounds-row-0
 shared-slice-copy-out-is-row c = search rules
 
-is-row-requires : tie.Need-is-row-requires
+is-row-requires : tie.Need-is_row-requires
 is-row-requires c κs = search rules
 
-returns : tie.Need-returns
-returns c = no_material _ _ (sym (row_told c.before) ∙ not-true _ c.if1.true)
+returns : tie.Need-returns-then-not-is_row
+returns c = no_material _ _ (sym (row_told c.before) ∙ not-true _ c.if-not-is_row.true-raw)
 
-shared-slice-copy-out-size : tie.Need-shared-slice-copy-out-size
+shared-slice-copy-out-size : tie.Need-bounds-row-1
 shared-slice-copy-out-size c = search rules
 
-size-fine-requires : tie.Need-size-fine-requires
+size-fine-requires : tie.Need-size_fine-requires
 size-fine-requires c κs = search rules
 
-returns-2 : tie.Need-returns-2
-returns-2 c = no_size _ _ (material c.before.before.before) (sym (size-told c.before) ∙ not-true _ c.if2.true)
+returns-2 : tie.Need-returns-then-not-size_fine
+returns-2 c = no_size _ _ (material c.before.before.before) (sym (size-told c.before) ∙ not-true _ c.if-not-size_fine.true-raw)
 
-cast-used : tie.Need-overflow-cast-used
+cast-used : tie.Need-overflow_cast-used
 cast-used c = natural_cast _ (fits c.before.before) (size_is _ (size c)).0
 
-sub-corners-fine : tie.Need-overflow-sub-corners-fine
+sub-corners-fine : tie.Need-slice_bounds-corners_fine-count
 sub-corners-fine c = search rules
 
-part-corners-fine-start : tie.Need-slice-bounds-corners-fine-start
+part-corners-fine-start : tie.Need-slice_bounds-corners_fine-start
 part-corners-fine-start c = search rules
 
-part-corners-fine-end : tie.Need-slice-bounds-corners-fine-end
+part-corners-fine-end : tie.Need-slice_bounds-corners_fine-end
 part-corners-fine-end c = search rules
 
-corners-fine-requires : tie.Need-corners-fine-requires
+corners-fine-requires : tie.Need-corners_fine-requires
 corners-fine-requires c κs = search rules
 
-returns-3 : tie.Need-returns-3
-returns-3 c = no_vertices _ _ (material c.before.before.before.before.before.before) (size c.before.before.before) (sym (vertices-told c.before) ∙ not-true _ c.if3.true)
+returns-3 : tie.Need-returns-then-not-corners_fine
+returns-3 c = no_vertices _ _ (material c.before.before.before.before.before.before) (size c.before.before.before) (sym (vertices-told c.before) ∙ not-true _ c.if-not-corners_fine.true-raw)
 
-sub-uvs-fine : tie.Need-overflow-sub-uvs-fine
+sub-uvs-fine : tie.Need-slice_bounds-uvs_fine-count
 sub-uvs-fine c = search rules
 
-part-uvs-fine-start : tie.Need-slice-bounds-uvs-fine-start
+part-uvs-fine-start : tie.Need-slice_bounds-uvs_fine-start
 part-uvs-fine-start c = search rules
 
-part-uvs-fine-end : tie.Need-slice-bounds-uvs-fine-end
+part-uvs-fine-end : tie.Need-slice_bounds-uvs_fine-end
 part-uvs-fine-end c = search rules
 
-uvs-fine-requires : tie.Need-uvs-fine-requires
+uvs-fine-requires : tie.Need-uvs_fine-requires
 uvs-fine-requires c κs = search rules
 
-returns-4 : tie.Need-returns-4
-returns-4 c = no_uvs _ _ (material c.before.before.before.before.before.before.before.before.before) (size c.before.before.before.before.before.before) (vertices c.before.before.before) (sym (uvs-told c.before) ∙ not-true _ c.if4.true)
+returns-4 : tie.Need-returns-then-not-uvs_fine
+returns-4 c = no_uvs _ _ (material c.before.before.before.before.before.before.before.before.before) (size c.before.before.before.before.before.before) (vertices c.before.before.before) (sym (uvs-told c.before) ∙ not-true _ c.if-not-uvs_fine.true-raw)
 
-shared-slice-copy-out-is-index : tie.Need-shared-slice-copy-out-is-index
+shared-slice-copy-out-is-index : tie.Need-bounds-row-10
 shared-slice-copy-out-is-index c = search rules
 
-is-index-requires : tie.Need-is-index-requires
+is-index-requires : tie.Need-is_index-requires
 is-index-requires c κs = search rules
 
-returns-5 : tie.Need-returns-5
-returns-5 c = tested (is_index _) _ (record { sfits = c.before.is-index-arg.given }) c.is-index.ensures ∙ by_group _ _ (material c.before.before.before.before.before.before.before.before.before.before.before) (size c.before.before.before.before.before.before.before.before) (vertices c.before.before.before.before.before) (sym (uvs-told c.before.before.before) ∙ not-false _ c.before.before.if4.false)
+returns-5 : tie.Need-returns
+returns-5 c = tested (is_index _) _ (record { sfits = c.is_index-arg-1.given }) c.is_index.ensures ∙ by_group _ _ (material c.before.before.before.before.before.before.before.before.before.before.before) (size c.before.before.before.before.before.before.before.before) (vertices c.before.before.before.before.before) (sym (uvs-told c.before.before.before) ∙ not-false _ c.if-not-uvs_fine.false-raw)
 
-pub face-sound-spec : {M : Type 1} → statement M
-face-sound-spec =
-    tie.close
-    (tie.spec
-    shared-slice-copy-out-is-row
-    is-row-requires
-    returns
-    shared-slice-copy-out-size
-    size-fine-requires
-    returns-2
-    cast-used
-    sub-corners-fine
-    part-corners-fine-start
-    part-corners-fine-end
-    corners-fine-requires
-    returns-3
-    sub-uvs-fine
-    part-uvs-fine-start
-    part-uvs-fine-end
-    uvs-fine-requires
-    returns-4
-    shared-slice-copy-out-is-index
-    is-index-requires
-    returns-5)
+pub face_sound_spec : {M : Type 1} → statement M
+face_sound_spec = tie.close (tie.spec shared-slice-copy-out-is-row is-row-requires returns shared-slice-copy-out-size size-fine-requires returns-2 cast-used sub-corners-fine part-corners-fine-start part-corners-fine-end corners-fine-requires returns-3 sub-uvs-fine part-uvs-fine-start part-uvs-fine-end uvs-fine-requires returns-4 shared-slice-copy-out-is-index is-index-requires returns-5)

@@ -6,18 +6,17 @@ use borrow.Author.Rules.{rules}
 use Rattle.player_corners.proofs.face.uvs_fine.Statement.{statement}
 use Rattle.player_corners.proofs.face.uvs_fine.Tie as tie
 
-corners-fine-requires : tie.Need-corners-fine-requires
+corners-fine-requires : tie.Need-corners_fine-requires
 corners-fine-requires c κs = search rules
 
-returns : tie.Need-returns
-returns c = sym (either _ (c.before.corners-fine.ensures ∙ none_used _ _) c.if1.true)
+returns : tie.Need-returns-then-corners_fine
+returns c = sym (either _ (c.corners_fine.ensures ∙ none_used _ _) c.if-corners_fine.true)
 
-corners-fine-requires-2 : tie.Need-corners-fine-requires-2
+corners-fine-requires-2 : tie.Need-corners_fine-requires-2
 corners-fine-requires-2 c κs = search rules
 
-returns-2 : tie.Need-returns-2
-returns-2 c = c.corners-fine2.ensures ∙ sym (other _ (c.before.before.corners-fine.ensures ∙ none_used _ _) c.before.if1.false)
+returns-2 : tie.Need-returns
+returns-2 c = c.corners_fine-2.ensures ∙ sym (other _ (c.corners_fine.ensures ∙ none_used _ _) c.if-corners_fine.false)
 
-pub uvs-fine-spec : {M : Type 1} → statement M
-uvs-fine-spec =
-    tie.close (tie.spec corners-fine-requires returns corners-fine-requires-2 returns-2)
+pub uvs_fine_spec : {M : Type 1} → statement M
+uvs_fine_spec = tie.close (tie.spec corners-fine-requires returns corners-fine-requires-2 returns-2)

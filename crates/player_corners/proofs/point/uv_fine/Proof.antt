@@ -7,19 +7,19 @@ use borrow.Author.Rules.{rules}
 use Rattle.player_corners.proofs.point.uv_fine.Statement.{statement}
 use Rattle.player_corners.proofs.point.uv_fine.Tie as tie
 
-is-float-requires : tie.Need-is-float-requires
+is-float-requires : tie.Need-is_float-requires
 is-float-requires c κs = search rules
 
-returns : tie.Need-returns
+returns : tie.Need-returns-then-not-is_float
 unfolding all_float
-returns c = sym (failed _ (tested is_float _ c.before.before.ranges.u c.before.is-float.ensures) c.if1.true)
+returns c = sym (failed _ (tested is_float _ c.ranges.u c.is_float.ensures) c.if-not-is_float.true-raw)
 
-is-float-requires-2 : tie.Need-is-float-requires-2
+is-float-requires-2 : tie.Need-is_float-requires-2
 is-float-requires-2 c κs = search rules
 
-returns-2 : tie.Need-returns-2
+returns-2 : tie.Need-returns
 unfolding all_float
-returns-2 c = tested is_float _ c.before.before.before.ranges.v c.is-float2.ensures ∙ sym (passed _ (tested is_float _ c.before.before.before.ranges.u c.before.before.is-float.ensures) c.before.if1.false ∙ and_last _)
+returns-2 c = tested is_float _ c.ranges.v c.is_float-2.ensures ∙ sym (passed _ (tested is_float _ c.ranges.u c.is_float.ensures) c.if-not-is_float.false-raw ∙ and_last _)
 
-pub uv-fine-spec : {M : Type 1} → statement M
-uv-fine-spec = tie.close (tie.spec is-float-requires returns is-float-requires-2 returns-2)
+pub uv_fine_spec : {M : Type 1} → statement M
+uv_fine_spec = tie.close (tie.spec is-float-requires returns is-float-requires-2 returns-2)

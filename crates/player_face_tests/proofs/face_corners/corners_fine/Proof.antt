@@ -14,68 +14,55 @@ use borrow.Author.Rules.{rules}
 use Rattle.player_face_tests.proofs.face_corners.corners_fine.Statement.{statement}
 use Rattle.player_face_tests.proofs.face_corners.corners_fine.Tie as tie
 
-abbrev invariant-loop : tie.invariant-loop
+abbrev invariant-loop : tie.invariant-loop-i
 invariant-loop corners n used i₀ i = (corners_fine n used corners ≡ corners_fine n (used - i) (drop i corners)) × (i ≤ length corners)
 
-abbrev decreases-loop : tie.decreases-loop
+abbrev decreases-loop : tie.decreases-loop-i
 decreases-loop corners n used i₀ i = length corners - i
 
-loop-holds : tie.Need-loop-init invariant-loop decreases-loop
+loop-holds : tie.Need-loop-i-init invariant-loop decreases-loop
 loop-holds c =
     let a = c.args in
     let e : a.used ≡ a.used - 0 = omega arith in
     (ap (λ (u : ℕ). corners_fine a.n u a.corners.now) e, omega arith)
 
 -- what the call says of the corner
-told : (m : tie.After-corner-fine invariant-loop decreases-loop) → let a = m.before.before.before.before.args in let i = m.before.before.before.loop.i in m.corner-fine.result ≡ cond (ltb i a.used) (is_row a.n (get_or a.corners.now i (pos 0))) (is_none (get_or a.corners.now i (pos 0)))
+told : (m : tie.After-corner_fine invariant-loop decreases-loop) → let a = m.args in let i = m.loop-i.i in m.corner_fine.result ≡ cond (ltb i a.used) (is_row a.n (get_or a.corners.now i (pos 0))) (is_none (get_or a.corners.now i (pos 0)))
 told m =
-    let a = m.before.before.before.before.args in
-    let i = m.before.before.before.loop.i in
-    tested (λ (z : ℤ). cond (ltb i a.used) (is_row a.n z) (is_none z)) (get_or a.corners.now i (pos 0)) (record { sfits = m.before.corner-fine-arg.given }) m.corner-fine.ensures
+    let a = m.args in
+    let i = m.loop-i.i in
+    tested (λ (z : ℤ). cond (ltb i a.used) (is_row a.n z) (is_none z)) (get_or a.corners.now i (pos 0)) (record { sfits = m.corner_fine-arg-1.given }) m.corner_fine.ensures
 
-mul-corner-fine : tie.Need-overflow-mul-corner-fine invariant-loop decreases-loop
+mul-corner-fine : tie.Need-offset_bounds-corners-i invariant-loop decreases-loop
 mul-corner-fine c = search rules
 
-shared-slice-copy-out-corner-fine : tie.Need-shared-slice-copy-out-corner-fine invariant-loop decreases-loop
+shared-slice-copy-out-corner-fine : tie.Need-bounds-corners-i invariant-loop decreases-loop
 shared-slice-copy-out-corner-fine c = search rules
 
-corner-fine-requires : tie.Need-corner-fine-requires invariant-loop decreases-loop
+corner-fine-requires : tie.Need-corner_fine-requires invariant-loop decreases-loop
 corner-fine-requires c κs = search rules
 
-returns : tie.Need-returns invariant-loop decreases-loop
+returns : tie.Need-returns-then-not-corner_fine invariant-loop decreases-loop
 returns c =
-    let l = c.before.before.before.before.loop in
-    sym (l.invariant.0 ∙ corner_next _ _ _ l.i c.before.before.before.loop-test.true ∙ failed _ (told c.before) c.if1.true)
+    let l = c.loop-i in
+    sym (l.invariant.0 ∙ corner_next _ _ _ l.i c.loop-i-test.true ∙ failed _ (told c.before) c.if-not-corner_fine.true-raw)
 
-add-i : tie.Need-overflow-add-i invariant-loop decreases-loop
+add-i : tie.Need-overflow_add-i invariant-loop decreases-loop
 add-i c = search rules
 
-loop-less : tie.Need-loop-smaller invariant-loop decreases-loop
-loop-less c = (let h = c.before.before.before.loop-test.true in omega arith)
+loop-less : tie.Need-loop-i-smaller invariant-loop decreases-loop
+loop-less c = (let h = c.loop-i-test.true in omega arith)
 
-loop-again : tie.Need-loop-preserved invariant-loop decreases-loop
+loop-again : tie.Need-loop-i-preserved invariant-loop decreases-loop
 loop-again c =
-    let l = c.before.before.before.before.loop in
-    let h = c.before.before.before.loop-test.true in
-    (l.invariant.0 ∙ corner_next _ _ _ l.i h ∙ passed _ (told c.before) c.if1.false, omega arith)
+    let l = c.loop-i in
+    let h = c.loop-i-test.true in
+    (l.invariant.0 ∙ corner_next _ _ _ l.i h ∙ passed _ (told c.before) c.if-not-corner_fine.false-raw, omega arith)
 
-returns-2 : tie.Need-returns-2 invariant-loop decreases-loop
+returns-2 : tie.Need-returns invariant-loop decreases-loop
 returns-2 c =
-    let l = c.before.loop in
-    sym (l.invariant.0 ∙ corners_end _ _ _ l.i c.loop-test.false)
+    let l = c.loop-i in
+    sym (l.invariant.0 ∙ corners_end _ _ _ l.i c.loop-i-test.false)
 
-pub corners-fine-spec : {M : Type 1} → statement M
-corners-fine-spec =
-    tie.close
-    (tie.spec
-    invariant-loop
-    decreases-loop
-    loop-holds
-    mul-corner-fine
-    shared-slice-copy-out-corner-fine
-    corner-fine-requires
-    returns
-    add-i
-    loop-less
-    loop-again
-    returns-2)
+pub corners_fine_spec : {M : Type 1} → statement M
+corners_fine_spec = tie.close (tie.spec invariant-loop decreases-loop loop-holds mul-corner-fine shared-slice-copy-out-corner-fine corner-fine-requires returns add-i loop-less loop-again returns-2)

@@ -7,57 +7,45 @@ use Rattle.player_label.proofs.Chosen.{no_figure-name, no_movement-name, by_figu
 use Rattle.player_label.proofs.labels.find.Statement.{statement}
 use Rattle.player_label.proofs.labels.find.Tie as tie
 
-figure-name-requires : tie.Need-figure-name-requires
+figure-name-requires : tie.Need-figure_name-requires
 figure-name-requires c κs = search rules
 
-enum-known-start : tie.Need-enum-known-start
+enum-known-start : tie.Need-enum_known-start
 enum-known-start c = search rules
 
-enum_told : tie.Need-enum-told
+enum_told : tie.Need-enum_told-1
 enum_told c = search rules
 
-returns : tie.Need-returns
+returns : tie.Need-returns-in_default
 unfolding found named
-returns c = no_figure-name _ _ _ _ _ _ _ (sym (ap found c.enum_told.given.1) ∙ c.before.before.figure-name.ensures)
+returns c = no_figure-name _ _ _ _ _ _ _ (sym (ap found c.in_default.is) ∙ c.figure_name.ensures)
 
-movement-name-requires : tie.Need-movement-name-requires
+movement-name-requires : tie.Need-movement_name-requires
 movement-name-requires c κs = search rules
 
-enum-known-from : tie.Need-enum-known-from
+enum-known-from : tie.Need-enum_known-from
 enum-known-from c = search rules
 
-enum-told-2 : tie.Need-enum-told-2
+enum-told-2 : tie.Need-enum_told-in_default-movement_name
 enum-told-2 c = search rules
 
-returns-2 : tie.Need-returns-2
+returns-2 : tie.Need-returns-in_default-movement_name
 unfolding found named
-returns-2 c = no_movement-name _ _ _ _ _ _ _ (sym (ap found c.enum-told2.given.1) ∙ c.before.before.movement-name.ensures)
+returns-2 c = no_movement-name _ _ _ _ _ _ _ (sym (ap found c.in_default-movement_name.is) ∙ c.movement_name.ensures)
 
-returns-3 : tie.Need-returns-3
+returns-3 : tie.Need-returns-then-from-to
 unfolding found named
 returns-3 c =
     let k = c.before.before in
     let j = k.before.before.before.before in
-    by_movement _ _ _ _ _ _ _ _ _ _ _ (sym (ap found j.start.given.1) ∙ j.before.before.figure-name.ensures) (sym (ap found k.from.given.1) ∙ k.before.before.movement-name.ensures) c.if1.true
+    by_movement _ _ _ _ _ _ _ _ _ _ _ (sym (ap found j.in-At.is) ∙ j.figure_name.ensures) (sym (ap found k.in-At-movement_name.is) ∙ k.movement_name.ensures) c.if-from-to.true
 
-returns-4 : tie.Need-returns-4
+returns-4 : tie.Need-returns
 unfolding found named
 returns-4 c =
     let k = c.before.before in
     let j = k.before.before.before.before in
-    by_figure _ _ _ _ _ _ _ _ _ _ _ (sym (ap found j.start.given.1) ∙ j.before.before.figure-name.ensures) (sym (ap found k.from.given.1) ∙ k.before.before.movement-name.ensures) c.if1.false
+    by_figure _ _ _ _ _ _ _ _ _ _ _ (sym (ap found j.in-At.is) ∙ j.figure_name.ensures) (sym (ap found k.in-At-movement_name.is) ∙ k.movement_name.ensures) c.if-from-to.false
 
 pub find_spec : {M : Type 1} → statement M
-find_spec =
-    tie.close
-    (tie.spec
-    figure-name-requires
-    enum-known-start
-    enum_told
-    returns
-    movement-name-requires
-    enum-known-from
-    enum-told-2
-    returns-2
-    returns-3
-    returns-4)
+find_spec = tie.close (tie.spec figure-name-requires enum-known-start enum_told returns movement-name-requires enum-known-from enum-told-2 returns-2 returns-3 returns-4)

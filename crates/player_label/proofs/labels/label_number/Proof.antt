@@ -8,35 +8,26 @@ use Rattle.player_label.proofs.labels.label_number.Tie as tie
 find-requires : tie.Need-find-requires
 find-requires c κs = search rules
 
-enum_told : tie.Need-enum-told
+enum_told : tie.Need-enum_told-1
 enum_told c = search rules
 
-enum-known-start : tie.Need-enum-known-start
+enum-known-start : tie.Need-enum_known-start
 enum-known-start c = search rules
 
-enum-known-start-2 : tie.Need-enum-known-start-2
+enum-known-start-2 : tie.Need-enum_known-start-in-Movement-1
 enum-known-start-2 c = search rules
 
-returns : tie.Need-returns
+returns : tie.Need-returns-in-Refused
 unfolding named numbered
-returns c = rw (← c.before.before.find.ensures, c.enum_told.given.1)
+returns c = rw (← c.find.ensures, c.in-Refused.is)
 
-returns-2 : tie.Need-returns-2
+returns-2 : tie.Need-returns-in-Figure
 unfolding named numbered
-returns-2 c = rw (← c.before.before.before.find.ensures, c.before.start.given.1)
+returns-2 c = rw (← c.find.ensures, c.in-Figure.is)
 
-returns-3 : tie.Need-returns-3
+returns-3 : tie.Need-returns-in-Movement
 unfolding named numbered
-returns-3 c = rw (← c.before.before.before.find.ensures, c.before.start2.given.1)
+returns-3 c = rw (← c.find.ensures, c.in-Movement.is)
 
-pub label-number-spec : {M : Type 1} → statement M
-label-number-spec =
-    tie.close
-    (tie.spec
-    find-requires
-    enum_told
-    enum-known-start
-    enum-known-start-2
-    returns
-    returns-2
-    returns-3)
+pub label_number_spec : {M : Type 1} → statement M
+label_number_spec = tie.close (tie.spec find-requires enum_told enum-known-start enum-known-start-2 returns returns-2 returns-3)

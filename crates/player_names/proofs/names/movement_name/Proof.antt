@@ -15,47 +15,39 @@ use Rattle.player_names.proofs.names.movement_name.Statement.{statement}
 use Rattle.player_names.proofs.names.movement_name.Tie as tie
 
 -- the row is there, and whole
-there : (e : tie.Else1) → let a = e.before.before.before.args in length (movement_bone a.m a.moves.now a.bone) ≡ 0 → ⊥
-there e = λ h. e.if1.false (ap length e.before.movement-bone.ensures ∙ h)
+there : (e : tie.Else-row-eq0) → let a = e.args in length (movement_bone a.m a.moves.now a.bone) ≡ 0 → ⊥
+there e = λ h. e.if-row-eq0.false (ap length e.movement_bone-row.ensures ∙ h)
 
-wide : (e : tie.Else1) → length e.before.movement-bone.result.now ≡ 22
-wide e = ap length e.before.movement-bone.ensures ∙ movement-length 0 _ _ _ (there e)
+wide : (e : tie.Else-row-eq0) → length e.movement_bone-row.result.now ≡ 22
+wide e = ap length e.movement_bone-row.ensures ∙ movement-length 0 _ _ _ (there e)
 
-movement-bone-requires : tie.Need-movement-bone-requires
+movement-bone-requires : tie.Need-movement_bone-row-requires
 movement-bone-requires c κs = search rules
 
-returns : tie.Need-returns
+returns : tie.Need-returns-then-row-eq0
 unfolding found
-returns c = movement_none _ _ _ _ (ap length (sym c.before.movement-bone.ensures) ∙ c.if1.true)
+returns c = movement_none _ _ _ _ (ap length (sym c.movement_bone-row.ensures) ∙ c.if-row-eq0.true)
 
-shared-slice-copy-out-name-span : tie.Need-shared-slice-copy-out-name-span
+shared-slice-copy-out-name-span : tie.Need-bounds-row-0
 shared-slice-copy-out-name-span c = (let h = wide c in omega arith)
 
-shared-slice-copy-out-name-span-2 : tie.Need-shared-slice-copy-out-name-span-2
+shared-slice-copy-out-name-span-2 : tie.Need-bounds-row-1
 shared-slice-copy-out-name-span-2 c = (let h = wide c.before in omega arith)
 
-name-span-requires : tie.Need-name-span-requires
+name-span-requires : tie.Need-name_span-requires
 name-span-requires c κs = search rules
 
-returns-2 : tie.Need-returns-2
+returns-2 : tie.Need-returns
 returns-2 c =
     let e = c.before.before.before in
-    let a = e.before.before.before.args in
+    let a = e.args in
     let size = length a.movement.now in
-    let row = e.before.movement-bone.result.now in
-    let f = to_z-of_z {w = w64} {z = get_or row 0 (pos 0)} (record { sfits = c.before.before.name-span-arg.given }) in
-    let g = to_z-of_z {w = w64} {z = get_or row 1 (pos 0)} (record { sfits = c.before.name-span-arg2.given }) in
-    (rw (f, g) at c.name-span.ensures)
-    ∙ ap (λ (r : List ℤ). name_span size (get_or r 0 (pos 0)) (get_or r 1 (pos 0))) e.before.movement-bone.ensures
+    let row = e.movement_bone-row.result.now in
+    let f = to_z-of_z {w = w64} {z = get_or row 0 (pos 0)} (record { sfits = c.name_span-arg-1.given }) in
+    let g = to_z-of_z {w = w64} {z = get_or row 1 (pos 0)} (record { sfits = c.name_span-arg-2-1.given }) in
+    (rw (f, g) at c.name_span.ensures)
+    ∙ ap (λ (r : List ℤ). name_span size (get_or r 0 (pos 0)) (get_or r 1 (pos 0))) e.movement_bone-row.ensures
     ∙ movement-pair size _ _ _ (there e)
 
-pub movement-name-spec : {M : Type 1} → statement M
-movement-name-spec =
-    tie.close
-    (tie.spec
-    movement-bone-requires
-    returns
-    shared-slice-copy-out-name-span
-    shared-slice-copy-out-name-span-2
-    name-span-requires
-    returns-2)
+pub movement_name_spec : {M : Type 1} → statement M
+movement_name_spec = tie.close (tie.spec movement-bone-requires returns shared-slice-copy-out-name-span shared-slice-copy-out-name-span-2 name-span-requires returns-2)

@@ -5,24 +5,24 @@ use Rattle.player_patterns.proofs.Lines.{other-group, later, in_time}
 use Rattle.player_patterns.proofs.line.replaces.Statement.{statement}
 use Rattle.player_patterns.proofs.line.replaces.Tie as tie
 
-cast-if1 : tie.Need-overflow-cast-if1
+cast-if1 : tie.Need-overflow_cast-g
 cast-if1 c = natural_cast _ c.ranges.g c.requires.1
 
-returns : tie.Need-returns
-returns c flag = other-group _ _ _ _ _ flag (rw (to_z-of_z c.before.ranges.g) at c.if1.true)
+returns : tie.Need-returns-then-g-group
+returns c flag = other-group _ _ _ _ _ flag (rw (to_z-of_z c.ranges.g) at c.if-g-group.true)
 
-cast-frame : tie.Need-overflow-cast-frame
-cast-frame c = natural_cast _ c.before.ranges.f c.before.requires.0
+cast-frame : tie.Need-overflow_cast-frame
+cast-frame c = natural_cast _ c.ranges.f c.requires.0
 
-returns-2 : tie.Need-returns-2
+returns-2 : tie.Need-returns-then-at-frame
 returns-2 c flag =
-    let a = c.before.before.ranges in
-    later _ _ _ _ _ flag (rw (to_z-of_z a.g) at c.before.if1.false) (rw (to_z-of_z a.f) at c.if2.true)
+    let a = c.ranges in
+    later _ _ _ _ _ flag (rw (to_z-of_z a.g) at c.if-g-group.false) (rw (to_z-of_z a.f) at c.if-at-frame.true)
 
-returns-3 : tie.Need-returns-3
+returns-3 : tie.Need-returns
 returns-3 c flag =
-    let a = c.before.before.ranges in
-    rw (to_z-of_z a.f) (in_time _ _ _ _ _ flag (rw (to_z-of_z a.g) at c.before.if1.false) (rw (to_z-of_z a.f) at c.if2.false))
+    let a = c.ranges in
+    rw (to_z-of_z a.f) (in_time _ _ _ _ _ flag (rw (to_z-of_z a.g) at c.if-g-group.false) (rw (to_z-of_z a.f) at c.if-at-frame.false))
 
-pub replaces-spec : {M : Type 1} → statement M
-replaces-spec = tie.close (tie.spec cast-if1 returns cast-frame returns-2 returns-3)
+pub replaces_spec : {M : Type 1} → statement M
+replaces_spec = tie.close (tie.spec cast-if1 returns cast-frame returns-2 returns-3)

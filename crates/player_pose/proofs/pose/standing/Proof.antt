@@ -5,18 +5,18 @@ use Rattle.player_pose.proofs.Channels.{no_channel}
 use Rattle.player_pose.proofs.pose.standing.Statement.{statement}
 use Rattle.player_pose.proofs.pose.standing.Tie as tie
 
-returns : tie.Need-returns
-returns c = no_channel _ c.if1.true
+returns : tie.Need-returns-then-channel-ge10
+returns c = no_channel _ c.if-channel-ge10.true
 
-mul-result : tie.Need-overflow-mul-result
+mul-result : tie.Need-offset_bounds-channel
 mul-result c = search rules
 
-array-copy-out-result : tie.Need-array-copy-out-result
-array-copy-out-result c = search rules
-
-returns-2 : tie.Need-returns-2
+returns-2 : tie.Need-returns
 unfolding standing pose
 returns-2 c = search rules
 
-pub standing-spec : {M : Type 1} → statement M
-standing-spec = tie.close (tie.spec returns mul-result array-copy-out-result returns-2)
+the_bounds_channel : tie.Need-bounds-channel
+the_bounds_channel = search rules
+
+pub standing_spec : {M : Type 1} → statement M
+standing_spec = tie.close (tie.spec returns mul-result the_bounds_channel returns-2)

@@ -28,47 +28,47 @@ use Rattle.player_samples.proofs.sampling.sample.Tie as tie
 
 -- ---- the table holds what its counts say, and the bones and the keys begin where they say
 
-module _ (e : tie.Else1) where
-  held : holds_movement e.before.before.before.args.n e.before.before.before.args.table.now ≡ true
-  held = movement-held _ _ _ e.before.before.movement-in.ensures e.if1.false
+module _ (e : tie.Else-s-eq0) where
+  held : holds_movement e.args.n e.args.table.now ≡ true
+  held = movement-held _ _ _ e.movement_in-s.ensures e.if-s-eq0.false
 
-  found : e.before.before.movement-in.result ≡ movement_sections e.before.before.before.args.n
-  found = movement-found _ _ _ e.before.before.movement-in.ensures e.if1.left
+  found : e.movement_in-s.result ≡ movement_sections e.args.n
+  found = movement-found _ _ _ e.movement_in-s.ensures e.if-s-eq0.left
 
-  bones_are : e.before.before.movement-in.result.bones ≡ 3
+  bones_are : e.movement_in-s.result.bones ≡ 3
   unfolding movement_sections
   bones_are = ap (λ (s : MovementSections). s.bones) found
 
-  keys-are : e.before.before.movement-in.result.keys ≡ 3 + e.before.before.before.args.n.bones * 22
+  keys-are : e.movement_in-s.result.keys ≡ 3 + e.args.n.bones * 22
   unfolding movement_sections keys_begin
   keys-are = ap (λ (s : MovementSections). s.keys) found
 
-row : (e : tie.Else2) → e.before.before.before.before.before.args.bone < e.before.before.before.before.before.args.n.bones
-row e = (let h = e.if2.false in omega arith)
+row : (e : tie.Else-n-bone) → e.args.bone < e.args.n.bones
+row e = (let h = e.if-n-bone.false in omega arith)
 
 -- ---- the channel's pair, and the keys that it names
 
-module _ (e : tie.Else3) where
-  known : e.before.before.before.before.before.before.args.channel < 10
-  known = (let h = e.if3.false in omega arith)
+module _ (e : tie.Else-channel-ge-CHANNELS) where
+  known : e.args.channel < 10
+  known = (let h = e.if-channel-ge-CHANNELS.false in omega arith)
 
   abbrev T : List ℤ
-  T = e.before.before.before.before.before.before.args.table.now
+  T = e.args.table.now
 
   abbrev n : MovementCounts
-  n = e.before.before.before.before.before.before.args.n
+  n = e.args.n
 
   abbrev bone : ℕ
-  bone = e.before.before.before.before.before.before.args.bone
+  bone = e.args.bone
 
   abbrev channel : ℕ
-  channel = e.before.before.before.before.before.before.args.channel
+  channel = e.args.channel
 
   abbrev begin : ℕ
-  begin = e.before.before.before.before.before.movement-in.result.keys
+  begin = e.movement_in-s.result.keys
 
   abbrev pair : ℕ
-  pair = e.before.before.before.before.before.movement-in.result.bones + bone * 22 + 2 + channel * 2
+  pair = e.movement_in-s.result.bones + bone * 22 + 2 + channel * 2
 
   abbrev first : ℤ
   first = get_or T pair (pos 0)
@@ -101,174 +101,143 @@ module _ (e : tie.Else3) where
         ap (λ (k : ℕ). rows_at 2 T (k + nat_abs first * 2) (nat_abs count)) (keys-are e.before.before.before)
         ∙ ap (λ (i : ℕ). rows_at 2 T (3 + n.bones * 22 + nat_abs (get_or T i (pos 0)) * 2) (nat_abs (get_or T (i + 1) (pos 0)))) pair-at
 
-    answered : sample_by (number_at T 0) channel e.before.before.before.before.before.before.args.at (rows_at 2 T (begin + nat_abs first * 2) (nat_abs count)) ≡ sample_in n T bone channel e.before.before.before.before.before.before.args.at
-    answered = ap (sample_by (number_at T 0) channel e.before.before.before.before.before.before.args.at) same_keys ∙ played n T bone channel _ (held e.before.before.before) (row e.before) known (by-pair true ranged)
+    answered : sample_by (number_at T 0) channel e.args.at (rows_at 2 T (begin + nat_abs first * 2) (nat_abs count)) ≡ sample_in n T bone channel e.args.at
+    answered = ap (sample_by (number_at T 0) channel e.args.at) same_keys ∙ played n T bone channel _ (held e.before.before.before) (row e.before) known (by-pair true ranged)
 
 -- ---- the pair as it was read
 
-first_fits : (m : tie.After-first) → SFits w64 (first m.before.before)
-first_fits m = record { sfits = m.first.given }
+first_fits : (m : tie.After-first-1) → SFits w64 (first m.before.before)
+first_fits m = record { sfits = m.first-1.given }
 
-count_fits : (m : tie.After-count) → SFits w64 (count m.before.before.before)
-count_fits m = record { sfits = m.count.given }
+count_fits : (m : tie.After-count-1) → SFits w64 (count m.before.before.before)
+count_fits m = record { sfits = m.count-1.given }
 
-told : (m : tie.After-is-range) → let e = m.before.before.before.before in m.is-range.result ≡ is_range (n e).keys (first e) (count e)
-told m = rw (to_z-of_z (first_fits m.before.before), to_z-of_z (count_fits m.before)) at m.is-range.ensures
+told : (m : tie.After-is_range) → let e = m.before.before.before.before in m.is_range.result ≡ is_range (n e).keys (first e) (count e)
+told m = rw (to_z-of_z (first_fits m.before.before), to_z-of_z (count_fits m.before)) at m.is_range.ensures
 
-abbrev here : tie.Else4 → tie.Else3
+abbrev here : tie.Else-not-is_range → tie.Else-channel-ge-CHANNELS
 here c = c.before.before.before.before.before
 
-ranged : (c : tie.Else4) → is_range (n (here c)).keys (first (here c)) (count (here c)) ≡ true
-ranged c = sym (told c.before) ∙ not-false _ c.if4.false
+ranged : (c : tie.Else-not-is_range) → is_range (n (here c)).keys (first (here c)) (count (here c)) ≡ true
+ranged c = sym (told c.before) ∙ not-false _ c.if-not-is_range.false-raw
 
 -- the cast numbers
-first-is : (c : tie.Else4) → to_z w64 (of_z w64 (first (here c))) ≡ first (here c)
+first-is : (c : tie.Else-not-is_range) → to_z w64 (of_z w64 (first (here c))) ≡ first (here c)
 first-is c = to_z-of_z (first_fits c.before.before.before)
 
-count_is : (c : tie.Else4) → to_z w64 (of_z w64 (count (here c))) ≡ count (here c)
+count_is : (c : tie.Else-not-is_range) → to_z w64 (of_z w64 (count (here c))) ≡ count (here c)
 count_is c = to_z-of_z (count_fits c.before.before)
 
 -- the first index of the keys, and the index behind them
-abbrev from : tie.Else4 → ℕ
+abbrev from : tie.Else-not-is_range → ℕ
 from c = begin (here c) + nat_abs (first (here c)) * 2
 
-abbrev end : tie.Else4 → ℕ
+abbrev end : tie.Else-not-is_range → ℕ
 end c = from c + nat_abs (count (here c)) * 2
 
-end-room : (c : tie.Else4) → (end c ≤ length (T (here c))) × (end c ≤ 40000)
+end-room : (c : tie.Else-not-is_range) → (end c ≤ length (T (here c))) × (end c ≤ 40000)
 end-room c = keys-room (here c) (ranged c)
 
 -- ---- the answers
 
-movement-in-requires : tie.Need-movement-in-requires
+movement-in-requires : tie.Need-movement_in-s-requires
 movement-in-requires c κs = search rules
 
-returns : tie.Need-returns
+returns : tie.Need-returns-then-s-eq0
 unfolding numbered sampled
-returns c = ap numbered (not-held _ _ _ _ _ (movement_none _ _ _ c.before.before.movement-in.ensures c.if1.true))
+returns c = ap numbered (not-held _ _ _ _ _ (movement_none _ _ _ c.movement_in-s.ensures c.if-s-eq0.true))
 
-returns-2 : tie.Need-returns-2
+returns-2 : tie.Need-returns-then-n-bone
 unfolding numbered sampled
-returns-2 c = ap numbered (no_bone _ _ _ _ _ (held c.before.before) c.if2.true)
+returns-2 c = ap numbered (no_bone _ _ _ _ _ (held c.before.before) c.if-n-bone.true)
 
-returns-3 : tie.Need-returns-3
+returns-3 : tie.Need-returns-then-channel-ge-CHANNELS
 unfolding numbered sampled
-returns-3 c = ap numbered (no_channel _ _ _ _ _ (held c.before.before.before) (row c.before) c.if3.true)
+returns-3 c = ap numbered (no_channel _ _ _ _ _ (held c.before.before.before) (row c.before) c.if-channel-ge-CHANNELS.true)
 
-mul-pair : tie.Need-overflow-mul-pair
+mul-pair : tie.Need-overflow_mul-pair
 mul-pair c = (let h = (pair-room c).1 in small_fits _ (bone c * 22) refl (omega arith))
 
-add-pair : tie.Need-overflow-add-pair
-add-pair c = (let e = c.before in let h = (pair-room e).1 in small_fits _ (e.before.before.before.before.before.movement-in.result.bones + bone e * 22) refl (omega arith))
+add-pair : tie.Need-overflow_add-pair
+add-pair c = (let e = c.before in let h = (pair-room e).1 in small_fits _ (e.movement_in-s.result.bones + bone e * 22) refl (omega arith))
 
-add-pair-2 : tie.Need-overflow-add-pair-2
-add-pair-2 c = (let e = c.before in let h = (pair-room e).1 in small_fits _ (e.before.before.before.before.before.movement-in.result.bones + bone e * 22 + 2) refl (omega arith))
+add-pair-2 : tie.Need-overflow_add-pair-2
+add-pair-2 c = (let e = c.before in let h = (pair-room e).1 in small_fits _ (e.movement_in-s.result.bones + bone e * 22 + 2) refl (omega arith))
 
-mul-pair-2 : tie.Need-overflow-mul-pair-2
+mul-pair-2 : tie.Need-overflow_mul-pair-2
 mul-pair-2 c = (let h = (pair-room c.before).1 in small_fits _ (channel c.before * 2) refl (omega arith))
 
-add-pair-3 : tie.Need-overflow-add-pair-3
+add-pair-3 : tie.Need-overflow_add-pair-3
 add-pair-3 c = (let h = (pair-room c.before).1 in small_fits _ (pair c.before) refl (omega arith))
 
-mul-first : tie.Need-overflow-mul-first
+mul-first : tie.Need-offset_bounds-table-pair
 mul-first c = (let h = (pair-room c.before).1 in byte_fits _ (pair c.before) refl (omega arith))
 
-shared-slice-copy-out-first : tie.Need-shared-slice-copy-out-first
+shared-slice-copy-out-first : tie.Need-bounds-table-pair
 shared-slice-copy-out-first c = (let h = (pair-room c.before).0 in index_below _ (pair c.before) (T c.before) refl (omega arith))
 
-add-count : tie.Need-overflow-add-count
+add-count : tie.Need-overflow_add-count
 add-count c = small_fits _ _ refl (pair-room c.before.before).1
 
-mul-count : tie.Need-overflow-mul-count
+mul-count : tie.Need-offset_bounds-table-pair-2
 mul-count c = byte_fits _ _ refl (pair-room c.before.before).1
 
-shared-slice-copy-out-count : tie.Need-shared-slice-copy-out-count
+shared-slice-copy-out-count : tie.Need-bounds-table-pair-2
 shared-slice-copy-out-count c = (pair-room c.before.before).0
 
-is-range-requires : tie.Need-is-range-requires
+is-range-requires : tie.Need-is_range-requires
 is-range-requires c κs = search rules
 
-returns-4 : tie.Need-returns-4
+returns-4 : tie.Need-returns-then-not-is_range
 unfolding numbered sampled
 returns-4 c =
     let e = c.before.before.before.before.before in
-    ap numbered (no_range _ _ _ _ _ (held e.before.before.before) (row e.before) (known e) (by-pair e false (sym (told c.before) ∙ not-true _ c.if4.true)))
+    ap numbered (no_range _ _ _ _ _ (held e.before.before.before) (row e.before) (known e) (by-pair e false (sym (told c.before) ∙ not-true _ c.if-not-is_range.true-raw)))
 
-cast-from : tie.Need-overflow-cast-from
+cast-from : tie.Need-overflow_cast-from
 cast-from c = natural_cast _ (first_fits c.before.before.before) (range_facts _ _ _ (ranged c)).0
 
-mul-from : tie.Need-overflow-mul-from
+mul-from : tie.Need-overflow_mul-from
 mul-from c = (let h = (end-room c).1 in rw (first-is c) (small_fits _ (nat_abs (first (here c)) * 2) refl (omega arith)))
 
-add-from : tie.Need-overflow-add-from
+add-from : tie.Need-overflow_add-from
 add-from c = (let h = (end-room c.before).1 in rw (first-is c.before) (small_fits _ (from c.before) refl (omega arith)))
 
-cast-end : tie.Need-overflow-cast-end
+cast-end : tie.Need-overflow_cast-end
 cast-end c = natural_cast _ (count_fits c.before.before.before) (range_facts _ _ _ (ranged c.before)).1
 
-mul-end : tie.Need-overflow-mul-end
+mul-end : tie.Need-overflow_mul-end
 mul-end c = (let h = (end-room c.before).1 in rw (count_is c.before) (small_fits _ (nat_abs (count (here c.before)) * 2) refl (omega arith)))
 
-add-end : tie.Need-overflow-add-end
+add-end : tie.Need-overflow_add-end
 add-end c = rw (first-is c.before, count_is c.before) (small_fits _ (end c.before) refl (end-room c.before).1)
 
-mul-channel-sample : tie.Need-overflow-mul-channel-sample
+mul-channel-sample : tie.Need-offset_bounds-table-from
 mul-channel-sample c = (let h = (end-room c.before).1 in rw (first-is c.before) (byte_fits _ (from c.before) refl (omega arith)))
 
-sub-channel-sample : tie.Need-overflow-sub-channel-sample
+sub-channel-sample : tie.Need-slice_bounds-channel_sample-count
 sub-channel-sample c = search rules
 
-part-channel-sample-start : tie.Need-slice-bounds-channel-sample-start
+part-channel-sample-start : tie.Need-slice_bounds-channel_sample-start
 part-channel-sample-start c = search rules
 
-part-channel-sample-end : tie.Need-slice-bounds-channel-sample-end
+part-channel-sample-end : tie.Need-slice_bounds-channel_sample-end
 part-channel-sample-end c = rw (first-is c.before, count_is c.before) (end-room c.before).0
 
-shared-slice-copy-out-channel-sample : tie.Need-shared-slice-copy-out-channel-sample
+shared-slice-copy-out-channel-sample : tie.Need-bounds-table-0
 shared-slice-copy-out-channel-sample c = (let h = room (here c.before.before) in omega arith)
 
-channel-sample-requires : tie.Need-channel-sample-requires
+channel-sample-requires : tie.Need-channel_sample-requires
 channel-sample-requires c κs = search rules
 
-returns-5 : tie.Need-returns-5
+returns-5 : tie.Need-returns
 unfolding number_at
 returns-5 c =
     let g = c.before.before.before.before in
     let e = here g in
-    let t = to_z-of_z {w = w64} {z = get_or (T e) 0 (pos 0)} (record { sfits = c.before.channel-sample-arg2.given }) in
-    (rw (first-is g, count_is g, t) at c.channel-sample.ensures)
+    let t = to_z-of_z {w = w64} {z = get_or (T e) 0 (pos 0)} (record { sfits = c.channel_sample-arg-2-1.given }) in
+    (rw (first-is g, count_is g, t) at c.channel_sample.ensures)
     ∙ ap numbered (ap (sample_by (get_or (T e) 0 (pos 0)) (channel e) _) (keys-part (T e) (begin e) (first e) (count e) (end-room g).0) ∙ answered e (ranged g))
 
-pub sample-spec : {M : Type 1} → statement M
-sample-spec =
-    tie.close
-    (tie.spec
-    movement-in-requires
-    returns
-    returns-2
-    returns-3
-    mul-pair
-    add-pair
-    add-pair-2
-    mul-pair-2
-    add-pair-3
-    mul-first
-    shared-slice-copy-out-first
-    add-count
-    mul-count
-    shared-slice-copy-out-count
-    is-range-requires
-    returns-4
-    cast-from
-    mul-from
-    add-from
-    cast-end
-    mul-end
-    add-end
-    mul-channel-sample
-    sub-channel-sample
-    part-channel-sample-start
-    part-channel-sample-end
-    shared-slice-copy-out-channel-sample
-    channel-sample-requires
-    returns-5)
+pub sample_spec : {M : Type 1} → statement M
+sample_spec = tie.close (tie.spec movement-in-requires returns returns-2 returns-3 mul-pair add-pair add-pair-2 mul-pair-2 add-pair-3 mul-first shared-slice-copy-out-first add-count mul-count shared-slice-copy-out-count is-range-requires returns-4 cast-from mul-from add-from cast-end mul-end add-end mul-channel-sample sub-channel-sample part-channel-sample-start part-channel-sample-end shared-slice-copy-out-channel-sample channel-sample-requires returns-5)

@@ -12,7 +12,7 @@ magnitude-requires : tie.Need-magnitude-requires
 magnitude-requires c κs = search rules
 
 returns : tie.Need-returns
-returns c = rw c.magnitude.ensures (ap (λ (z : ℤ). leb (nat_abs z) 9999999999999) (to_z-of_z c.before.ranges.z) ∙ sym (float_size _))
+returns c = rw c.magnitude.ensures (ap (λ (z : ℤ). leb (nat_abs z) 9999999999999) (to_z-of_z c.ranges.z) ∙ sym (float_size _))
 
-pub is-float-spec : {M : Type 1} → statement M
-is-float-spec = tie.close (tie.spec magnitude-requires returns)
+pub is_float_spec : {M : Type 1} → statement M
+is_float_spec = tie.close (tie.spec magnitude-requires returns)

@@ -8,33 +8,33 @@ use Rattle.table_columns.proofs.Casts.{natural_cast}
 use Rattle.player_tests.proofs.range.is_range.Statement.{statement}
 use Rattle.player_tests.proofs.range.is_range.Tie as tie
 
-returns : tie.Need-returns
-returns c = let f = to_z-of_z c.before.ranges.first in sym (range-first _ _ _ (rw f at c.if1.true))
+returns : tie.Need-returns-then-first-lt0
+returns c = let f = to_z-of_z c.ranges.first in sym (range-first _ _ _ (rw f at c.if-first-lt0.true))
 
-returns-2 : tie.Need-returns-2
-returns-2 c = let f = to_z-of_z c.before.before.ranges.count in sym (range_count _ _ _ (rw f at c.if2.true))
+returns-2 : tie.Need-returns-then-count-lt0
+returns-2 c = let f = to_z-of_z c.ranges.count in sym (range_count _ _ _ (rw f at c.if-count-lt0.true))
 
-returns-3 : tie.Need-returns-3
-returns-3 c = let a = c.before.before.before.ranges in zero_bits _ a.first ∙ range_none _ _ _ (zero_yes _ a.count c.if3.true)
+returns-3 : tie.Need-returns-then-count-eq0
+returns-3 c = let a = c.ranges in zero_bits _ a.first ∙ range_none _ _ _ (zero_yes _ a.count c.if-count-eq0.true)
 
-cast_f : tie.Need-overflow-cast-f
-cast_f c = let k = c.before.before.before.ranges.first in natural_cast _ k (from_zero _ (rw (to_z-of_z k) at c.before.before.if1.false))
+cast_f : tie.Need-overflow_cast-f
+cast_f c = let k = c.ranges.first in natural_cast _ k (from_zero _ (rw (to_z-of_z k) at c.if-first-lt0.false))
 
-cast-c : tie.Need-overflow-cast-c
-cast-c c = let k = c.before.before.before.ranges.count in natural_cast _ k (from_zero _ (rw (to_z-of_z k) at c.before.if2.false))
+cast-c : tie.Need-overflow_cast-c
+cast-c c = let k = c.ranges.count in natural_cast _ k (from_zero _ (rw (to_z-of_z k) at c.if-count-lt0.false))
 
-returns-4 : tie.Need-returns-4
+returns-4 : tie.Need-returns-then-n-f
 returns-4 c =
-    let a = c.before.before.before.before.ranges in
+    let a = c.ranges in
     let f = to_z-of_z a.first in
-    sym (range-beyond _ _ _ (rw f at c.before.before.before.if1.false) (zero_no _ c.before.if3.false) (rw f at c.if4.true))
+    sym (range-beyond _ _ _ (rw f at c.if-first-lt0.false) (zero_no _ c.if-count-eq0.false) (rw f at c.if-n-f.true))
 
-returns-5 : tie.Need-returns-5
+returns-5 : tie.Need-returns
 returns-5 c =
-    let a = c.before.before.before.before.ranges in
+    let a = c.ranges in
     let f = to_z-of_z a.first in
     let g = to_z-of_z a.count in
-    rw (f, g) (sym (range-within _ _ _ (rw f at c.before.before.before.if1.false) (rw g at c.before.before.if2.false) (zero_no _ c.before.if3.false) (rw f at c.if4.false)))
+    rw (f, g) (sym (range-within _ _ _ (rw f at c.if-first-lt0.false) (rw g at c.if-count-lt0.false) (zero_no _ c.if-count-eq0.false) (rw f at c.if-n-f.false)))
 
-pub is-range-spec : {M : Type 1} → statement M
-is-range-spec = tie.close (tie.spec returns returns-2 returns-3 cast_f cast-c returns-4 returns-5)
+pub is_range_spec : {M : Type 1} → statement M
+is_range_spec = tie.close (tie.spec returns returns-2 returns-3 cast_f cast-c returns-4 returns-5)

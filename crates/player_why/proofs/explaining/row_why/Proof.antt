@@ -22,85 +22,71 @@ use borrow.Author.Rules.{rules}
 use Rattle.player_why.proofs.explaining.row_why.Statement.{statement}
 use Rattle.player_why.proofs.explaining.row_why.Tie as tie
 
-fits : (m : tie.After-group) → SFits w64 (get_or m.before.args.row.now 10 (pos 0))
-fits m = record { sfits = m.group.given }
+fits : (m : tie.After-group-1) → SFits w64 (get_or m.args.row.now 10 (pos 0))
+fits m = record { sfits = m.group-1.given }
 
-index-told : (m : tie.After-is-index) → m.is-index.result ≡ is_index m.before.before.args.n.groups (get_or m.before.before.args.row.now 10 (pos 0))
-index-told m = tested (is_index _) _ (fits m.before) m.is-index.ensures
+index-told : (m : tie.After-is_index) → m.is_index.result ≡ is_index m.args.n.groups (get_or m.args.row.now 10 (pos 0))
+index-told m = tested (is_index _) _ (fits m.before) m.is_index.ensures
 
-known : (e : tie.Else1) → is_index e.before.before.before.args.n.groups (get_or e.before.before.before.args.row.now 10 (pos 0)) ≡ true
-known e = sym (index-told e.before) ∙ not-false _ e.if1.false
+known : (e : tie.Else-not-is_index) → is_index e.args.n.groups (get_or e.args.row.now 10 (pos 0)) ≡ true
+known e = sym (index-told e.before) ∙ not-false _ e.if-not-is_index.false-raw
 
-none_told : (m : tie.After-is-none) → m.is_none.result ≡ is_none (get_or m.before.before.before.before.before.args.row.now 10 (pos 0))
+none_told : (m : tie.After-is_none) → m.is_none.result ≡ is_none (get_or m.args.row.now 10 (pos 0))
 none_told m = tested is_none _ (fits m.before.before.before.before) m.is_none.ensures
 
-some-group : (e : tie.Else2) → is_none (get_or e.before.before.before.before.before.before.args.row.now 10 (pos 0)) ≡ false
-some-group e = sym (none_told e.before) ∙ e.if2.false
+some-group : (e : tie.Else-is_none) → is_none (get_or e.args.row.now 10 (pos 0)) ≡ false
+some-group e = sym (none_told e.before) ∙ e.if-is_none.false
 
-group-is : (e : tie.Else2) → ((get_or e.before.before.before.before.before.before.args.row.now 10 (pos 0)) ≡ pos (nat_abs (get_or e.before.before.before.before.before.before.args.row.now 10 (pos 0)))) × (nat_abs (get_or e.before.before.before.before.before.before.args.row.now 10 (pos 0)) < e.before.before.before.before.before.before.args.n.groups)
+group-is : (e : tie.Else-is_none) → ((get_or e.args.row.now 10 (pos 0)) ≡ pos (nat_abs (get_or e.args.row.now 10 (pos 0)))) × (nat_abs (get_or e.args.row.now 10 (pos 0)) < e.args.n.groups)
 group-is e = row_is _ _ (sym (index_row _ _ (some-group e)) ∙ known e.before.before.before)
 
-shared-slice-copy-out-group : tie.Need-shared-slice-copy-out-group
+shared-slice-copy-out-group : tie.Need-bounds-row-10
 shared-slice-copy-out-group c = search rules
 
-is-index-requires : tie.Need-is-index-requires
+is-index-requires : tie.Need-is_index-requires
 is-index-requires c κs = search rules
 
-returns : tie.Need-returns
+returns : tie.Need-returns-then-not-is_index
 unfolding reason_told
-returns c = no_group _ _ _ _ _ _ (sym (index-told c.before) ∙ not-true _ c.if1.true)
+returns c = no_group _ _ _ _ _ _ (sym (index-told c.before) ∙ not-true _ c.if-not-is_index.true-raw)
 
-row-owned-requires : tie.Need-row-owned-requires
+row-owned-requires : tie.Need-row_owned-corners-requires
 row-owned-requires c κs = search rules
 
-is-none-requires : tie.Need-is-none-requires
+is-none-requires : tie.Need-is_none-requires
 is-none-requires c κs = search rules
 
-first-reason-requires : tie.Need-first-reason-requires
+first-reason-requires : tie.Need-first_reason-requires
 first-reason-requires c κs = search rules
 
-returns-2 : tie.Need-returns-2
+returns-2 : tie.Need-returns-then-is_none
 unfolding reason_told
 returns-2 c =
     let e = c.before in
-    c.first-reason.ensures
-    ∙ ap (λ (o : Option (Option ℕ)). first_reason o (some shown)) e.before.before.row-owned.ensures
-    ∙ of_polygons _ _ _ _ _ _ (known e.before.before.before) (sym (none_told e.before) ∙ e.if2.true)
+    c.first_reason.ensures
+    ∙ ap (λ (o : Option (Option ℕ)). first_reason o (some shown)) e.row_owned-corners.ensures
+    ∙ of_polygons _ _ _ _ _ _ (known e.before.before.before) (sym (none_told e.before) ∙ e.if-is_none.true)
 
-cast-deciding-line : tie.Need-overflow-cast-deciding-line
+cast-deciding-line : tie.Need-overflow_cast-group
 cast-deciding-line c = natural_cast _ (fits c.before.before.before.before.before) (group-is c).0
 
-deciding-line-requires : tie.Need-deciding-line-requires
+deciding-line-requires : tie.Need-deciding_line-line-requires
 deciding-line-requires c κs = search rules
 
-by-line-requires : tie.Need-by-line-requires
+by-line-requires : tie.Need-by_line-requires
 by-line-requires c κs = search rules
 
-first-reason-requires-2 : tie.Need-first-reason-requires-2
+first-reason-requires-2 : tie.Need-first_reason-requires-2
 first-reason-requires-2 c κs = search rules
 
-returns-3 : tie.Need-returns-3
+returns-3 : tie.Need-returns
 returns-3 c =
     let line = c.before.before in
     let e = line.before in
-    let told = rw (to_z-of_z (fits e.before.before.before.before.before), to_z-of_z e.before.before.before.before.before.before.ranges.total) at line.deciding-line.ensures in
-    c.first-reason2.ensures
-    ∙ ap₂ first_reason e.before.before.row-owned.ensures (c.before.by_line.ensures ∙ ap line_told told ∙ line-is _ _ _ _ _)
+    let told = rw (to_z-of_z (fits e.before.before.before.before.before), to_z-of_z e.ranges.total) at line.deciding_line-line.ensures in
+    c.first_reason-2.ensures
+    ∙ ap₂ first_reason e.row_owned-corners.ensures (c.by_line.ensures ∙ ap line_told told ∙ line-is _ _ _ _ _)
     ∙ in_group_lem _ _ _ _ _ _ (known e.before.before.before) (some-group e)
 
-pub row-why-spec : {M : Type 1} → statement M
-row-why-spec =
-    tie.close
-    (tie.spec
-    shared-slice-copy-out-group
-    is-index-requires
-    returns
-    row-owned-requires
-    is-none-requires
-    first-reason-requires
-    returns-2
-    cast-deciding-line
-    deciding-line-requires
-    by-line-requires
-    first-reason-requires-2
-    returns-3)
+pub row_why_spec : {M : Type 1} → statement M
+row_why_spec = tie.close (tie.spec shared-slice-copy-out-group is-index-requires returns row-owned-requires is-none-requires first-reason-requires returns-2 cast-deciding-line deciding-line-requires by-line-requires first-reason-requires-2 returns-3)

@@ -21,10 +21,10 @@ use Rattle.player_why.proofs.OwnedCorners.{found, found_none, found_some, Midway
 use Rattle.player_why.proofs.owning.owned.Statement.{statement}
 use Rattle.player_why.proofs.owning.owned.Tie as tie
 
-abbrev invariant-loop : tie.invariant-loop
+abbrev invariant-loop : tie.invariant-loop-i
 invariant-loop table n row used owners first₀ i₀ first i = Midway n table (face_vertices row) used first i
 
-abbrev decreases-loop : tie.decreases-loop
+abbrev decreases-loop : tie.decreases-loop-i
 decreases-loop table n row used owners first₀ i₀ first i = i
 
 -- the row has room for what is used
@@ -35,116 +35,95 @@ room s =
     rw (length-take 4 (drop 2 s.args.row.now), length-drop 2 s.args.row.now) (omega arith)
 
 -- the turn's owner
-vertex : (m : tie.After-face-vertex invariant-loop decreases-loop) → m.face_vertex.result.0 ≡ get_or (face_vertices m.before.before.before.before.args.row.now) (m.before.before.before.loop.i - 1) (pos 0)
-vertex m = m.face_vertex.ensures ∙ corner-part 2 _ _ (let h = m.before.before.loop-test.true in let w = m.before.before.before.loop.invariant.within in let u = m.before.before.before.before.requires.2 in omega arith)
+vertex : (m : tie.After-face_vertex invariant-loop decreases-loop) → m.face_vertex.result.0 ≡ get_or (face_vertices m.args.row.now) (m.loop-i.i - 1) (pos 0)
+vertex m = m.face_vertex.ensures ∙ corner-part 2 _ _ (let h = m.loop-i-test.true in let w = m.loop-i.invariant.within in let u = m.requires.2 in omega arith)
 
 -- after the test of the owner
-module _ (e : tie.After-is-index invariant-loop decreases-loop) where
-  abbrev at-loop : tie.At-loop invariant-loop decreases-loop
+module _ (e : tie.After-is_index invariant-loop decreases-loop) where
+  abbrev at-loop : tie.At-loop-i invariant-loop decreases-loop
   at-loop = e.before.before.before.before.before
 
   abbrev start : tie.Start invariant-loop decreases-loop
   start = at-loop.before
 
   abbrev owner : ℤ
-  owner = owner_at start.args.n start.args.table.now (get_or (face_vertices start.args.row.now) (at-loop.loop.i - 1) (pos 0))
+  owner = owner_at start.args.n start.args.table.now (get_or (face_vertices start.args.row.now) (at-loop.loop-i.i - 1) (pos 0))
 
-  owner-is : e.before.owner_at.result ≡ owner
-  owner-is = e.before.owner_at.ensures ∙ owner-part _ _ _ start.pre.0 e.before.before.face_vertex.result.0 ∙ ap (owner_at start.args.n start.args.table.now) (vertex e.before.before)
+  owner-is : e.owner_at-owner.result ≡ owner
+  owner-is = e.owner_at-owner.ensures ∙ owner-part _ _ _ start.pre.0 e.face_vertex.result.0 ∙ ap (owner_at start.args.n start.args.table.now) (vertex e.before.before)
 
-  index-told : e.is-index.result ≡ is_index start.args.n.bones owner
-  index-told = tested (is_index _) _ (record { sfits = e.before.owner_at.ok }) e.is-index.ensures ∙ ap (is_index start.args.n.bones) owner-is
+  index-told : e.is_index.result ≡ is_index start.args.n.bones owner
+  index-told = tested (is_index _) _ (record { sfits = e.owner_at-owner.ok }) e.is_index.ensures ∙ ap (is_index start.args.n.bones) owner-is
 
   -- the corner before the one that was looked at last
-  next : at-loop.loop.i ≡ suc (at-loop.loop.i - 1)
-  next = let h = e.before.before.before.before.loop-test.taken in omega arith
+  next : at-loop.loop-i.i ≡ suc (at-loop.loop-i.i - 1)
+  next = let h = e.loop-i-test.taken in omega arith
 
-none_told : (m : tie.After-is-none invariant-loop decreases-loop) → m.is_none.result ≡ is_none (owner m.before.before)
-none_told m = tested is_none _ (record { sfits = m.before.before.before.owner_at.type-inv }) m.is_none.ensures ∙ ap is_none (owner-is m.before.before)
+none_told : (m : tie.After-is_none invariant-loop decreases-loop) → m.is_none.result ≡ is_none (owner m.before.before)
+none_told m = tested is_none _ (record { sfits = m.owner_at-owner.type-inv }) m.is_none.ensures ∙ ap is_none (owner-is m.before.before)
 
-all_done : (m : tie.After-loop invariant-loop decreases-loop) → some (found m.before.before.args.used m.before.loop.first) ≡ owned_in m.before.before.args.n m.before.before.args.table.now (face_vertices m.before.before.args.row.now) m.before.before.args.used
-all_done m = let z : m.before.loop.i ≡ 0 = (let h = m.loop-test.false in omega arith) in ends _ _ _ _ (room m.before.before) _ (rw z at m.before.loop.invariant)
+all_done : (m : tie.After-loop-i invariant-loop decreases-loop) → some (found m.args.used m.loop-i.first) ≡ owned_in m.args.n m.args.table.now (face_vertices m.args.row.now) m.args.used
+all_done m = let z : m.loop-i.i ≡ 0 = (let h = m.loop-i-test.false in omega arith) in ends _ _ _ _ (room m.before.before) _ (rw z at m.loop-i.invariant)
 
-loop-holds : tie.Need-loop-init invariant-loop decreases-loop
+loop-holds : tie.Need-loop-i-init invariant-loop decreases-loop
 loop-holds c = begins _ _ _ _ (room c)
 
-sub-i : tie.Need-overflow-sub-i invariant-loop decreases-loop
+sub-i : tie.Need-overflow_sub-i invariant-loop decreases-loop
 sub-i c = search rules
 
-mul-owner-at : tie.Need-overflow-mul-owner-at invariant-loop decreases-loop
-mul-owner-at c = byte_fits _ _ refl (owners_room _ _ _ c.before.before.requires.0).1
+mul-owner-at : tie.Need-offset_bounds-table-owners invariant-loop decreases-loop
+mul-owner-at c = byte_fits _ _ refl (owners_room _ _ _ c.requires.0).1
 
-sub-owner-at : tie.Need-overflow-sub-owner-at invariant-loop decreases-loop
-sub-owner-at c = (owners_room _ _ _ c.before.before.requires.0).0
+sub-owner-at : tie.Need-slice_bounds-owner_at-count invariant-loop decreases-loop
+sub-owner-at c = (owners_room _ _ _ c.requires.0).0
 
-part-owner-at-start : tie.Need-slice-bounds-owner-at-start invariant-loop decreases-loop
-part-owner-at-start c = (owners_room _ _ _ c.before.before.requires.0).0
+part-owner-at-start : tie.Need-slice_bounds-owner_at-start invariant-loop decreases-loop
+part-owner-at-start c = (owners_room _ _ _ c.requires.0).0
 
-part-owner-at-end : tie.Need-slice-bounds-owner-at-end invariant-loop decreases-loop
+part-owner-at-end : tie.Need-slice_bounds-owner_at-end invariant-loop decreases-loop
 part-owner-at-end c = search rules
 
-face-vertex-requires : tie.Need-face-vertex-requires invariant-loop decreases-loop
+face-vertex-requires : tie.Need-face_vertex-requires invariant-loop decreases-loop
 face-vertex-requires c κs = search rules
 
-owner-at-requires : tie.Need-owner-at-requires invariant-loop decreases-loop
+owner-at-requires : tie.Need-owner_at-owner-requires invariant-loop decreases-loop
 owner-at-requires c κs = search rules
 
-is-index-requires : tie.Need-is-index-requires invariant-loop decreases-loop
+is-index-requires : tie.Need-is_index-requires invariant-loop decreases-loop
 is-index-requires c κs = search rules
 
-returns : tie.Need-returns invariant-loop decreases-loop
+returns : tie.Need-returns-then-not-is_index invariant-loop decreases-loop
 unfolding corner_told
 returns c =
     let e = c.before in
-    turn_broken _ _ _ _ (room (start e)) _ _ _ (next e) (at-loop e).loop.invariant (sym (index-told e) ∙ not-true _ c.if1.true)
+    turn_broken _ _ _ _ (room (start e)) _ _ _ (next e) (at-loop e).loop-i.invariant (sym (index-told e) ∙ not-true _ c.if-not-is_index.true-raw)
 
-is-none-requires : tie.Need-is-none-requires invariant-loop decreases-loop
+is-none-requires : tie.Need-is_none-requires invariant-loop decreases-loop
 is-none-requires c κs = search rules
 
-loop-less : tie.Need-loop-smaller invariant-loop decreases-loop
-loop-less c = (let h = c.before.before.before.before.before.before.before.loop-test.true in omega arith)
+loop-less : tie.Need-loop-i-smaller-then-is_none invariant-loop decreases-loop
+loop-less c = (let h = c.loop-i-test.true in omega arith)
 
-loop-again : tie.Need-loop-preserved invariant-loop decreases-loop
+loop-again : tie.Need-loop-i-preserved-then-is_none invariant-loop decreases-loop
 loop-again c =
     let e = c.before.before.before in
-    turn_none _ _ _ _ (room (start e)) _ _ _ (next e) (at-loop e).loop.invariant (sym (index-told e) ∙ not-false _ c.before.before.if1.false) (sym (none_told c.before) ∙ c.if2.true)
+    turn_none _ _ _ _ (room (start e)) _ _ _ (next e) (at-loop e).loop-i.invariant (sym (index-told e) ∙ not-false _ c.if-not-is_index.false-raw) (sym (none_told c.before) ∙ c.if-is_none.true)
 
-loop-less-2 : tie.Need-loop-smaller-2 invariant-loop decreases-loop
-loop-less-2 c = (let h = c.before.before.before.before.before.before.before.loop-test.true in omega arith)
+loop-less-2 : tie.Need-loop-i-smaller invariant-loop decreases-loop
+loop-less-2 c = (let h = c.loop-i-test.true in omega arith)
 
-loop-again-2 : tie.Need-loop-preserved-2 invariant-loop decreases-loop
+loop-again-2 : tie.Need-loop-i-preserved invariant-loop decreases-loop
 loop-again-2 c =
     let e = c.before.before.before in
-    turn_owned _ _ _ _ (room (start e)) _ _ _ (next e) (at-loop e).loop.invariant (sym (index-told e) ∙ not-false _ c.before.before.if1.false) (sym (none_told c.before) ∙ c.if2.false)
+    turn_owned _ _ _ _ (room (start e)) _ _ _ (next e) (at-loop e).loop-i.invariant (sym (index-told e) ∙ not-false _ c.if-not-is_index.false-raw) (sym (none_told c.before) ∙ c.if-is_none.false)
 
-returns-2 : tie.Need-returns-2 invariant-loop decreases-loop
+returns-2 : tie.Need-returns-then-first-used invariant-loop decreases-loop
 unfolding corner_told
-returns-2 c = ap some (sym (found_none _ _ c.if3.true)) ∙ all_done c.before
+returns-2 c = ap some (sym (found_none _ _ c.if-first-used.true)) ∙ all_done c.before
 
-returns-3 : tie.Need-returns-3 invariant-loop decreases-loop
+returns-3 : tie.Need-returns invariant-loop decreases-loop
 unfolding corner_told
-returns-3 c = ap some (sym (found_some _ _ c.if3.false)) ∙ all_done c.before
+returns-3 c = ap some (sym (found_some _ _ c.if-first-used.false)) ∙ all_done c.before
 
-pub owned-spec : {M : Type 1} → statement M
-owned-spec =
-    tie.close
-    (tie.spec
-    invariant-loop
-    decreases-loop
-    loop-holds
-    sub-i
-    mul-owner-at
-    sub-owner-at
-    part-owner-at-start
-    part-owner-at-end
-    face-vertex-requires
-    owner-at-requires
-    is-index-requires
-    returns
-    is-none-requires
-    loop-less
-    loop-again
-    loop-less-2
-    loop-again-2
-    returns-2
-    returns-3)
+pub owned_spec : {M : Type 1} → statement M
+owned_spec = tie.close (tie.spec invariant-loop decreases-loop loop-holds sub-i mul-owner-at sub-owner-at part-owner-at-start part-owner-at-end face-vertex-requires owner-at-requires is-index-requires returns is-none-requires loop-less loop-again loop-less-2 loop-again-2 returns-2 returns-3)

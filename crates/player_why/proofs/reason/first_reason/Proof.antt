@@ -29,43 +29,33 @@ corner-with : (k : ℕ) (e : Explained) → OneOf (1 ∷ 2 ∷ 3 ∷ 4 ∷ []) (
 unfolding first_reason corner_first
 corner-with k e h = rw (answered e h).2
 
-enum_told : tie.Need-enum-told
+enum_told : tie.Need-enum_told-1
 enum_told c = search rules
 
-returns : tie.Need-returns
+returns : tie.Need-returns-in-Refused
 unfolding reason_told
-returns c = rw c.enum_told.given.1 (refused-with _)
+returns c = rw c.in-Refused.is (refused-with _)
 
-enum-told-2 : tie.Need-enum-told-2
+enum-told-2 : tie.Need-enum_told-in-Refused-corners
 enum-told-2 c = search rules
 
-enum-told-3 : tie.Need-enum-told-3
+enum-told-3 : tie.Need-enum_told-in-All
 enum-told-3 c = search rules
 
-enum-known-corners : tie.Need-enum-known-corners
+enum-known-corners : tie.Need-enum_known-corners
 enum-known-corners c = search rules
 
-returns-2 : tie.Need-returns-2
+returns-2 : tie.Need-returns-in-Refused-corners
 unfolding reason_told corner_told first_reason
-returns-2 c = rw c.enum-told2.given.1
+returns-2 c = rw c.in-Refused-corners.is
 
-returns-3 : tie.Need-returns-3
+returns-3 : tie.Need-returns-in-All
 unfolding corner_told
-returns-3 c = rw c.enum-told3.given.1 (owned-with _)
+returns-3 c = rw c.in-All.is (owned-with _)
 
-returns-4 : tie.Need-returns-4
+returns-4 : tie.Need-returns-in-Without
 unfolding reason_told corner_told
-returns-4 c = rw c.before.corners.given.1 (corner-with _ c.before.before.before.before.args.group c.before.before.before.match.keys2)
+returns-4 c = rw c.in-Without.is (corner-with _ c.args.group c.in_default.keys2)
 
-pub first-reason-spec : {M : Type 1} → statement M
-first-reason-spec =
-    tie.close
-    (tie.spec
-    enum_told
-    returns
-    enum-told-2
-    enum-told-3
-    enum-known-corners
-    returns-2
-    returns-3
-    returns-4)
+pub first_reason_spec : {M : Type 1} → statement M
+first_reason_spec = tie.close (tie.spec enum_told returns enum-told-2 enum-told-3 enum-known-corners returns-2 returns-3 returns-4)

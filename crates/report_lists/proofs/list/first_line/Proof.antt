@@ -13,71 +13,54 @@ use Rattle.report_lists.proofs.Listings.{first_taken, first-refused}
 use Rattle.report_lists.proofs.list.first_line.Statement.{statement}
 use Rattle.report_lists.proofs.list.first_line.Tie as tie
 
-slice-aggregate-append-row : tie.Need-slice-aggregate-append-row
+slice-aggregate-append-row : tie.Need-slice_bounds-append_row-end-then-refusal-ne0
 slice-aggregate-append-row c = search rules
 
 shown-requires : tie.Need-shown-requires
 shown-requires c κs = search rules
 
-shown-requires-2 : tie.Need-shown-requires-2
+shown-requires-2 : tie.Need-shown-requires-then-refusal-ne0
 shown-requires-2 c κs = search rules
 
-slice-aggregate-append-row-2 : tie.Need-slice-aggregate-append-row-2
+slice-aggregate-append-row-2 : tie.Need-slice_bounds-append_row-end-2
 slice-aggregate-append-row-2 c = search rules
 
-append-row-requires : tie.Need-append-row-requires
+append-row-requires : tie.Need-append_row-requires
 append-row-requires c κs = search rules
 
-same_length : tie.Need-same-length
+same_length : tie.Need-shape_of-buf-then-refusal-ne0
 same_length c = search rules
 
-returns : tie.Need-returns
+returns : tie.Need-returns-then-refusal-ne0
 unfolding bytes
 returns c =
     let k = c.before.before in
     let s2 = k.before.before in
     let s1 = s2.before in
     let t = s1.before.before.before in
-    let a = t.before.before.before.args in
-    let e : output k.append-row.result k.append-row.new.0 ≡ appended (output 0 a.buf.now) (line (bytes "refused") (to_z w64 (of_z w64 s1.shown.result) ∷ to_z w64 (of_z w64 s2.shown2.result) ∷ [])) = k.append-row.ensures in
-    rw (held a.refusal s1.shown.result s1.shown.ensures, held a.place s2.shown2.result s2.shown2.ensures) at e
-    ∙ ap (appended (output 0 a.buf.now)) (sym (first-refused a.word.now a.refusal a.place a.total (ne_eqb a.refusal 0 t.if1.true)))
+    let a = t.args in
+    let e : output k.append_row.result k.append_row.new.0 ≡ appended (output 0 a.buf-1.now) (line (bytes "refused") (to_z w64 (of_z w64 s1.shown.result) ∷ to_z w64 (of_z w64 s2.shown-then-refusal-ne0.result) ∷ [])) = k.append_row.ensures in
+    rw (held a.refusal s1.shown.result s1.shown.ensures, held a.place s2.shown-then-refusal-ne0.result s2.shown-then-refusal-ne0.ensures) at e
+    ∙ ap (appended (output 0 a.buf-1.now)) (sym (first-refused a.word.now a.refusal a.place a.total (ne_eqb a.refusal 0 t.if-refusal-ne0.true)))
 
-shown-requires-3 : tie.Need-shown-requires-3
+shown-requires-3 : tie.Need-shown-requires-2
 shown-requires-3 c κs = search rules
 
-slice-aggregate-append-row-3 : tie.Need-slice-aggregate-append-row-3
-slice-aggregate-append-row-3 c = search rules
-
-append-row-requires-2 : tie.Need-append-row-requires-2
+append-row-requires-2 : tie.Need-append_row-requires-2
 append-row-requires-2 c κs = search rules
 
-same-length-2 : tie.Need-same-length-2
+same-length-2 : tie.Need-shape_of-buf
 same-length-2 c = search rules
 
-returns-2 : tie.Need-returns-2
+returns-2 : tie.Need-returns
 returns-2 c =
     let k = c.before.before in
     let s = k.before.before in
     let t = s.before.before in
-    let a = t.before.before.before.args in
-    let e : output k.append-row2.result k.append-row2.new.0 ≡ appended (output 0 a.buf.now) (line a.word.now (to_z w64 (of_z w64 s.shown3.result) ∷ [])) = k.append-row2.ensures in
-    rw (held a.total s.shown3.result s.shown3.ensures) at e
-    ∙ ap (appended (output 0 a.buf.now)) (sym (first_taken a.word.now a.refusal a.place a.total (eq-eqb a.refusal 0 t.if1.false)))
+    let a = t.args in
+    let e : output k.append_row-2.result k.append_row-2.new.0 ≡ appended (output 0 a.buf-1.now) (line a.word.now (to_z w64 (of_z w64 s.shown-2.result) ∷ [])) = k.append_row-2.ensures in
+    rw (held a.total s.shown-2.result s.shown-2.ensures) at e
+    ∙ ap (appended (output 0 a.buf-1.now)) (sym (first_taken a.word.now a.refusal a.place a.total (eq-eqb a.refusal 0 t.if-refusal-ne0.false)))
 
-pub first-line-spec : {M : Type 1} → statement M
-first-line-spec =
-    tie.close
-    (tie.spec
-    slice-aggregate-append-row
-    shown-requires
-    shown-requires-2
-    slice-aggregate-append-row-2
-    append-row-requires
-    same_length
-    returns
-    shown-requires-3
-    slice-aggregate-append-row-3
-    append-row-requires-2
-    same-length-2
-    returns-2)
+pub first_line_spec : {M : Type 1} → statement M
+first_line_spec = tie.close (tie.spec shown-requires shown-requires-2 slice-aggregate-append-row append-row-requires same_length returns shown-requires-3 slice-aggregate-append-row-2 append-row-requires-2 same-length-2 returns-2)

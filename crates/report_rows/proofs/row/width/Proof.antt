@@ -12,41 +12,39 @@ use Rattle.report_text.proofs.Numerals.{digits_few, digits-ten, count_below, cou
 use Rattle.report_rows.proofs.row.width.Statement.{statement}
 use Rattle.report_rows.proofs.row.width.Tie as tie
 
-abbrev invariant-loop : tie.invariant-loop
+abbrev invariant-loop : tie.invariant-loop-rest
 invariant-loop z k₀ rest₀ k rest = length (numeral (to_z w64 z)) + 1 ≡ k + length (digits rest)
 
-abbrev decreases-loop : tie.decreases-loop
+abbrev decreases-loop : tie.decreases-loop-rest
 decreases-loop z k₀ rest₀ k rest = rest
 
-magnitude-requires : tie.Need-magnitude-requires invariant-loop decreases-loop
+magnitude-requires : tie.Need-magnitude-rest-requires invariant-loop decreases-loop
 magnitude-requires c κs = search rules
 
-loop-holds : tie.Need-loop-init invariant-loop decreases-loop
+loop-holds : tie.Need-loop-rest-init invariant-loop decreases-loop
 loop-holds c =
-    let z = to_z w64 (of_z w64 c.before.before.args.z) in
-    let m = c.magnitude.result in
+    let z = to_z w64 (of_z w64 c.args.z) in
+    let m = c.magnitude-rest.result in
     ⊎_elim
-    (λ w. rw w.1 (count_below z m c.magnitude.ensures w.0.taken))
-    (λ w. rw w.1 (count_from z m c.magnitude.ensures w.0.left))
-    c.before.if1.branch
+    (λ w. rw w.1 (count_below z m c.magnitude-rest.ensures w.0.taken))
+    (λ w. rw w.1 (count_from z m c.magnitude-rest.ensures w.0.left))
+    c.if-z-lt0.branch
 
-add-k : tie.Need-overflow-add-k invariant-loop decreases-loop
+add-k : tie.Need-overflow_add-k invariant-loop decreases-loop
 add-k c =
     let s = c.before.before.before.before.before in
-    omega (arith, c.before.before.loop.invariant, ap length (from_bits s.args.z s.ranges.z), numeral-most s.args.z s.ranges.z)
+    omega (arith, c.loop-rest.invariant, ap length (from_bits s.args.z s.ranges.z), numeral-most s.args.z s.ranges.z)
 
-loop-less : tie.Need-loop-smaller invariant-loop decreases-loop
+loop-less : tie.Need-loop-rest-smaller invariant-loop decreases-loop
 loop-less c = search rules
 
-loop-again : tie.Need-loop-preserved invariant-loop decreases-loop
-loop-again c = omega (arith, c.before.before.loop.invariant, digits-ten c.before.before.loop.rest c.before.loop-test.true)
+loop-again : tie.Need-loop-rest-preserved invariant-loop decreases-loop
+loop-again c = omega (arith, c.loop-rest.invariant, digits-ten c.loop-rest.rest c.loop-rest-test.true)
 
 returns : tie.Need-returns invariant-loop decreases-loop
 returns c =
     let s = c.before.before.before.before in
-    omega (arith, c.before.loop.invariant, ap length (from_bits s.args.z s.ranges.z), digits_few c.before.loop.rest c.loop-test.false)
+    omega (arith, c.loop-rest.invariant, ap length (from_bits s.args.z s.ranges.z), digits_few c.loop-rest.rest c.loop-rest-test.false)
 
 pub width_spec : {M : Type 1} → statement M
-width_spec =
-    tie.close
-    (tie.spec invariant-loop decreases-loop magnitude-requires loop-holds add-k loop-less loop-again returns)
+width_spec = tie.close (tie.spec invariant-loop decreases-loop magnitude-requires loop-holds add-k loop-less loop-again returns)

@@ -7,11 +7,11 @@ use Rattle.report_text.proofs.Appending.{room}
 use Rattle.report_text.proofs.buffer.has_room.Statement.{statement}
 use Rattle.report_text.proofs.buffer.has_room.Tie as tie
 
-returns : tie.Need-returns
-returns c = let a = c.before.args in sym (lt-leb (a.n + a.k) a.size (omega arith))
+returns : tie.Need-returns-then-size-n
+returns c = let a = c.args in sym (lt-leb (a.n + a.k) a.size (omega arith))
 
-returns-2 : tie.Need-returns-2
-returns-2 c = room _ _ _ c.if1.false
+returns-2 : tie.Need-returns
+returns-2 c = room _ _ _ c.if-size-n.false
 
-pub has-room-spec : {M : Type 1} → statement M
-has-room-spec = tie.close (tie.spec returns returns-2)
+pub has_room_spec : {M : Type 1} → statement M
+has_room_spec = tie.close (tie.spec returns returns-2)

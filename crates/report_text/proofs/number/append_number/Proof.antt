@@ -15,100 +15,78 @@ use Rattle.report_text.proofs.number.append_number.Tie as tie
 magnitude-requires : tie.Need-magnitude-requires
 magnitude-requires c κs = search rules
 
-decimal-requires : tie.Need-decimal-requires
+decimal-requires : tie.Need-decimal-k-requires
 decimal-requires c κs = search rules
 
-add-has-room : tie.Need-overflow-add-has-room
+add-has-room : tie.Need-overflow_add-k
 add-has-room c =
-    let d = c.before.decimal in
-    let most = count_most _ _ _ _ c.before.before.before.before.before.ranges.z c.before.before.before.magnitude.ensures d.ensures.1.0 d.ensures.1.1 in
+    let d = c.decimal-k in
+    let most = count_most _ _ _ _ c.ranges.z c.magnitude.ensures d.ensures.1.0 d.ensures.1.1 in
     omega (arith, most)
 
-has-room-requires : tie.Need-has-room-requires
+has-room-requires : tie.Need-has_room-requires
 has-room-requires c κs = search rules
 
 -- the number's text and its length, at each sign
-from : (c : tie.Else1) → numeral c.before.before.before.before.before.args.z ≡ take c.before.decimal.result c.before.decimal.new.1.0
+from : (c : tie.Else-z-lt0) → numeral c.args.z ≡ take c.decimal-k.result c.decimal-k.new.1.0
 from c =
-    let d = c.before.decimal in
-    text-from _ _ _ _ c.before.before.before.before.before.ranges.z c.before.before.before.magnitude.ensures d.ensures.1.0 d.ensures.1.1 c.if1.false
+    let d = c.decimal-k in
+    text-from _ _ _ _ c.ranges.z c.magnitude.ensures d.ensures.1.0 d.ensures.1.1 c.if-z-lt0.false
 
-below : (c : tie.Then1) → numeral c.before.before.before.before.before.args.z ≡ 45 ∷ take c.before.decimal.result c.before.decimal.new.1.0
+below : (c : tie.Then-z-lt0) → numeral c.args.z ≡ 45 ∷ take c.decimal-k.result c.decimal-k.new.1.0
 below c =
-    let d = c.before.decimal in
-    text-below _ _ _ _ c.before.before.before.before.before.ranges.z c.before.before.before.magnitude.ensures d.ensures.1.0 d.ensures.1.1 c.if1.true
+    let d = c.decimal-k in
+    text-below _ _ _ _ c.ranges.z c.magnitude.ensures d.ensures.1.0 d.ensures.1.1 c.if-z-lt0.true
 
-wide : (c : tie.Then1) → c.before.decimal.result + 1 ≡ length (numeral c.before.before.before.before.before.args.z)
+wide : (c : tie.Then-z-lt0) → c.decimal-k.result + 1 ≡ length (numeral c.args.z)
 wide c =
-    let d = c.before.decimal in
-    width-below _ _ _ _ c.before.before.before.before.before.ranges.z c.before.before.before.magnitude.ensures d.ensures.1.0 d.ensures.1.1 c.if1.true
+    let d = c.decimal-k in
+    width-below _ _ _ _ c.ranges.z c.magnitude.ensures d.ensures.1.0 d.ensures.1.1 c.if-z-lt0.true
 
-returns : tie.Need-returns
+returns : tie.Need-returns-then-not-has_room
 returns c =
     let t = c.before.before in
-    let a = t.before.before.before.before.before.args in
-    no_room a.n _ a.buf.now (numeral a.z) _ (wide t) c.before.has_room.ensures c.if2.true
+    let a = t.args in
+    no_room a.n _ a.buf-1.now (numeral a.z) _ (wide t) c.has_room.ensures c.if-not-has_room.true-raw
 
-slice-aggregate-append : tie.Need-slice-aggregate-append
+slice-aggregate-append : tie.Need-slice_bounds-append-end-then-z-lt0
 slice-aggregate-append c = search rules
 
-append-requires : tie.Need-append-requires
+append-requires : tie.Need-append-at-requires
 append-requires c κs = search rules
 
-array-share-prefix-digits : tie.Need-array-share-prefix-digits
+array-share-prefix-digits : tie.Need-slice_bounds-digits-end
 array-share-prefix-digits c = search rules
 
-slice-aggregate-append-2 : tie.Need-slice-aggregate-append-2
+slice-aggregate-append-2 : tie.Need-slice_bounds-append-end-2
 slice-aggregate-append-2 c = search rules
 
-append-requires-2 : tie.Need-append-requires-2
+append-requires-2 : tie.Need-append-requires
 append-requires-2 c κs = search rules
 
-same_length : tie.Need-same-length
+same_length : tie.Need-shape_of-buf-then-z-lt0
 same_length c = search rules
 
-returns-2 : tie.Need-returns-2
+returns-2 : tie.Need-returns-then-z-lt0
 returns-2 c =
     let o = c.before.before.before.before.before.before.before in
     let r = o.before.before.before in
     let t = r.before.before in
-    let a = t.before.before.before.before.before.args in
-    let fits = has_room a.n _ a.buf.now (numeral a.z) _ (wide t) r.before.has_room.ensures r.if2.false in
-    rw (below t) (both a.n o.append.result a.buf.now _ (45 ∷ []) _ (rw (below t) at fits) o.append.ensures _ _ c.before.before.append2.ensures)
+    let a = t.args in
+    let fits = has_room a.n _ a.buf-1.now (numeral a.z) _ (wide t) r.has_room.ensures r.if-not-has_room.false-raw in
+    rw (below t) (both a.n o.append-at.result a.buf-1.now _ (45 ∷ []) _ (rw (below t) at fits) o.append-at.ensures _ _ c.append.ensures)
 
-array-share-prefix-digits-2 : tie.Need-array-share-prefix-digits-2
+array-share-prefix-digits-2 : tie.Need-slice_bounds-digits-end-2
 array-share-prefix-digits-2 c = search rules
 
-slice-aggregate-append-3 : tie.Need-slice-aggregate-append-3
-slice-aggregate-append-3 c = search rules
-
-append-requires-3 : tie.Need-append-requires-3
+append-requires-3 : tie.Need-append-requires-2
 append-requires-3 c κs = search rules
 
-same-length-2 : tie.Need-same-length-2
+same-length-2 : tie.Need-shape_of-buf
 same-length-2 c = search rules
 
-returns-3 : tie.Need-returns-3
-returns-3 c = c.before.before.append3.ensures ∙ ap (appended _) (sym (from c.before.before.before.before.before))
+returns-3 : tie.Need-returns
+returns-3 c = c.append-2.ensures ∙ ap (appended _) (sym (from c.before.before.before.before.before))
 
-pub append-number-spec : {M : Type 1} → statement M
-append-number-spec =
-    tie.close
-    (tie.spec
-    magnitude-requires
-    decimal-requires
-    add-has-room
-    has-room-requires
-    returns
-    slice-aggregate-append
-    append-requires
-    array-share-prefix-digits
-    slice-aggregate-append-2
-    append-requires-2
-    same_length
-    returns-2
-    array-share-prefix-digits-2
-    slice-aggregate-append-3
-    append-requires-3
-    same-length-2
-    returns-3)
+pub append_number_spec : {M : Type 1} → statement M
+append_number_spec = tie.close (tie.spec magnitude-requires decimal-requires add-has-room has-room-requires returns append-requires array-share-prefix-digits slice-aggregate-append append-requires-2 same_length returns-2 array-share-prefix-digits-2 slice-aggregate-append-2 append-requires-3 same-length-2 returns-3)

@@ -13,55 +13,46 @@ use borrow.Author.Rules.{rules}
 use Rattle.sample_listing.proofs.samples.append_sample.Statement.{statement}
 use Rattle.sample_listing.proofs.samples.append_sample.Tie as tie
 
-enum_told : tie.Need-enum-told
+enum_told : tie.Need-enum_told-1
 enum_told c = search rules
 
-slice-aggregate-append-row : tie.Need-slice-aggregate-append-row
+slice-aggregate-append-row : tie.Need-slice_bounds-append_row-end-in-Value-2
 slice-aggregate-append-row c = search rules
 
-slice-aggregate-append-row-2 : tie.Need-slice-aggregate-append-row-2
-slice-aggregate-append-row-2 c = search rules
-
-append-row-requires : tie.Need-append-row-requires
+append-row-requires : tie.Need-append_row-requires
 append-row-requires c κs = search rules
 
-enum-known-answer : tie.Need-enum-known-answer
+enum-known-answer : tie.Need-enum_known-answer
 enum-known-answer c = search rules
-
-slice-aggregate-append-row-3 : tie.Need-slice-aggregate-append-row-3
-slice-aggregate-append-row-3 c = search rules
 
 shown-requires : tie.Need-shown-requires
 shown-requires c κs = search rules
 
-shown-requires-2 : tie.Need-shown-requires-2
+shown-requires-2 : tie.Need-shown-requires-in-Value
 shown-requires-2 c κs = search rules
 
-shown-requires-3 : tie.Need-shown-requires-3
+shown-requires-3 : tie.Need-shown-requires-in-Value-2
 shown-requires-3 c κs = search rules
 
-shown-requires-4 : tie.Need-shown-requires-4
+shown-requires-4 : tie.Need-shown-requires-in-Value-3
 shown-requires-4 c κs = search rules
 
-slice-aggregate-append-row-4 : tie.Need-slice-aggregate-append-row-4
-slice-aggregate-append-row-4 c = search rules
-
-append-row-requires-2 : tie.Need-append-row-requires-2
+append-row-requires-2 : tie.Need-append_row-requires-in-Value
 append-row-requires-2 c κs = search rules
 
-same_length : tie.Need-same-length
+same_length : tie.Need-shape_of-buf-in-Refused
 same_length c = search rules
 
-returns : tie.Need-returns
+returns : tie.Need-returns-in-Refused
 unfolding bytes
 returns c =
-    let a = c.before.before.before.before.before.before.before.before.before.args in
-    refused_put a.n a.bone a.channel a.at _ a.buf.now _ a.answer c.before.before.before.before.before.before.enum_told.given.1 c.before.before.append-row.ensures
+    let a = c.args in
+    refused_put a.n a.bone a.channel a.at _ a.buf-1.now _ a.answer-1 c.in-Refused.is c.append_row.ensures
 
-same-length-2 : tie.Need-same-length-2
+same-length-2 : tie.Need-shape_of-buf-in-Value
 same-length-2 c = search rules
 
-returns-2 : tie.Need-returns-2
+returns-2 : tie.Need-returns-in-Value
 unfolding bytes
 returns-2 c =
     let k = c.before.before in
@@ -70,30 +61,12 @@ returns-2 c =
     let s2 = s3.before in
     let s1 = s2.before in
     let t = s1.before.before.before in
-    let a = t.before.before.before.before.args in
-    let f = t.before.answer.given in
-    let fits : SFits w64 f.0.0 = record { sfits = t.known-told.given.0.1 } in
-    let e : output k.append-row2.result k.append-row2.new.0 ≡ appended (output a.n a.buf.now) (line (bytes "sample") (to_z w64 (of_z w64 s1.shown.result) ∷ to_z w64 (of_z w64 s2.shown2.result) ∷ to_z w64 (of_z w64 s3.shown3.result) ∷ to_z w64 (of_z w64 f.0.0) ∷ to_z w64 (of_z w64 s4.shown4.result) ∷ [])) = k.append-row2.ensures in
-    value_put a.n a.bone a.channel a.at _ a.buf.now _ a.answer f.0.0 f.0.1.0 f.1 fits
-    (rw (held a.bone _ s1.shown.ensures, held a.channel _ s2.shown2.ensures, held a.at _ s3.shown3.ensures, to_z-of_z fits, held f.0.1.0 _ s4.shown4.ensures) at e)
+    let a = t.args in
+    let f = t.answer-1.given in
+    let fits : SFits w64 f.0.0 = record { sfits = t.in-Value.known_told-1-own.given.0.1 } in
+    let e : output k.append_row-in-Value.result k.append_row-in-Value.new.0 ≡ appended (output a.n a.buf-1.now) (line (bytes "sample") (to_z w64 (of_z w64 s1.shown.result) ∷ to_z w64 (of_z w64 s2.shown-in-Value.result) ∷ to_z w64 (of_z w64 s3.shown-in-Value-2.result) ∷ to_z w64 (of_z w64 f.0.0) ∷ to_z w64 (of_z w64 s4.shown-in-Value-3.result) ∷ [])) = k.append_row-in-Value.ensures in
+    value_put a.n a.bone a.channel a.at _ a.buf-1.now _ a.answer-1 f.0.0 f.0.1.0 f.1 fits
+    (rw (held a.bone _ s1.shown.ensures, held a.channel _ s2.shown-in-Value.ensures, held a.at _ s3.shown-in-Value-2.ensures, to_z-of_z fits, held f.0.1.0 _ s4.shown-in-Value-3.ensures) at e)
 
-pub append-sample-spec : {M : Type 1} → statement M
-append-sample-spec =
-    tie.close
-    (tie.spec
-    enum_told
-    slice-aggregate-append-row
-    slice-aggregate-append-row-2
-    append-row-requires
-    enum-known-answer
-    slice-aggregate-append-row-3
-    shown-requires
-    shown-requires-2
-    shown-requires-3
-    shown-requires-4
-    slice-aggregate-append-row-4
-    append-row-requires-2
-    same_length
-    returns
-    same-length-2
-    returns-2)
+pub append_sample_spec : {M : Type 1} → statement M
+append_sample_spec = tie.close (tie.spec enum_told append-row-requires enum-known-answer shown-requires shown-requires-2 shown-requires-3 shown-requires-4 slice-aggregate-append-row append-row-requires-2 same_length returns same-length-2 returns-2)

@@ -23,64 +23,52 @@ use Rattle.sample_listing.proofs.samples.list_samples.Tie as tie
 abbrev Frame : MovementCounts → List ℤ → ℕ → ℕ → ℕ → List (List ℕ)
 Frame n table bone channel at = sample_line bone channel at (numbered (sample_in n table bone channel at)) ∷ []
 
-abbrev invariant-loop : tie.invariant-loop
+abbrev invariant-loop : tie.invariant-loop-at
 invariant-loop buf₀ table n bone channel first end filled₀ at₀ buf filled at =
     (length buf ≡ length buf₀)
     × (appended_each (output 0 buf₀) (lines_from (Frame n table bone channel) first (end - first)) ≡ appended_each (output filled buf) (lines_from (Frame n table bone channel) at (end - at)))
     × Short (Frame n table bone channel) 112 first at end
 
-abbrev decreases-loop : tie.decreases-loop
+abbrev decreases-loop : tie.decreases-loop-at
 decreases-loop buf₀ table n bone channel first end filled₀ at₀ buf filled at = end - at
 
-loop-holds : tie.Need-loop-init invariant-loop decreases-loop
+loop-holds : tie.Need-loop-at-init invariant-loop decreases-loop
 loop-holds c = (refl, refl, omega arith)
 
-sample-requires : tie.Need-sample-requires invariant-loop decreases-loop
+sample-requires : tie.Need-sample-answer-requires invariant-loop decreases-loop
 sample-requires c κs = search rules
 
-append-sample-requires : tie.Need-append-sample-requires invariant-loop decreases-loop
+append-sample-requires : tie.Need-append_sample-filled-requires invariant-loop decreases-loop
 append-sample-requires c κs = search rules
 
-add_at : tie.Need-overflow-add-at invariant-loop decreases-loop
+add_at : tie.Need-overflow_add-at invariant-loop decreases-loop
 add_at c = search rules
 
-loop-less : tie.Need-loop-smaller invariant-loop decreases-loop
+loop-less : tie.Need-loop-at-smaller invariant-loop decreases-loop
 loop-less c = search rules
 
-loop-again : tie.Need-loop-preserved invariant-loop decreases-loop
+loop-again : tie.Need-loop-at-preserved invariant-loop decreases-loop
 loop-again c =
     let k = c.before.before in
     let s = k.before.before in
-    let l = s.before.before.loop in
-    let a = s.before.before.before.before.args in
-    let h = s.before.loop-test.true in
+    let l = s.loop-at in
+    let a = s.args in
+    let h = s.loop-at-test.true in
     let f = Frame a.n a.table.now a.bone a.channel in
-    let put = frame_put l.filled a.bone a.channel l.at _ l.buf _ s.sample.result (numbered (sample_in a.n a.table.now a.bone a.channel l.at)) s.sample.ensures k.append-sample.ensures in
-    (k.append-sample.auto.0 ∙ l.invariant.0, rw add-one (l.invariant.1 ∙ turn_put f 112 l.at a.end l.filled _ l.buf _ h put.0), rw add-one (turn_short f 112 a.first l.at a.end h put.1 l.invariant.2))
+    let put = frame_put l.filled a.bone a.channel l.at _ l.buf-1 _ s.sample-answer.result (numbered (sample_in a.n a.table.now a.bone a.channel l.at)) s.sample-answer.ensures k.append_sample-filled.ensures in
+    (k.append_sample-filled.auto.0 ∙ l.invariant.0, rw add-one (l.invariant.1 ∙ turn_put f 112 l.at a.end l.filled _ l.buf-1 _ h put.0), rw add-one (turn_short f 112 a.first l.at a.end h put.1 l.invariant.2))
 
-same_length : tie.Need-same-length invariant-loop decreases-loop
-same_length c = c.before.loop.invariant.0
+same_length : tie.Need-shape_of-buf invariant-loop decreases-loop
+same_length c = c.loop-at.invariant.0
 
 returns : tie.Need-returns invariant-loop decreases-loop
 unfolding sample_lines sample_text
 returns c =
-    let l = c.before.loop in
-    let a = c.before.before.before.args in
+    let l = c.loop-at in
+    let a = c.args in
     let f = Frame a.n a.table.now a.bone a.channel in
-    let h = c.loop-test.false in
-    all_put f 112 a.first a.end l.filled a.buf.now l.buf (all_lines f 112 a.first l.at a.end 0 _ _ l.buf h l.invariant.1) (all_short f 112 a.first l.at a.end h l.invariant.2)
+    let h = c.loop-at-test.false in
+    all_put f 112 a.first a.end l.filled a.buf-1.now l.buf-1 (all_lines f 112 a.first l.at a.end 0 _ _ l.buf-1 h l.invariant.1) (all_short f 112 a.first l.at a.end h l.invariant.2)
 
-pub list-samples-spec : {M : Type 1} → statement M
-list-samples-spec =
-    tie.close
-    (tie.spec
-    invariant-loop
-    decreases-loop
-    loop-holds
-    sample-requires
-    append-sample-requires
-    add_at
-    loop-less
-    loop-again
-    same_length
-    returns)
+pub list_samples_spec : {M : Type 1} → statement M
+list_samples_spec = tie.close (tie.spec invariant-loop decreases-loop loop-holds sample-requires append-sample-requires add_at loop-less loop-again same_length returns)

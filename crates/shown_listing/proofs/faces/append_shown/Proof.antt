@@ -13,107 +13,73 @@ use borrow.Author.Rules.{rules}
 use Rattle.shown_listing.proofs.faces.append_shown.Statement.{statement}
 use Rattle.shown_listing.proofs.faces.append_shown.Tie as tie
 
-shown-requires : tie.Need-shown-requires
+shown-requires : tie.Need-shown-f-requires
 shown-requires c κs = search rules
 
-shown-requires-2 : tie.Need-shown-requires-2
+shown-requires-2 : tie.Need-shown-t-requires
 shown-requires-2 c κs = search rules
 
-enum_told : tie.Need-enum-told
+enum_told : tie.Need-enum_told-1
 enum_told c = search rules
 
-slice-aggregate-append-row : tie.Need-slice-aggregate-append-row
+slice-aggregate-append-row : tie.Need-slice_bounds-append_row-end-in-Shown-2
 slice-aggregate-append-row c = search rules
 
-slice-aggregate-append-row-2 : tie.Need-slice-aggregate-append-row-2
+slice-aggregate-append-row-2 : tie.Need-slice_bounds-append_row-end-in-Hidden-2
 slice-aggregate-append-row-2 c = search rules
 
-append-row-requires : tie.Need-append-row-requires
+append-row-requires : tie.Need-append_row-requires
 append-row-requires c κs = search rules
 
-enum-told-2 : tie.Need-enum-told-2
+enum-told-2 : tie.Need-enum_told-in-Shown
 enum-told-2 c = search rules
 
-slice-aggregate-append-row-3 : tie.Need-slice-aggregate-append-row-3
-slice-aggregate-append-row-3 c = search rules
-
-slice-aggregate-append-row-4 : tie.Need-slice-aggregate-append-row-4
-slice-aggregate-append-row-4 c = search rules
-
-append-row-requires-2 : tie.Need-append-row-requires-2
+append-row-requires-2 : tie.Need-append_row-requires-in-Shown
 append-row-requires-2 c κs = search rules
 
-enum-told-3 : tie.Need-enum-told-3
+enum-told-3 : tie.Need-enum_told-in-Hidden
 enum-told-3 c = search rules
 
-slice-aggregate-append-row-5 : tie.Need-slice-aggregate-append-row-5
-slice-aggregate-append-row-5 c = search rules
-
-slice-aggregate-append-row-6 : tie.Need-slice-aggregate-append-row-6
-slice-aggregate-append-row-6 c = search rules
-
-append-row-requires-3 : tie.Need-append-row-requires-3
+append-row-requires-3 : tie.Need-append_row-requires-in-Hidden
 append-row-requires-3 c κs = search rules
 
-same_length : tie.Need-same-length
+same_length : tie.Need-shape_of-buf-in-Refused
 same_length c = search rules
 
-returns : tie.Need-returns
+returns : tie.Need-returns-in-Refused
 unfolding bytes
 returns c =
     let t = c.before.before.before.before.before.before in
-    let a = t.before.before.before.before.before.args in
-    refused_put a.n a.face a.at _ a.buf.now _ a.answer t.enum_told.given.1 c.before.before.append-row.ensures
+    let a = t.args in
+    refused_put a.n a.face a.at _ a.buf-1.now _ a.answer t.in-Refused.is c.append_row.ensures
 
-same-length-2 : tie.Need-same-length-2
+same-length-2 : tie.Need-shape_of-buf-in-Shown
 same-length-2 c = search rules
 
-returns-2 : tie.Need-returns-2
+returns-2 : tie.Need-returns-in-Shown
 unfolding bytes
 returns-2 c =
     let k = c.before.before in
     let t = k.before.before.before.before in
     let s2 = t.before.before in
     let s1 = s2.before in
-    let a = s1.before.before.args in
-    let e : output k.append-row2.result k.append-row2.new.0 ≡ appended (output a.n a.buf.now) (line (bytes "shown") (to_z w64 (of_z w64 s1.shown.result) ∷ to_z w64 (of_z w64 s2.shown2.result) ∷ pos 1 ∷ [])) = k.append-row2.ensures in
-    shown_put a.n a.face a.at _ a.buf.now _ a.answer t.enum-told2.given.1 (rw (held a.face _ s1.shown.ensures, held a.at _ s2.shown2.ensures) at e)
+    let a = s1.args in
+    let e : output k.append_row-in-Shown.result k.append_row-in-Shown.new.0 ≡ appended (output a.n a.buf-1.now) (line (bytes "shown") (to_z w64 (of_z w64 s1.shown-f.result) ∷ to_z w64 (of_z w64 s2.shown-t.result) ∷ pos 1 ∷ [])) = k.append_row-in-Shown.ensures in
+    shown_put a.n a.face a.at _ a.buf-1.now _ a.answer t.in-Shown.is (rw (held a.face _ s1.shown-f.ensures, held a.at _ s2.shown-t.ensures) at e)
 
-same-length-3 : tie.Need-same-length-3
+same-length-3 : tie.Need-shape_of-buf-in-Hidden
 same-length-3 c = search rules
 
-returns-3 : tie.Need-returns-3
+returns-3 : tie.Need-returns-in-Hidden
 unfolding bytes
 returns-3 c =
     let k = c.before.before in
     let t = k.before.before.before.before in
     let s2 = t.before.before in
     let s1 = s2.before in
-    let a = s1.before.before.args in
-    let e : output k.append-row3.result k.append-row3.new.0 ≡ appended (output a.n a.buf.now) (line (bytes "shown") (to_z w64 (of_z w64 s1.shown.result) ∷ to_z w64 (of_z w64 s2.shown2.result) ∷ pos 0 ∷ [])) = k.append-row3.ensures in
-    hidden_put a.n a.face a.at _ a.buf.now _ a.answer t.enum-told3.given.1 (rw (held a.face _ s1.shown.ensures, held a.at _ s2.shown2.ensures) at e)
+    let a = s1.args in
+    let e : output k.append_row-in-Hidden.result k.append_row-in-Hidden.new.0 ≡ appended (output a.n a.buf-1.now) (line (bytes "shown") (to_z w64 (of_z w64 s1.shown-f.result) ∷ to_z w64 (of_z w64 s2.shown-t.result) ∷ pos 0 ∷ [])) = k.append_row-in-Hidden.ensures in
+    hidden_put a.n a.face a.at _ a.buf-1.now _ a.answer t.in-Hidden.is (rw (held a.face _ s1.shown-f.ensures, held a.at _ s2.shown-t.ensures) at e)
 
-pub append-shown-spec : {M : Type 1} → statement M
-append-shown-spec =
-    tie.close
-    (tie.spec
-    shown-requires
-    shown-requires-2
-    enum_told
-    slice-aggregate-append-row
-    slice-aggregate-append-row-2
-    append-row-requires
-    enum-told-2
-    slice-aggregate-append-row-3
-    slice-aggregate-append-row-4
-    append-row-requires-2
-    enum-told-3
-    slice-aggregate-append-row-5
-    slice-aggregate-append-row-6
-    append-row-requires-3
-    same_length
-    returns
-    same-length-2
-    returns-2
-    same-length-3
-    returns-3)
+pub append_shown_spec : {M : Type 1} → statement M
+append_shown_spec = tie.close (tie.spec shown-requires shown-requires-2 enum_told append-row-requires enum-told-2 slice-aggregate-append-row append-row-requires-2 enum-told-3 slice-aggregate-append-row-2 append-row-requires-3 same_length returns same-length-2 returns-2 same-length-3 returns-3)

@@ -13,33 +13,32 @@ use Rattle.signed.proofs.number.magnitude.Statement.{statement}
 use Rattle.signed.proofs.number.magnitude.Tie as tie
 
 -- z below zero, and its bits
-below : (c : tie.Then1) → to_z w64 (of_z w64 c.before.args.z) ≡ negsuc (mag c.before.args.z)
-below c = to_z-of_z c.before.ranges.z ∙ below-zero _ (ap (λ (z : ℤ). lt_z z (pos 0)) (sym (to_z-of_z c.before.ranges.z)) ∙ c.if1.true)
+below : (c : tie.Then-z-lt0) → to_z w64 (of_z w64 c.args.z) ≡ negsuc (mag c.args.z)
+below c = to_z-of_z c.ranges.z ∙ below-zero _ (ap (λ (z : ℤ). lt_z z (pos 0)) (sym (to_z-of_z c.ranges.z)) ∙ c.if-z-lt0.true)
 
-from : (c : tie.Else1) → to_z w64 (of_z w64 c.before.args.z) ≡ pos (nat_abs c.before.args.z)
-from c = to_z-of_z c.before.ranges.z ∙ from_zero _ (ap (λ (z : ℤ). lt_z z (pos 0)) (sym (to_z-of_z c.before.ranges.z)) ∙ c.if1.false)
+from : (c : tie.Else-z-lt0) → to_z w64 (of_z w64 c.args.z) ≡ pos (nat_abs c.args.z)
+from c = to_z-of_z c.ranges.z ∙ from_zero _ (ap (λ (z : ℤ). lt_z z (pos 0)) (sym (to_z-of_z c.ranges.z)) ∙ c.if-z-lt0.false)
 
-add-below : tie.Need-overflow-add-below
-add-below c = let n = mag c.before.args.z in rw (below c, negsuc-one n) (neg-fits n c.before.ranges.z.sfits)
+add-below : tie.Need-overflow_add-below
+add-below c = let n = mag c.args.z in rw (below c, negsuc-one n) (neg-fits n c.ranges.z.sfits)
 
-sub-below : tie.Need-overflow-sub-below
-sub-below c = rw (below c) (less_one-fits _ c.before.ranges.z.sfits)
+sub-below : tie.Need-overflow_sub-below
+sub-below c = rw (below c) (less_one-fits _ c.ranges.z.sfits)
 
-cast-result : tie.Need-overflow-cast-result
-cast-result c = rw (below c, less_one _ c.before.ranges.z.sfits) (tt, record { fits = omega (arith, c.before.ranges.z.sfits) })
+cast-result : tie.Need-overflow_cast-result
+cast-result c = rw (below c, less_one _ c.ranges.z.sfits) (tt, record { fits = omega (arith, c.ranges.z.sfits) })
 
-add-result : tie.Need-overflow-add-result
-add-result c = rw (below c, less_one _ c.before.ranges.z.sfits) (record { fits = omega (arith, c.before.ranges.z.sfits) })
+add-result : tie.Need-overflow_add-result
+add-result c = rw (below c, less_one _ c.ranges.z.sfits) (record { fits = omega (arith, c.ranges.z.sfits) })
 
-cast-result-2 : tie.Need-overflow-cast-result-2
-cast-result-2 c = rw (from c) (tt, Fits-nat_abs tt c.before.ranges.z)
+cast-result-2 : tie.Need-overflow_cast-result-else-z-lt0
+cast-result-2 c = rw (from c) (tt, Fits-nat_abs tt c.ranges.z)
 
-returns : tie.Need-returns
-returns c = let z = c.before.args.z in rw (below c, less_one _ c.before.ranges.z.sfits) (add-one (mag z) ∙ sym (ap nat_abs (sym (to_z-of_z c.before.ranges.z) ∙ below c)))
+returns : tie.Need-returns-then-z-lt0
+returns c = let z = c.args.z in rw (below c, less_one _ c.ranges.z.sfits) (add-one (mag z) ∙ sym (ap nat_abs (sym (to_z-of_z c.ranges.z) ∙ below c)))
 
-returns-2 : tie.Need-returns-2
+returns-2 : tie.Need-returns-else-z-lt0
 returns-2 c = search rules
 
-pub magnitude-spec : {M : Type 1} → statement M
-magnitude-spec =
-    tie.close (tie.spec add-below sub-below cast-result add-result cast-result-2 returns returns-2)
+pub magnitude_spec : {M : Type 1} → statement M
+magnitude_spec = tie.close (tie.spec add-below sub-below cast-result add-result cast-result-2 returns returns-2)

@@ -15,74 +15,59 @@ use borrow.Author.Rules.{rules}
 use Rattle.table_bones.proofs.bones.movement_bone.Statement.{statement}
 use Rattle.table_bones.proofs.bones.movement_bone.Tie as tie
 
-held : (e : tie.Else1) → holds_movement e.before.before.before.args.m e.before.before.before.args.moves.now ≡ true
-held e = movement-held _ _ _ e.before.before.movement-in.ensures e.if1.false
+held : (e : tie.Else-s-eq0) → holds_movement e.args.m e.args.moves.now ≡ true
+held e = movement-held _ _ _ e.movement_in-s.ensures e.if-s-eq0.false
 
-is-bone : (e : tie.Else2) → e.before.before.before.before.before.args.bone < e.before.before.before.before.before.args.m.bones
-is-bone e = (let h = e.if2.false in omega arith)
+is-bone : (e : tie.Else-m-bone) → e.args.bone < e.args.m.bones
+is-bone e = (let h = e.if-m-bone.false in omega arith)
 
 -- where the bone's row begins, and that it lies within the table
-begins : (e : tie.Else2) → e.before.before.before.before.movement-in.result.bones + e.before.before.before.before.before.args.bone * 22 ≡ 3 + e.before.before.before.before.before.args.bone * 22
+begins : (e : tie.Else-m-bone) → e.movement_in-s.result-1.bones + e.args.bone * 22 ≡ 3 + e.args.bone * 22
 begins e =
-    ap (λ (s : MovementSections). s.bones + e.before.before.before.before.before.args.bone * 22) (movement-found _ _ _ e.before.before.before.before.movement-in.ensures e.before.before.if1.false)
+    ap (λ (s : MovementSections). s.bones + e.args.bone * 22) (movement-found _ _ _ e.movement_in-s.ensures e.if-s-eq0.false)
     ∙ unfold movement_sections in refl
 
-place : (e : tie.Else2) → (3 + e.before.before.before.before.before.args.bone * 22 + 22 ≤ length e.before.before.before.before.before.args.moves.now) × (3 + e.before.before.before.before.before.args.bone * 22 + 22 ≤ 40000)
+place : (e : tie.Else-m-bone) → (3 + e.args.bone * 22 + 22 ≤ length e.args.moves.now) × (3 + e.args.bone * 22 + 22 ≤ 40000)
 place e = movement_bone-place _ _ (held e.before.before) _ (is-bone e)
 
-movement-in-requires : tie.Need-movement-in-requires
+movement-in-requires : tie.Need-movement_in-s-requires
 movement-in-requires c κs = search rules
 
-slice-aggregate-result : tie.Need-slice-aggregate-result
+slice-aggregate-result : tie.Need-slice_bounds-result-end
 slice-aggregate-result c = search rules
 
-returns : tie.Need-returns
-returns c = no_movement_lem _ _ _ (movement_none _ _ _ c.before.before.before.movement-in.ensures c.before.if1.true)
+returns : tie.Need-returns-then-s-eq0
+returns c = no_movement_lem _ _ _ (movement_none _ _ _ c.movement_in-s.ensures c.if-s-eq0.true)
 
-slice-aggregate-result-2 : tie.Need-slice-aggregate-result-2
+slice-aggregate-result-2 : tie.Need-slice_bounds-result-end-then-m-bone
 slice-aggregate-result-2 c = search rules
 
-returns-2 : tie.Need-returns-2
-returns-2 c = no_movement-row _ _ _ (held c.before.before.before) c.before.if2.true
+returns-2 : tie.Need-returns-then-m-bone
+returns-2 c = no_movement-row _ _ _ (held c.before.before.before) c.if-m-bone.true
 
-mul-base : tie.Need-overflow-mul-base
-mul-base c = (let h = place c in small_fits _ (c.before.before.before.before.before.args.bone * 22) refl (omega arith))
+mul-base : tie.Need-overflow_mul-base
+mul-base c = (let h = place c in small_fits _ (c.args.bone * 22) refl (omega arith))
 
-add-base : tie.Need-overflow-add-base
+add-base : tie.Need-overflow_add-base
 add-base c = (let h = place c.before in small_fits _ _ (begins c.before) (omega arith))
 
-add-result : tie.Need-overflow-add-result
+add-result : tie.Need-overflow_add-result
 add-result c = small_fits _ _ (ap (λ (x : ℕ). x + 22) (begins c.before)) (place c.before).1
 
-mul-result : tie.Need-overflow-mul-result
+mul-result : tie.Need-offset_bounds-moves-base
 mul-result c = (let h = place c.before in byte_fits _ _ (begins c.before) (omega arith))
 
-sub-result : tie.Need-overflow-sub-result
+sub-result : tie.Need-slice_bounds-result-count
 sub-result c = search rules
 
-part-result-start : tie.Need-slice-bounds-result-start
+part-result-start : tie.Need-slice_bounds-result-start
 part-result-start c = search rules
 
-part-result-end : tie.Need-slice-bounds-result-end
+part-result-end : tie.Need-slice_bounds-result-end-2
 part-result-end c = (let h = place c.before in let e = begins c.before in omega arith)
 
-returns-3 : tie.Need-returns-3
+returns-3 : tie.Need-returns
 returns-3 c = part-numbers _ _ 22 _ (begins c.before.before) ∙ movement-row _ _ _ (held c.before.before.before.before) (is-bone c.before.before)
 
-pub movement-bone-spec : {M : Type 1} → statement M
-movement-bone-spec =
-    tie.close
-    (tie.spec
-    movement-in-requires
-    slice-aggregate-result
-    returns
-    slice-aggregate-result-2
-    returns-2
-    mul-base
-    add-base
-    add-result
-    mul-result
-    sub-result
-    part-result-start
-    part-result-end
-    returns-3)
+pub movement_bone_spec : {M : Type 1} → statement M
+movement_bone_spec = tie.close (tie.spec movement-in-requires slice-aggregate-result returns slice-aggregate-result-2 returns-2 mul-base add-base add-result mul-result sub-result part-result-start part-result-end returns-3)

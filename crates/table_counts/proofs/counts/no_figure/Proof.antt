@@ -8,5 +8,5 @@ returns : tie.Need-returns
 unfolding no_figure
 returns c = refl
 
-pub no-figure-spec : {M : Type 1} → statement M
-no-figure-spec = tie.close (tie.spec returns)
+pub no_figure_spec : {M : Type 1} → statement M
+no_figure_spec = tie.close (tie.spec returns)

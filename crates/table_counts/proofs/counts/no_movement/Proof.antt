@@ -8,5 +8,5 @@ returns : tie.Need-returns
 unfolding no_movement
 returns c = refl
 
-pub no-movement-spec : {M : Type 1} → statement M
-no-movement-spec = tie.close (tie.spec returns)
+pub no_movement_spec : {M : Type 1} → statement M
+no_movement_spec = tie.close (tie.spec returns)

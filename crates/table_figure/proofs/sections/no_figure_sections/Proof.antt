@@ -8,5 +8,5 @@ returns : tie.Need-returns
 unfolding no_figure_sections
 returns c = refl
 
-pub no-figure-sections-spec : {M : Type 1} → statement M
-no-figure-sections-spec = tie.close (tie.spec returns)
+pub no_figure_sections_spec : {M : Type 1} → statement M
+no_figure_sections_spec = tie.close (tie.spec returns)

@@ -17,40 +17,38 @@ room at count w n z h l = let p : count * w ≤ n - at = (le-div_iff_mul-le {k =
 none : (at count w n : ℕ) → w ≡ 0 → at < n → at ≡ min (at + count * w) n
 none at count w n z h = let p : count * w ≡ 0 = rw z (mul-zero count) in omega arith
 
-returns : tie.Need-returns
+returns : tie.Need-returns-then-n-at
 returns c = search rules
 
-returns-2 : tie.Need-returns-2
-returns-2 c = let a = c.before.before.args in none a.at a.count a.width a.n c.if2.true (omega arith)
+returns-2 : tie.Need-returns-then-width-eq0
+returns-2 c = let a = c.args in none a.at a.count a.width a.n c.if-width-eq0.true (omega arith)
 
-sub-if3 : tie.Need-overflow-sub-if3
+sub-if3 : tie.Need-overflow_sub-n
 sub-if3 c = search rules
 
-div-if3 : tie.Need-nonzero-div-if3
+div-if3 : tie.Need-nonzero_div-n
 div-if3 c = search rules
 
-returns-3 : tie.Need-returns-3
-returns-3 c = let a = c.before.before.before.args in over a.at a.count a.width a.n c.before.if2.false (omega arith) c.if3.true
+returns-3 : tie.Need-returns-then-n-at-2
+returns-3 c = let a = c.args in over a.at a.count a.width a.n c.if-width-eq0.false (omega arith) c.if-n-at-2.true
 
-mul-result : tie.Need-overflow-mul-result
+mul-result : tie.Need-overflow_mul-result
 mul-result c =
-    let a = c.before.before.before.args in
-    let h = room a.at a.count a.width a.n c.before.if2.false (omega arith) c.if3.false in
+    let a = c.args in
+    let h = room a.at a.count a.width a.n c.if-width-eq0.false (omega arith) c.if-n-at-2.false in
     record { fits = omega arith }
 
-add-result : tie.Need-overflow-add-result
+add-result : tie.Need-overflow_add-result
 add-result c =
-    let a = c.before.before.before.args in
-    let h = room a.at a.count a.width a.n c.before.if2.false (omega arith) c.if3.false in
+    let a = c.args in
+    let h = room a.at a.count a.width a.n c.if-width-eq0.false (omega arith) c.if-n-at-2.false in
     record { fits = omega arith }
 
-returns-4 : tie.Need-returns-4
+returns-4 : tie.Need-returns
 returns-4 c =
-    let a = c.before.before.before.args in
-    let h = room a.at a.count a.width a.n c.before.if2.false (omega arith) c.if3.false in
+    let a = c.args in
+    let h = room a.at a.count a.width a.n c.if-width-eq0.false (omega arith) c.if-n-at-2.false in
     omega arith
 
-pub rows-end-spec : {M : Type 1} → statement M
-rows-end-spec =
-    tie.close
-    (tie.spec returns returns-2 sub-if3 div-if3 returns-3 mul-result add-result returns-4)
+pub rows_end_spec : {M : Type 1} → statement M
+rows_end_spec = tie.close (tie.spec returns returns-2 sub-if3 div-if3 returns-3 mul-result add-result returns-4)

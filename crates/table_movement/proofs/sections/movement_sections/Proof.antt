@@ -5,28 +5,27 @@ use borrow.Author.Rules.{rules}
 use Rattle.table_movement.proofs.sections.movement_sections.Statement.{statement}
 use Rattle.table_movement.proofs.sections.movement_sections.Tie as tie
 
-mul-keys : tie.Need-overflow-mul-keys
+mul-keys : tie.Need-overflow_mul-keys
 mul-keys c = search rules
 
-add-keys : tie.Need-overflow-add-keys
+add-keys : tie.Need-overflow_add-keys
 add-keys c = search rules
 
-mul-patterns : tie.Need-overflow-mul-patterns
+mul-patterns : tie.Need-overflow_mul-patterns
 mul-patterns c = search rules
 
-add-patterns : tie.Need-overflow-add-patterns
+add-patterns : tie.Need-overflow_add-patterns
 add-patterns c = search rules
 
-mul-end : tie.Need-overflow-mul-end
+mul-end : tie.Need-overflow_mul-end
 mul-end c = search rules
 
-add-end : tie.Need-overflow-add-end
+add-end : tie.Need-overflow_add-end
 add-end c = search rules
 
 returns : tie.Need-returns
 unfolding keys_begin patterns_begin movement_end movement_sections
 returns c = refl
 
-pub movement-sections-spec : {M : Type 1} → statement M
-movement-sections-spec =
-    tie.close (tie.spec mul-keys add-keys mul-patterns add-patterns mul-end add-end returns)
+pub movement_sections_spec : {M : Type 1} → statement M
+movement_sections_spec = tie.close (tie.spec mul-keys add-keys mul-patterns add-patterns mul-end add-end returns)

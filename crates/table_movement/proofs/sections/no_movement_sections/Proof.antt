@@ -8,5 +8,5 @@ returns : tie.Need-returns
 unfolding no_movement_sections
 returns c = refl
 
-pub no-movement-sections-spec : {M : Type 1} → statement M
-no-movement-sections-spec = tie.close (tie.spec returns)
+pub no_movement_sections_spec : {M : Type 1} → statement M
+no_movement_sections_spec = tie.close (tie.spec returns)

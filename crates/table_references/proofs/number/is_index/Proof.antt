@@ -7,20 +7,20 @@ use borrow.Author.Rules.{rules}
 use Rattle.table_references.proofs.number.is_index.Statement.{statement}
 use Rattle.table_references.proofs.number.is_index.Tie as tie
 
-is-none-requires : tie.Need-is-none-requires
+is-none-requires : tie.Need-is_none-requires
 is-none-requires c κs = search rules
 
-returns : tie.Need-returns
-returns c = let a = c.before.before in sym (index_none _ _ (sym (tested is_none a.args.z a.ranges.z c.before.is_none.ensures) ∙ c.if1.true))
+returns : tie.Need-returns-then-is_none
+returns c = let a = c.before.before in sym (index_none _ _ (sym (tested is_none a.args.z a.ranges.z c.is_none.ensures) ∙ c.if-is_none.true))
 
-is-row-requires : tie.Need-is-row-requires
+is-row-requires : tie.Need-is_row-requires
 is-row-requires c κs = search rules
 
-returns-2 : tie.Need-returns-2
+returns-2 : tie.Need-returns
 returns-2 c =
     let a = c.before.before.before in
     tested (is_row a.args.n) a.args.z a.ranges.z c.is_row.ensures
-    ∙ sym (index_row _ _ (sym (tested is_none a.args.z a.ranges.z c.before.before.is_none.ensures) ∙ c.before.if1.false))
+    ∙ sym (index_row _ _ (sym (tested is_none a.args.z a.ranges.z c.is_none.ensures) ∙ c.if-is_none.false))
 
-pub is-index-spec : {M : Type 1} → statement M
-is-index-spec = tie.close (tie.spec is-none-requires returns is-row-requires returns-2)
+pub is_index_spec : {M : Type 1} → statement M
+is_index_spec = tie.close (tie.spec is-none-requires returns is-row-requires returns-2)

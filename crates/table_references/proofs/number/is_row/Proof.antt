@@ -6,14 +6,14 @@ use Rattle.table_references.proofs.Numbers.{negative-row, natural_row}
 use Rattle.table_references.proofs.number.is_row.Statement.{statement}
 use Rattle.table_references.proofs.number.is_row.Tie as tie
 
-returns : tie.Need-returns
-returns c = sym (negative-row _ _ (negative _ c.before.ranges.z c.if1.true))
+returns : tie.Need-returns-then-z-lt0
+returns c = sym (negative-row _ _ (negative _ c.ranges.z c.if-z-lt0.true))
 
-cast-result : tie.Need-overflow-cast-result
-cast-result c = rw (to_z-of_z c.before.ranges.z, natural _ c.before.ranges.z c.if1.false) (tt, Fits-nat_abs tt c.before.ranges.z)
+cast-result : tie.Need-overflow_cast-result
+cast-result c = rw (to_z-of_z c.ranges.z, natural _ c.ranges.z c.if-z-lt0.false) (tt, Fits-nat_abs tt c.ranges.z)
 
-returns-2 : tie.Need-returns-2
-returns-2 c = rw (to_z-of_z c.before.ranges.z) (sym (natural_row _ _ (natural _ c.before.ranges.z c.if1.false)))
+returns-2 : tie.Need-returns
+returns-2 c = rw (to_z-of_z c.ranges.z) (sym (natural_row _ _ (natural _ c.ranges.z c.if-z-lt0.false)))
 
-pub is-row-spec : {M : Type 1} → statement M
-is-row-spec = tie.close (tie.spec returns cast-result returns-2)
+pub is_row_spec : {M : Type 1} → statement M
+is_row_spec = tie.close (tie.spec returns cast-result returns-2)

@@ -25,17 +25,17 @@ use Rattle.text_check.proofs.Scanning.{passes, fault_pass, fault-other, fault-qu
 use Rattle.text_check.proofs.check.first_fault.Statement.{statement}
 use Rattle.text_check.proofs.check.first_fault.Tie as tie
 
-abbrev invariant-loop : tie.invariant-loop
+abbrev invariant-loop : tie.invariant-loop-i
 invariant-loop text i₀ i = fault_in outside 0 text ≡ fault_in outside i (drop i text)
 
-abbrev decreases-loop : tie.decreases-loop
+abbrev decreases-loop : tie.decreases-loop-i
 decreases-loop text i₀ i = length text - i
 
 -- what is known where a byte's class is
-inside : (k : tie.After-class-of invariant-loop decreases-loop) → k.before.before.before.loop.i < length k.before.before.before.before.before.args.text.now
-inside k = k.before.before.loop-test.true
+inside : (k : tie.After-class_of invariant-loop decreases-loop) → k.loop-i.i < length k.args.text.now
+inside k = k.loop-i-test.true
 
-named : (k : tie.After-class-of invariant-loop decreases-loop) {v : Class} → k.class_of.result ≡ v → class_of (get_or k.before.before.before.before.before.args.text.now k.before.before.before.loop.i 0) ≡ class_named v
+named : (k : tie.After-class_of invariant-loop decreases-loop) {v : Class} → k.class_of.result ≡ v → class_of (get_or k.args.text.now k.loop-i.i 0) ≡ class_named v
 named k e = sym k.class_of.ensures ∙ ap class_named e
 
 -- the four kinds of the last arm
@@ -49,119 +49,94 @@ ordinary Semicolon h = absurd (⊎_elim (λ e. omega arith) (⊎_elim (λ e. ome
 ordinary Letter h = refl
 ordinary Other h = absurd (⊎_elim (λ e. omega arith) (⊎_elim (λ e. omega arith) (⊎_elim (λ e. omega arith) (λ e. omega arith))) h)
 
-ahead : (m : tie.After-string-end invariant-loop decreases-loop) {v : Scan} → m.string_end.result ≡ v → Ahead m.before.before.before.before.before.before.loop.i (length m.before.before.before.before.before.before.before.before.args.text.now) v
-ahead m e = rw e at m.string_end.ensures.1
+ahead : (m : tie.After-string_end invariant-loop decreases-loop) {v : Scan} → m.string_end.result ≡ v → Ahead m.loop-i.i (length m.args.text.now) v
+ahead m e = rw e at m.string_end.ensures.progress
 
-loop-holds : tie.Need-loop-init invariant-loop decreases-loop
+loop-holds : tie.Need-loop-i-init invariant-loop decreases-loop
 loop-holds c = search rules
 
-shared-slice-read-class-of : tie.Need-shared-slice-read-class-of invariant-loop decreases-loop
+shared-slice-read-class-of : tie.Need-bounds-text-i invariant-loop decreases-loop
 shared-slice-read-class-of c = search rules
 
-class-of-requires : tie.Need-class-of-requires invariant-loop decreases-loop
+class-of-requires : tie.Need-class_of-requires invariant-loop decreases-loop
 class-of-requires c κs = search rules
 
-enum_told : tie.Need-enum-told invariant-loop decreases-loop
+enum_told : tie.Need-enum_told-1 invariant-loop decreases-loop
 enum_told c = search rules
 
-string-end-requires : tie.Need-string-end-requires invariant-loop decreases-loop
+string-end-requires : tie.Need-string_end-requires invariant-loop decreases-loop
 string-end-requires c κs = search rules
 
-enum-known-next : tie.Need-enum-known-next invariant-loop decreases-loop
+enum-known-next : tie.Need-enum_known-next invariant-loop decreases-loop
 enum-known-next c = search rules
 
-loop-less : tie.Need-loop-smaller invariant-loop decreases-loop
+loop-less : tie.Need-loop-i-smaller-in-Ended invariant-loop decreases-loop
 unfolding Ahead
 loop-less c =
     let m = c.before.before.before in
-    let a = ahead m c.before.next.given.1 in
+    let a = ahead m c.in-Ended.is in
     omega arith
 
-loop-again : tie.Need-loop-preserved invariant-loop decreases-loop
+loop-again : tie.Need-loop-i-preserved-in-Ended invariant-loop decreases-loop
 unfolding class_named scanned
 loop-again c =
     let m = c.before.before.before in
     let k = m.before.before.before in
-    k.before.before.before.loop.invariant ∙ fault-quote _ _ (inside k) (named k m.before.enum_told.given.1) ∙ sym (ap (scanned _) (sym c.before.next.given.1) ∙ m.string_end.ensures.0)
+    k.loop-i.invariant ∙ fault-quote _ _ (inside k) (named k m.in-Quote.is) ∙ sym (ap (scanned _) (sym c.in-Ended.is) ∙ m.string_end.ensures.meaning)
 
-enum-known-number : tie.Need-enum-known-number invariant-loop decreases-loop
+enum-known-number : tie.Need-enum_known-number invariant-loop decreases-loop
 enum-known-number c = search rules
 
-returns : tie.Need-returns invariant-loop decreases-loop
+returns : tie.Need-returns-in-Faulty invariant-loop decreases-loop
 unfolding class_named scanned refusal
 returns c =
     let m = c.before.before.before in
     let k = m.before.before.before in
-    sym (k.before.before.before.loop.invariant ∙ fault-quote _ _ (inside k) (named k m.before.enum_told.given.1) ∙ sym (ap (scanned _) (sym c.before.number.given.1) ∙ m.string_end.ensures.0))
+    sym (k.loop-i.invariant ∙ fault-quote _ _ (inside k) (named k m.in-Quote.is) ∙ sym (ap (scanned _) (sym c.in-Faulty.is) ∙ m.string_end.ensures.meaning))
 
-enum-told-2 : tie.Need-enum-told-2 invariant-loop decreases-loop
+enum-told-2 : tie.Need-enum_told-in-Semicolon invariant-loop decreases-loop
 enum-told-2 c = search rules
 
-add-run-end : tie.Need-overflow-add-run-end invariant-loop decreases-loop
+add-run-end : tie.Need-overflow_add-i invariant-loop decreases-loop
 add-run-end c = search rules
 
-run-end-requires : tie.Need-run-end-requires invariant-loop decreases-loop
+run-end-requires : tie.Need-run_end-i-requires invariant-loop decreases-loop
 run-end-requires c κs = search rules
 
-loop-less-2 : tie.Need-loop-smaller-2 invariant-loop decreases-loop
-loop-less-2 c = let k = c.before.before.before in let h = inside k in omega (arith, c.run-end.ensures)
+loop-less-2 : tie.Need-loop-i-smaller-in-Semicolon invariant-loop decreases-loop
+loop-less-2 c = let k = c.before.before.before in let h = inside k in omega (arith, c.run_end-i.ensures)
 
-loop-again-2 : tie.Need-loop-preserved-2 invariant-loop decreases-loop
+loop-again-2 : tie.Need-loop-i-preserved-in-Semicolon invariant-loop decreases-loop
 unfolding class_named test_named
 loop-again-2 c =
     let k = c.before.before.before in
-    let i = k.before.before.before.loop.i in
-    let end : c.run-end.result ≡ suc i + length (run in_line (drop (suc i) k.before.before.before.before.before.args.text.now)) = rw (← add-one i) c.run-end.ensures in
-    k.before.before.before.loop.invariant ∙ rw end (fault-comment _ _ (inside k) (named k c.before.enum-told2.given.1))
+    let i = k.loop-i.i in
+    let end : c.run_end-i.result ≡ suc i + length (run in_line (drop (suc i) k.args.text.now)) = rw (← add-one i) c.run_end-i.ensures in
+    k.loop-i.invariant ∙ rw end (fault-comment _ _ (inside k) (named k c.in-Semicolon.is))
 
-enum-told-3 : tie.Need-enum-told-3 invariant-loop decreases-loop
+enum-told-3 : tie.Need-enum_told-in-Other invariant-loop decreases-loop
 enum-told-3 c = search rules
 
-returns-2 : tie.Need-returns-2 invariant-loop decreases-loop
+returns-2 : tie.Need-returns-in-Other invariant-loop decreases-loop
 unfolding class_named refusal
 returns-2 c =
     let k = c.before.before in
-    sym (k.before.before.before.loop.invariant ∙ fault-other _ _ (inside k) (named k c.enum-told3.given.1))
+    sym (k.loop-i.invariant ∙ fault-other _ _ (inside k) (named k c.in-Other.is))
 
-add-i : tie.Need-overflow-add-i invariant-loop decreases-loop
+add-i : tie.Need-overflow_add-i-in-Blank invariant-loop decreases-loop
 add-i c = search rules
 
-loop-less-3 : tie.Need-loop-smaller-3 invariant-loop decreases-loop
+loop-less-3 : tie.Need-loop-i-smaller invariant-loop decreases-loop
 loop-less-3 c = search rules
 
-loop-again-3 : tie.Need-loop-preserved-3 invariant-loop decreases-loop
+loop-again-3 : tie.Need-loop-i-preserved invariant-loop decreases-loop
 loop-again-3 c =
     let k = c.before in
-    rw add-one (k.before.before.before.loop.invariant ∙ fault_pass _ _ (inside k) (ap passes (sym k.class_of.ensures) ∙ ordinary _ c.match.keys4))
+    rw add-one (k.loop-i.invariant ∙ fault_pass _ _ (inside k) (ap passes (sym k.class_of.ensures) ∙ ordinary _ c.in-Blank.keys4))
 
-returns-3 : tie.Need-returns-3 invariant-loop decreases-loop
+returns-3 : tie.Need-returns invariant-loop decreases-loop
 unfolding refusal
-returns-3 c = sym (c.before.loop.invariant ∙ fault_end _ _ c.loop-test.false)
+returns-3 c = sym (c.loop-i.invariant ∙ fault_end _ _ c.loop-i-test.false)
 
-pub first-fault-spec : {M : Type 1} → statement M
-first-fault-spec =
-    tie.close
-    (tie.spec
-    invariant-loop
-    decreases-loop
-    loop-holds
-    shared-slice-read-class-of
-    class-of-requires
-    enum_told
-    string-end-requires
-    enum-known-next
-    loop-less
-    loop-again
-    enum-known-number
-    returns
-    enum-told-2
-    add-run-end
-    run-end-requires
-    loop-less-2
-    loop-again-2
-    enum-told-3
-    returns-2
-    add-i
-    loop-less-3
-    loop-again-3
-    returns-3)
+pub first_fault_spec : {M : Type 1} → statement M
+first_fault_spec = tie.close (tie.spec invariant-loop decreases-loop loop-holds shared-slice-read-class-of class-of-requires enum_told string-end-requires enum-known-next loop-less loop-again enum-known-number returns enum-told-2 add-run-end run-end-requires loop-less-2 loop-again-2 enum-told-3 returns-2 add-i loop-less-3 loop-again-3 returns-3)

@@ -6,41 +6,25 @@ use borrow.Author.Rules.{rules}
 use Rattle.text_check.proofs.check.is_marked.Statement.{statement}
 use Rattle.text_check.proofs.check.is_marked.Tie as tie
 
-enum_told : tie.Need-enum-told
+enum_told : tie.Need-enum_told-1
 enum_told c = search rules
 
-slice-aggregate-has-mark : tie.Need-slice-aggregate-has-mark
-slice-aggregate-has-mark c = search rules
-
-has-mark-requires : tie.Need-has-mark-requires
+has-mark-requires : tie.Need-has_mark-requires
 has-mark-requires c κs = search rules
 
-enum-told-2 : tie.Need-enum-told-2
+enum-told-2 : tie.Need-enum_told-in-Tra
 enum-told-2 c = search rules
 
-slice-aggregate-has-mark-2 : tie.Need-slice-aggregate-has-mark-2
-slice-aggregate-has-mark-2 c = search rules
-
-has-mark-requires-2 : tie.Need-has-mark-requires-2
+has-mark-requires-2 : tie.Need-has_mark-requires-in-Tra
 has-mark-requires-2 c κs = search rules
 
-returns : tie.Need-returns
+returns : tie.Need-returns-in-Bac
 unfolding marked format_named mark_of bytes
-returns c = rw c.before.before.enum_told.given.1 c.has-mark.ensures
+returns c = rw c.in-Bac.is c.has_mark.ensures
 
-returns-2 : tie.Need-returns-2
+returns-2 : tie.Need-returns-in-Tra
 unfolding marked format_named mark_of bytes
-returns-2 c = rw c.before.before.enum-told2.given.1 c.has-mark2.ensures
+returns-2 c = rw c.in-Tra.is c.has_mark-in-Tra.ensures
 
-pub is-marked-spec : {M : Type 1} → statement M
-is-marked-spec =
-    tie.close
-    (tie.spec
-    enum_told
-    slice-aggregate-has-mark
-    has-mark-requires
-    enum-told-2
-    slice-aggregate-has-mark-2
-    has-mark-requires-2
-    returns
-    returns-2)
+pub is_marked_spec : {M : Type 1} → statement M
+is_marked_spec = tie.close (tie.spec enum_told has-mark-requires enum-told-2 has-mark-requires-2 returns returns-2)

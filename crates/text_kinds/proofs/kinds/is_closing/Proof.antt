@@ -6,12 +6,12 @@ use borrow.Author.Rules.{rules}
 use Rattle.text_kinds.proofs.kinds.is_closing.Statement.{statement}
 use Rattle.text_kinds.proofs.kinds.is_closing.Tie as tie
 
-kind-number-requires : tie.Need-kind-number-requires
+kind-number-requires : tie.Need-kind_number-requires
 kind-number-requires c κs = search rules
 
 returns : tie.Need-returns
 unfolding is_closing
-returns c = by_number 1 is_closing (record { bracket = refl; end_bracket = refl; string = λ bs. refl; word = λ bs. refl; end = refl }) _ _ c.kind-number.ensures
+returns c = by_number 1 is_closing (record { bracket = refl; end_bracket = refl; string = λ bs. refl; word = λ bs. refl; end = refl }) _ _ c.kind_number.ensures
 
-pub is-closing-spec : {M : Type 1} → statement M
-is-closing-spec = tie.close (tie.spec kind-number-requires returns)
+pub is_closing_spec : {M : Type 1} → statement M
+is_closing_spec = tie.close (tie.spec kind-number-requires returns)

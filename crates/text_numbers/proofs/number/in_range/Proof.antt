@@ -7,18 +7,18 @@ use Rattle.text_numbers.proofs.Signed.{signed_back}
 use Rattle.text_numbers.proofs.number.in_range.Statement.{statement}
 use Rattle.text_numbers.proofs.number.in_range.Tie as tie
 
-returns : tie.Need-returns
+returns : tie.Need-returns-then-n-gt9999999999999
 unfolding number_named
-returns c = sym (range_far _ _ c.if1.true)
+returns c = sym (range_far _ _ c.if-n-gt9999999999999.true)
 
-with-sign-requires : tie.Need-with-sign-requires
+with-sign-requires : tie.Need-with_sign-requires
 with-sign-requires c κs = omega arith
 
-returns-2 : tie.Need-returns-2
+returns-2 : tie.Need-returns
 unfolding number_named
 returns-2 c =
-    let a = c.before.before.args in
-    rw (c.with-sign.ensures, signed_back a.negative a.n (omega arith)) (sym (range_near a.negative a.n c.before.if1.false))
+    let a = c.args in
+    rw (c.with_sign.ensures, signed_back a.negative a.n (omega arith)) (sym (range_near a.negative a.n c.if-n-gt9999999999999.false))
 
-pub in-range-spec : {M : Type 1} → statement M
-in-range-spec = tie.close (tie.spec returns with-sign-requires returns-2)
+pub in_range_spec : {M : Type 1} → statement M
+in_range_spec = tie.close (tie.spec returns with-sign-requires returns-2)

@@ -11,5 +11,5 @@ whole-requires c κs = search rules
 returns : tie.Need-returns
 returns c = c.whole.ensures ∙ sym (int_whole _)
 
-pub int-spec : {M : Type 1} → statement M
-int-spec = tie.close (tie.spec whole-requires returns)
+pub int_spec : {M : Type 1} → statement M
+int_spec = tie.close (tie.spec whole-requires returns)

@@ -17,14 +17,14 @@ use Rattle.text_numbers.proofs.number.whole.Statement.{statement}
 use Rattle.text_numbers.proofs.number.whole.Tie as tie
 
 -- what is known once the word is found to be digits alone
-some : (c : tie.Else1) → c.before.lead.result.start < c.before.lead.result.end
-some c = let l = c.before.lead.ensures in omega (arith, lead_order _ _ _ l.digits l.ends, c.if1.false)
+some : (c : tie.Else-end-start) → c.lead-n.result.start < c.lead-n.result.end
+some c = let l = c.lead-n.ensures in omega (arith, lead_order _ _ _ l.digits l.ends, c.if-end-start.false)
 
-digits : (c : tie.Else2) → whole_in c.before.before.before.before.args.digits c.before.before.before.before.args.most c.before.before.before.before.args.least c.before.before.before.before.args.word.now ≡ whole_of c.before.before.before.before.args.digits (cond c.before.before.lead.result.negative c.before.before.before.before.args.least c.before.before.before.before.args.most) c.before.before.lead.result.negative (part c.before.before.before.before.args.word.now c.before.before.lead.result.start c.before.before.lead.result.end)
-digits c = let l = c.before.before.lead.ensures in rw l.sign (whole-all _ _ _ l.digits l.ends _ _ _ (some c.before) c.if2.false)
+digits : (c : tie.Else-end-word) → whole_in c.args.digits c.args.most c.args.least c.args.word.now ≡ whole_of c.args.digits (cond c.lead-n.result.negative c.args.least c.args.most) c.lead-n.result.negative (part c.args.word.now c.lead-n.result.start c.lead-n.result.end)
+digits c = let l = c.lead-n.ensures in rw l.sign (whole-all _ _ _ l.digits l.ends _ _ _ (some c.before) c.if-end-word.false)
 
-count : (c : tie.Else2) → length (part c.before.before.before.before.args.word.now c.before.before.lead.result.start c.before.before.lead.result.end) ≡ c.before.before.lead.result.end - c.before.before.lead.result.start
-count c = let l = c.before.before.lead.ensures in part-whole _ _ _ (lead_within _ _ _ l.digits l.ends l.within)
+count : (c : tie.Else-end-word) → length (part c.args.word.now c.lead-n.result.start c.lead-n.result.end) ≡ c.lead-n.result.end - c.lead-n.result.start
+count c = let l = c.lead-n.ensures in part-whole _ _ _ (lead_within _ _ _ l.digits l.ends l.within)
 
 -- either bound is small
 small : (s : Bool) (least most n : ℕ) → most < n → least < n → cond s least most < n
@@ -33,66 +33,54 @@ small false least most n p q = p
 
 greatest-small : (c : tie.After-greatest) → c.greatest.result < 2 ^ 63
 greatest-small c =
-    let l = c.before.before.before.before.before.lead.result in
+    let l = c.lead-n.result in
     let s = c.before.before.before.before.before.before.before in
     rw c.greatest.ensures (small l.negative s.args.least s.args.most (2 ^ 63) s.requires.1 s.requires.2)
 
-lead-requires : tie.Need-lead-requires
+lead-requires : tie.Need-lead-n-requires
 lead-requires c κs = search rules
 
-returns : tie.Need-returns
+returns : tie.Need-returns-then-end-start
 unfolding number_named
-returns c = let l = c.before.lead.ensures in sym (whole_none _ _ _ l.digits l.ends _ _ _ c.if1.true)
+returns c = let l = c.lead-n.ensures in sym (whole_none _ _ _ l.digits l.ends _ _ _ c.if-end-start.true)
 
-returns-2 : tie.Need-returns-2
+returns-2 : tie.Need-returns-then-end-word
 unfolding number_named
-returns-2 c = let l = c.before.before.lead.ensures in sym (whole_more _ _ _ l.digits l.ends _ _ _ c.if2.true)
+returns-2 c = let l = c.lead-n.ensures in sym (whole_more _ _ _ l.digits l.ends _ _ _ c.if-end-word.true)
 
-sub-if3 : tie.Need-overflow-sub-if3
+sub-if3 : tie.Need-overflow_sub-end
 sub-if3 c = search rules
 
-returns-3 : tie.Need-returns-3
+returns-3 : tie.Need-returns-then-digits-end
 unfolding number_named
-returns-3 c = sym (digits c.before ∙ whole_long _ _ _ _ (rw (count c.before) c.if3.true))
+returns-3 c = sym (digits c.before ∙ whole_long _ _ _ _ (rw (count c.before) c.if-digits-end.true))
 
-decimal-requires : tie.Need-decimal-requires
+decimal-requires : tie.Need-decimal-value-requires
 decimal-requires c κs =
-    let l = c.before.before.before.lead.ensures in
-    ((lead_order _ _ _ l.digits l.ends, lead_within _ _ _ l.digits l.ends l.within), (omega (arith, c.before.before.before.before.before.requires), lead_all _ _ _ l.digits l.ends))
+    let l = c.lead-n.ensures in
+    ((lead_order _ _ _ l.digits l.ends, lead_within _ _ _ l.digits l.ends l.within), (omega (arith, c.requires), lead_all _ _ _ l.digits l.ends))
 
 greatest-requires : tie.Need-greatest-requires
 greatest-requires c κs = search rules
 
-returns-4 : tie.Need-returns-4
+returns-4 : tie.Need-returns-then-greatest-value
 unfolding number_named
 returns-4 c =
     let b = c.before.before.before in
-    sym (digits b.before ∙ whole_large _ _ _ _ (rw (count b.before) b.if3.false) (rw (← c.before.greatest.ensures, ← c.before.before.decimal.ensures) c.if4.true))
+    sym (digits b.before ∙ whole_large _ _ _ _ (rw (count b.before) b.if-digits-end.false) (rw (← c.greatest.ensures, ← c.decimal-value.ensures) c.if-greatest-value.true))
 
-with-sign-requires : tie.Need-with-sign-requires
+with-sign-requires : tie.Need-with_sign-requires
 with-sign-requires c κs =
-    lt_of_le_of_lt c.if4.false (greatest-small c.before)
+    lt_of_le_of_lt c.if-greatest-value.false (greatest-small c.before)
 
-returns-5 : tie.Need-returns-5
+returns-5 : tie.Need-returns
 unfolding number_named
 returns-5 c =
     let b = c.before.before.before.before in
-    let n = c.before.before.before.decimal in
-    let most = c.before.before.greatest.ensures in
-    rw (c.with-sign.ensures, signed_back _ _ (lt_of_le_of_lt c.before.if4.false (greatest-small c.before.before)), n.ensures)
-    (sym (digits b.before ∙ whole-value _ _ _ _ (rw (count b.before) b.if3.false) (rw (← most, ← n.ensures) c.before.if4.false)))
+    let n = c.decimal-value in
+    let most = c.greatest.ensures in
+    rw (c.with_sign.ensures, signed_back _ _ (lt_of_le_of_lt c.if-greatest-value.false (greatest-small c.before.before)), n.ensures)
+    (sym (digits b.before ∙ whole-value _ _ _ _ (rw (count b.before) b.if-digits-end.false) (rw (← most, ← n.ensures) c.if-greatest-value.false)))
 
-pub whole-spec : {M : Type 1} → statement M
-whole-spec =
-    tie.close
-    (tie.spec
-    lead-requires
-    returns
-    returns-2
-    sub-if3
-    returns-3
-    decimal-requires
-    greatest-requires
-    returns-4
-    with-sign-requires
-    returns-5)
+pub whole_spec : {M : Type 1} → statement M
+whole_spec = tie.close (tie.spec lead-requires returns returns-2 sub-if3 returns-3 decimal-requires greatest-requires returns-4 with-sign-requires returns-5)

@@ -6,19 +6,19 @@ use borrow.Author.Rules.{rules}
 use Rattle.text_numbers.proofs.number.with_sign.Statement.{statement}
 use Rattle.text_numbers.proofs.number.with_sign.Tie as tie
 
-cast-value : tie.Need-overflow-cast-value
+cast-value : tie.Need-overflow_cast-value
 cast-value c = search rules
 
-sub-result : tie.Need-overflow-sub-result
-sub-result c = let n = c.before.args.n in rw (bits_pos n c.before.requires, zero_minus (pos n)) (neg-fits n c.before.requires)
+sub-result : tie.Need-overflow_sub-result
+sub-result c = let n = c.args.n in rw (bits_pos n c.requires, zero_minus (pos n)) (neg-fits n c.requires)
 
-returns : tie.Need-returns
+returns : tie.Need-returns-then-negative
 unfolding signed
-returns c = rw c.if1.true (bits_neg c.before.args.n c.before.requires)
+returns c = rw c.if-negative.true (bits_neg c.args.n c.requires)
 
-returns-2 : tie.Need-returns-2
+returns-2 : tie.Need-returns-else-negative
 unfolding signed
-returns-2 c = rw c.if1.false (bits_pos c.before.args.n c.before.requires)
+returns-2 c = rw c.if-negative.false (bits_pos c.args.n c.requires)
 
-pub with-sign-spec : {M : Type 1} → statement M
-with-sign-spec = tie.close (tie.spec cast-value sub-result returns returns-2)
+pub with_sign_spec : {M : Type 1} → statement M
+with_sign_spec = tie.close (tie.spec cast-value sub-result returns returns-2)

@@ -12,59 +12,47 @@ use Rattle.text_runs.proofs.Runs.{run_more, run-stop, run_past}
 use Rattle.text_runs.proofs.run.run_end.Statement.{statement}
 use Rattle.text_runs.proofs.run.run_end.Tie as tie
 
-abbrev invariant-loop : tie.invariant-loop
+abbrev invariant-loop : tie.invariant-loop-i
 invariant-loop text from kind i₀ i = from + length (run (test_named kind) (drop from text)) ≡ i + length (run (test_named kind) (drop i text))
 
-abbrev decreases-loop : tie.decreases-loop
+abbrev decreases-loop : tie.decreases-loop-i
 decreases-loop text from kind i₀ i = length text - i
 
-loop-holds : tie.Need-loop-init invariant-loop decreases-loop
+loop-holds : tie.Need-loop-i-init invariant-loop decreases-loop
 loop-holds c = search rules
 
-shared-slice-read-belongs : tie.Need-shared-slice-read-belongs invariant-loop decreases-loop
+shared-slice-read-belongs : tie.Need-bounds-text-i invariant-loop decreases-loop
 shared-slice-read-belongs c = search rules
 
 belongs-requires : tie.Need-belongs-requires invariant-loop decreases-loop
 belongs-requires c κs = search rules
 
-returns : tie.Need-returns invariant-loop decreases-loop
+returns : tie.Need-returns-then-not-belongs invariant-loop decreases-loop
 returns c =
-    let l = c.before.before.before.before.loop in
-    let a = c.before.before.before.before.before.before.args in
-    let e = c.before.belongs.ensures in
-    let stops = run-stop (test_named a.kind) a.text.now l.i c.before.before.before.loop-test.true (sym e ∙ not-true _ c.if1.true) in
+    let l = c.loop-i in
+    let a = c.args in
+    let e = c.belongs.ensures in
+    let stops = run-stop (test_named a.kind) a.text.now l.i c.loop-i-test.true (sym e ∙ not-true _ c.if-not-belongs.true-raw) in
     omega (arith, l.invariant, stops)
 
-add-i : tie.Need-overflow-add-i invariant-loop decreases-loop
+add-i : tie.Need-overflow_add-i invariant-loop decreases-loop
 add-i c = search rules
 
-loop-less : tie.Need-loop-smaller invariant-loop decreases-loop
+loop-less : tie.Need-loop-i-smaller invariant-loop decreases-loop
 loop-less c = search rules
 
-loop-again : tie.Need-loop-preserved invariant-loop decreases-loop
+loop-again : tie.Need-loop-i-preserved invariant-loop decreases-loop
 loop-again c =
-    let l = c.before.before.before.before.loop in
-    let a = c.before.before.before.before.before.before.args in
-    let e = c.before.belongs.ensures in
-    let more = run_more (test_named a.kind) a.text.now l.i c.before.before.before.loop-test.true (sym e ∙ not-false _ c.if1.false) in
+    let l = c.loop-i in
+    let a = c.args in
+    let e = c.belongs.ensures in
+    let more = run_more (test_named a.kind) a.text.now l.i c.loop-i-test.true (sym e ∙ not-false _ c.if-not-belongs.false-raw) in
     rw add-one (omega (arith, l.invariant, more))
 
-returns-2 : tie.Need-returns-2 invariant-loop decreases-loop
+returns-2 : tie.Need-returns invariant-loop decreases-loop
 returns-2 c =
-    let a = c.before.before.before.args in
-    omega (arith, c.before.loop.invariant, run_past (test_named a.kind) a.text.now c.before.loop.i c.loop-test.false)
+    let a = c.args in
+    omega (arith, c.loop-i.invariant, run_past (test_named a.kind) a.text.now c.loop-i.i c.loop-i-test.false)
 
-pub run-end-spec : {M : Type 1} → statement M
-run-end-spec =
-    tie.close
-    (tie.spec
-    invariant-loop
-    decreases-loop
-    loop-holds
-    shared-slice-read-belongs
-    belongs-requires
-    returns
-    add-i
-    loop-less
-    loop-again
-    returns-2)
+pub run_end_spec : {M : Type 1} → statement M
+run_end_spec = tie.close (tie.spec invariant-loop decreases-loop loop-holds shared-slice-read-belongs belongs-requires returns add-i loop-less loop-again returns-2)

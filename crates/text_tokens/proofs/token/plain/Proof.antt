@@ -16,24 +16,24 @@ use Rattle.text_tokens.proofs.Spans.{spanned, next_plain}
 use Rattle.text_tokens.proofs.token.plain.Statement.{statement}
 use Rattle.text_tokens.proofs.token.plain.Tie as tie
 
-add-run-end : tie.Need-overflow-add-run-end
+add-run-end : tie.Need-overflow_add-at
 add-run-end c = search rules
 
-run-end-requires : tie.Need-run-end-requires
+run-end-requires : tie.Need-run_end-end-requires
 run-end-requires c κs = search rules
 
-sub-t4 : tie.Need-overflow-sub-t4
+sub-t4 : tie.Need-overflow_sub-result
 sub-t4 c = search rules
 
 returns : tie.Need-returns
 unfolding kind_of width_of bytes_of test_named
 returns c =
-    let a = c.before.before.args in
+    let a = c.args in
     let text = a.text.now in
-    let within = run-within is_letter text (suc a.at) c.before.before.requires.0 in
-    let end : c.run-end.result ≡ suc a.at + length (run is_letter (drop (suc a.at) text)) = rw (← add-one a.at) c.run-end.ensures in
+    let within = run-within is_letter text (suc a.at) c.requires.at_in_bounds in
+    let end : c.run_end-end.result ≡ suc a.at + length (run is_letter (drop (suc a.at) text)) = rw (← add-one a.at) c.run_end-end.ensures in
     spanned text a.at (plain (get_or text a.at 0 ∷ run is_letter (drop (suc a.at) text))) _ _ _ refl (omega arith) (omega arith)
-    (next_plain text a.at c.before.before.requires.0 c.before.before.requires.1)
+    (next_plain text a.at c.requires.at_in_bounds c.requires.at_value)
 
-pub plain-spec : {M : Type 1} → statement M
-plain-spec = tie.close (tie.spec add-run-end run-end-requires sub-t4 returns)
+pub plain_spec : {M : Type 1} → statement M
+plain_spec = tie.close (tie.spec add-run-end run-end-requires sub-t4 returns)

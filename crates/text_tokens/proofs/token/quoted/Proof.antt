@@ -16,33 +16,33 @@ use Rattle.text_tokens.proofs.Spans.{spanned, next_quoted}
 use Rattle.text_tokens.proofs.token.quoted.Statement.{statement}
 use Rattle.text_tokens.proofs.token.quoted.Tie as tie
 
-add-run-end : tie.Need-overflow-add-run-end
+add-run-end : tie.Need-overflow_add-at
 add-run-end c = search rules
 
-run-end-requires : tie.Need-run-end-requires
+run-end-requires : tie.Need-run_end-last-requires
 run-end-requires c κs = search rules
 
-add-end : tie.Need-overflow-add-end
+add-end : tie.Need-overflow_add-end
 add-end c = search rules
 
-sub-t5 : tie.Need-overflow-sub-t5
+sub-t5 : tie.Need-overflow_sub-result
 sub-t5 c = search rules
 
-sub-t10 : tie.Need-overflow-sub-t10
+sub-t10 : tie.Need-overflow_sub-result-2
 sub-t10 c = search rules
 
 returns : tie.Need-returns
 unfolding kind_of width_of bytes_of test_named
 returns c =
-    let a = c.before.before.before.args in
+    let a = c.args in
     let text = a.text.now in
     let content = run in_string (drop (suc a.at) text) in
-    let within = run-within in_string text (suc a.at) c.before.before.before.requires.0 in
-    let last : c.before.run-end.result ≡ suc a.at + length content = rw (← add-one a.at) c.before.run-end.ensures in
+    let within = run-within in_string text (suc a.at) c.requires.at_in_bounds in
+    let last : c.run_end-last.result ≡ suc a.at + length content = rw (← add-one a.at) c.run_end-last.ensures in
     spanned text a.at (quoted content) _ _ _ refl
-    (⊎_elim (λ w. omega arith) (λ w. omega arith) c.if1.branch)
+    (⊎_elim (λ w. omega arith) (λ w. omega arith) c.if-last-text.branch)
     (omega arith)
-    (next_quoted text a.at c.before.before.before.requires.0 c.before.before.before.requires.1)
+    (next_quoted text a.at c.requires.at_in_bounds c.requires.at_value)
 
-pub quoted-spec : {M : Type 1} → statement M
-quoted-spec = tie.close (tie.spec add-run-end run-end-requires add-end sub-t5 sub-t10 returns)
+pub quoted_spec : {M : Type 1} → statement M
+quoted_spec = tie.close (tie.spec add-run-end run-end-requires add-end sub-t5 sub-t10 returns)

@@ -4,17 +4,17 @@ use borrow.Author.Rules.{rules}
 use Rattle.tra4.proofs.setting.put_part.Statement.{statement}
 use Rattle.tra4.proofs.setting.put_part.Tie as tie
 
-slice-aggregate-put : tie.Need-slice-aggregate-put
-slice-aggregate-put c = part_length _ _ c.before.before.requires
+slice-aggregate-put : tie.Need-slice_bounds-put-end
+slice-aggregate-put c = part_length _ _ c.requires
 
 put-requires : tie.Need-put-requires
 put-requires c κs = search rules
 
-same_length : tie.Need-same-length
-same_length c = c.before.put.auto.0
+same_length : tie.Need-shape_of-table
+same_length c = c.put.auto.0
 
 returns : tie.Need-returns
-returns c = c.before.put.ensures
+returns c = c.put.ensures
 
-pub put-part-spec : {M : Type 1} → statement M
-put-part-spec = tie.close (tie.spec slice-aggregate-put put-requires same_length returns)
+pub put_part_spec : {M : Type 1} → statement M
+put_part_spec = tie.close (tie.spec slice-aggregate-put put-requires same_length returns)

@@ -14,63 +14,63 @@ use borrow.Author.Rules.{rules}
 use Rattle.tra4.proofs.setting.set_down.Statement.{statement}
 use Rattle.tra4.proofs.setting.set_down.Tie as tie
 
-mul-b : tie.Need-overflow-mul-b
+mul-b : tie.Need-overflow_mul-b
 mul-b c = search rules
 
-mul-k : tie.Need-overflow-mul-k
+mul-k : tie.Need-overflow_mul-k
 mul-k c = search rules
 
-mul-g : tie.Need-overflow-mul-g
+mul-g : tie.Need-overflow_mul-g
 mul-g c = search rules
 
-add_total : tie.Need-overflow-add-total
+add_total : tie.Need-overflow_add-total
 add_total c = search rules
 
-add-total-2 : tie.Need-overflow-add-total-2
+add-total-2 : tie.Need-overflow_add-total-2
 add-total-2 c = search rules
 
-add-total-3 : tie.Need-overflow-add-total-3
+add-total-3 : tie.Need-overflow_add-total-3
 add-total-3 c = search rules
 
 refused-requires : tie.Need-refused-requires
 refused-requires c κs = search rules
 
-returns : tie.Need-returns
+returns : tie.Need-returns-then-table-total
 unfolding total_of
 returns c =
-    let a = c.before.before.before.before.before.args in
-    (c.refused.ensures ∙ sym (short-answer a.p (length a.table.now) c.before.if1.true), short-table a.p _ a.table.now c.before.if1.true)
+    let a = c.args in
+    (c.refused.ensures ∙ sym (short-answer a.p (length a.table-1.now) c.if-table-total.true), short-table a.p _ a.table-1.now c.if-table-total.true)
 
-cast-t23 : tie.Need-overflow-cast-t23
+cast-t23 : tie.Need-overflow_cast-place
 cast-t23 c = search rules
 
-cast-t24 : tie.Need-overflow-cast-t24
+cast-t24 : tie.Need-overflow_cast-size
 cast-t24 c = search rules
 
-slice-aggregate-put : tie.Need-slice-aggregate-put
+slice-aggregate-put : tie.Need-slice_bounds-put-end
 slice-aggregate-put c = search rules
 
-put-requires : tie.Need-put-requires
+put-requires : tie.Need-put-named-requires
 put-requires c κs = search rules
 
-put-part-requires : tie.Need-put-part-requires
-put-part-requires c κs = c.before.before.before.before.before.before.before.before.before.before.requires.bones
+put-part-requires : tie.Need-put_part-boned-requires
+put-part-requires c κs = c.requires.bones
 
-put-part-requires-2 : tie.Need-put-part-requires-2
-put-part-requires-2 c κs = c.before.before.before.before.before.before.before.before.before.before.before.before.before.requires.keys
+put-part-requires-2 : tie.Need-put_part-keyed-requires
+put-part-requires-2 c κs = c.requires.keys
 
-put-part-requires-3 : tie.Need-put-part-requires-3
-put-part-requires-3 c κs = c.before.before.before.before.before.before.before.before.before.before.before.before.before.before.before.before.requires.patterns
+put-part-requires-3 : tie.Need-put_part-requires
+put-part-requires-3 c κs = c.requires.patterns
 
-same_length : tie.Need-same-length
+same_length : tie.Need-shape_of-table
 same_length c =
     let k3 = c.before in
     let k2 = k3.before.before.before in
     let k1 = k2.before.before.before in
     let k0 = k1.before.before.before in
-    k3.put-part3.auto.0 ∙ k2.put-part2.auto.0 ∙ k1.put-part.auto.0 ∙ k0.put.auto.0
+    k3.put_part.auto.0 ∙ k2.put_part-keyed.auto.0 ∙ k1.put_part-boned.auto.0 ∙ k0.put-named.auto.0
 
-returns-2 : tie.Need-returns-2
+returns-2 : tie.Need-returns
 unfolding total_of counts_answer parts_of
 returns-2 c =
     let k3 = c.before in
@@ -79,32 +79,13 @@ returns-2 c =
     let k0 = k1.before.before.before in
     let told = k0.before.before.before in
     let a = told.before.before.before.before.before in
-    let t = a.args.table.now in
-    let first = first-numbers a.args.p.total _ a.args.p.place a.args.p.length (to_z-of_z {w = w64} {z = a.args.p.total} (record { sfits = told.struct_told.given.1.0.1 })) (omega (arith, a.requires.place)) (omega (arith, a.requires.size)) in
-    let l1 = laid-first t (a.args.p.total ∷ pos a.args.p.place ∷ pos a.args.p.length ∷ []) _ _ (k0.put.ensures.0 ∙ ap (λ (l : List ℤ). overlay_at 0 l t) first) k0.put.ensures.1 in
-    let l2 = laid_next t _ _ _ _ _ _ l1 k1.put-part.ensures.0 k1.put-part.ensures.1 in
-    let l3 = laid_next t _ _ _ _ _ _ l2 k2.put-part2.ensures.0 k2.put-part2.ensures.1 in
-    let l4 = laid_next t _ _ _ _ _ _ l3 k3.put-part3.ensures.0 k3.put-part3.ensures.1 in
-    (sym (long_answer a.args.p (length t) told.before.if1.false), long_table a.args.p _ t _ told.before.if1.false l4.0)
+    let t = a.args.table-1.now in
+    let first = first-numbers a.args.p.total _ a.args.p.place a.args.p.length (to_z-of_z {w = w64} {z = a.args.p.total} (record { sfits = told.struct_told-1.given.1.0.1 })) (omega (arith, a.requires.place)) (omega (arith, a.requires.size)) in
+    let l1 = laid-first t (a.args.p.total ∷ pos a.args.p.place ∷ pos a.args.p.length ∷ []) _ _ (k0.put-named.ensures.content ∙ ap (λ (l : List ℤ). overlay_at 0 l t) first) k0.put-named.ensures.next in
+    let l2 = laid_next t _ _ _ _ _ _ l1 k1.put_part-boned.ensures.content k1.put_part-boned.ensures.next in
+    let l3 = laid_next t _ _ _ _ _ _ l2 k2.put_part-keyed.ensures.content k2.put_part-keyed.ensures.next in
+    let l4 = laid_next t _ _ _ _ _ _ l3 k3.put_part.ensures.content k3.put_part.ensures.next in
+    (sym (long_answer a.args.p (length t) told.if-table-total.false), long_table a.args.p _ t _ told.if-table-total.false l4.0)
 
-pub set-down-spec : {M : Type 1} → statement M
-set-down-spec =
-    tie.close
-    (tie.spec
-    mul-b
-    mul-k
-    mul-g
-    add_total
-    add-total-2
-    add-total-3
-    refused-requires
-    returns
-    cast-t23
-    cast-t24
-    slice-aggregate-put
-    put-requires
-    put-part-requires
-    put-part-requires-2
-    put-part-requires-3
-    same_length
-    returns-2)
+pub set_down_spec : {M : Type 1} → statement M
+set_down_spec = tie.close (tie.spec mul-b mul-k mul-g add_total add-total-2 add-total-3 refused-requires returns cast-t23 cast-t24 slice-aggregate-put put-requires put-part-requires put-part-requires-2 put-part-requires-3 same_length returns-2)

@@ -18,7 +18,7 @@ use Rattle.tra4_bones.proofs.Lists.{bone_keeps}
 use Rattle.tra4_bones.proofs.list.more_bones.Statement.{statement}
 use Rattle.tra4_bones.proofs.list.more_bones.Tie as tie
 
-abbrev invariant-loop : tie.invariant-loop
+abbrev invariant-loop : tie.invariant-loop-start
 invariant-loop text bone-rows₀ key-rows₀ scratch₀ d₀ count₀ keys₀ over₀ i₀ t15 bone-rows key-rows scratch d count keys over i =
     (from text d₀ (more_into (count₀, kept over₀ bone-rows₀ keys₀ key-rows₀)) ≡ from text d (more_into (count, kept over bone-rows keys key-rows)))
     × (length bone-rows ≡ length bone-rows₀)
@@ -26,7 +26,7 @@ invariant-loop text bone-rows₀ key-rows₀ scratch₀ d₀ count₀ keys₀ ov
     × (min i (length bone-rows) ≡ min (count * 22) (length bone-rows))
     × (count + length (lex_at text d.at) ≤ 2 + length text)
 
-abbrev decreases-loop : tie.decreases-loop
+abbrev decreases-loop : tie.decreases-loop-start
 decreases-loop text bone-rows₀ key-rows₀ scratch₀ d₀ count₀ keys₀ over₀ i₀ t15 bone-rows key-rows scratch d count keys over i =
     length (lex_at text d.at)
 
@@ -42,108 +42,85 @@ rows_on : (r i n k len len' : ℕ) → len' ≡ len → k ≡ n + 1 → min i le
 rows_on r i n k len len' e f h g = omega arith
 
 abbrev After : Type 0
-After = tie.After-next-bone invariant-loop decreases-loop
+After = tie.After-next_bone-b invariant-loop decreases-loop
 
 -- a turn: the bones left are one fewer
-turn : (m : After) → from m.before.before.before.before.before.before.before.before.before.before.before.before.before.before.args.text.now m.before.before.before.before.before.before.before.before.before.before.before.loop.d (more_into (m.before.before.before.before.before.before.before.before.before.before.before.loop.count, kept m.before.before.before.before.before.before.before.before.before.before.before.loop.over m.before.before.before.before.before.before.before.before.before.before.before.loop.bone-rows m.before.before.before.before.before.before.before.before.before.before.before.loop.keys m.before.before.before.before.before.before.before.before.before.before.before.loop.key-rows)) ≡ from m.before.before.before.before.before.before.before.before.before.before.before.before.before.before.args.text.now m.next-bone.result.cursor (more_into (m.next-bone.result.count, kept m.next-bone.result.over m.next-bone.new.1.1.0 m.next-bone.result.keys m.next-bone.new.1.1.1.1.0))
+turn : (m : After) → from m.args.text.now m.loop-start.d-1 (more_into (m.loop-start.count, kept m.loop-start.over m.loop-start.bone_rows-1 m.loop-start.keys m.loop-start.key_rows-1)) ≡ from m.args.text.now m.next_bone-b.result.cursor (more_into (m.next_bone-b.result.count, kept m.next_bone-b.result.over m.next_bone-b.new.1.1.0 m.next_bone-b.result.keys m.next_bone-b.new.1.1.1.1.0))
 unfolding more_into bytes
-turn m = repeats_more "bone" bone_step bone bone_keeps _ _ _ _ m.before.before.before.before.before.before.before.before.before.optional.ensures _ _ _ m.next-bone.ensures.0 (present _ m.before.before.before.before.before.before.if1.false)
+turn m = repeats_more "bone" bone_step bone bone_keeps _ _ _ _ m.optional-s.ensures _ _ _ m.next_bone-b.ensures.key_rows_after (present _ m.if-not-s.false)
 
-falling : (m : After) → m.next-bone.result.cursor.refusal ≡ 0 → length (lex_at m.before.before.before.before.before.before.before.before.before.before.before.before.before.before.args.text.now m.next-bone.result.cursor.at) < length (lex_at m.before.before.before.before.before.before.before.before.before.before.before.before.before.before.args.text.now m.before.before.before.before.before.before.before.before.before.before.before.loop.d.at)
+falling : (m : After) → m.next_bone-b.result.cursor.refusal ≡ 0 → length (lex_at m.args.text.now m.next_bone-b.result.cursor.at) < length (lex_at m.args.text.now m.loop-start.d-1.at)
 unfolding bytes
-falling m o = repeats_fall "bone" bone_step bone bone_keeps _ _ _ _ m.before.before.before.before.before.before.before.before.before.optional.ensures _ (present _ m.before.before.before.before.before.before.if1.false) _ _ m.next-bone.ensures.0 o
+falling m o = repeats_fall "bone" bone_step bone bone_keeps _ _ _ _ m.optional-s.ensures _ (present _ m.if-not-s.false) _ _ m.next_bone-b.ensures.key_rows_after o
 
-loop-holds : tie.Need-loop-init invariant-loop decreases-loop
-loop-holds c = let p = c.before.before.requires in (refl, refl, refl, rw p, rw p (omega (arith, lex_at_count c.before.before.args.text.now c.before.before.args.first.cursor.at)))
+loop-holds : tie.Need-loop-start-init invariant-loop decreases-loop
+loop-holds c = let p = c.requires in (refl, refl, refl, rw p, rw p (omega (arith, lex_at_count c.args.text.now c.args.first.cursor.at)))
 
-slice-aggregate-optional : tie.Need-slice-aggregate-optional invariant-loop decreases-loop
-slice-aggregate-optional c = search rules
-
-optional-requires : tie.Need-optional-requires invariant-loop decreases-loop
+optional-requires : tie.Need-optional-s-requires invariant-loop decreases-loop
 optional-requires c κs = search rules
 
-same_length : tie.Need-same-length invariant-loop decreases-loop
+same_length : tie.Need-shape_of-bone_rows-then-not-s invariant-loop decreases-loop
 same_length c = search rules
 
-same-length-2 : tie.Need-same-length-2 invariant-loop decreases-loop
+same-length-2 : tie.Need-shape_of-key_rows-then-not-s invariant-loop decreases-loop
 same-length-2 c = search rules
 
-returns : tie.Need-returns invariant-loop decreases-loop
+returns : tie.Need-returns-then-not-s invariant-loop decreases-loop
 unfolding bytes more_into
 returns c =
     let n = c.before.before.before in
-    sym (n.before.before.loop.invariant.0 ∙ (repeats_end "bone" bone_step bone bone_keeps _ _ _ _ n.optional.ensures _ (not-present _ c.if1.true)))
+    sym (n.loop-start.invariant.0 ∙ (repeats_end "bone" bone_step bone bone_keeps _ _ _ _ n.optional-s.ensures _ (not-present _ c.if-not-s.true)))
 
-same-length-3 : tie.Need-same-length-3 invariant-loop decreases-loop
+same-length-3 : tie.Need-shape_of-bone_rows-then-start-ne0 invariant-loop decreases-loop
 same-length-3 c = search rules
 
-same-length-4 : tie.Need-same-length-4 invariant-loop decreases-loop
+same-length-4 : tie.Need-shape_of-key_rows-then-start-ne0 invariant-loop decreases-loop
 same-length-4 c = search rules
 
-returns-2 : tie.Need-returns-2 invariant-loop decreases-loop
+returns-2 : tie.Need-returns-then-start-ne0 invariant-loop decreases-loop
 unfolding bytes more_into
 returns-2 c =
     let n = c.before.before.before.before.before in
-    sym (n.before.before.loop.invariant.0 ∙ (repeats_refused "bone" bone_step bone bone_keeps _ _ _ _ n.optional.ensures _ _ (present _ c.before.before.if1.false) c.if2.true))
+    sym (n.loop-start.invariant.0 ∙ (repeats_refused "bone" bone_step bone bone_keeps _ _ _ _ n.optional-s.ensures _ _ (present _ c.if-not-s.false) c.if-start-ne0.true))
 
-next-bone-requires : tie.Need-next-bone-requires invariant-loop decreases-loop
+next-bone-requires : tie.Need-next_bone-b-requires invariant-loop decreases-loop
 unfolding bytes
 next-bone-requires c κs =
     let n = c.before.before.before.before.before.before.before.before in
-    let l = n.before.before.loop in
-    let two = start_falls "bone" bone_step bone bone_keeps n.before.before.before.before.before.args.text.now l.d n.optional.result.cursor n.optional.result.present n.optional.ensures (l.count, kept l.over l.bone-rows l.keys l.key-rows) (present _ c.before.before.before.before.before.if1.false) c.before.before.before.if2.false in
-    let some = lex_at_some n.before.before.before.before.before.args.text.now n.optional.result.cursor.at in
+    let l = n.loop-start in
+    let two = start_falls "bone" bone_step bone bone_keeps n.args.text.now l.d-1 n.optional-s.result.cursor n.optional-s.result.present n.optional-s.ensures (l.count, kept l.over l.bone_rows-1 l.keys l.key_rows-1) (present _ c.if-not-s.false) c.if-start-ne0.false in
+    let some = lex_at_some n.args.text.now n.optional-s.result.cursor.at in
     (l.invariant.3, omega arith)
 
-same-length-5 : tie.Need-same-length-5 invariant-loop decreases-loop
+same-length-5 : tie.Need-shape_of-bone_rows-then-d-ne0 invariant-loop decreases-loop
 same-length-5 c = search rules
 
-same-length-6 : tie.Need-same-length-6 invariant-loop decreases-loop
+same-length-6 : tie.Need-shape_of-key_rows-then-d-ne0 invariant-loop decreases-loop
 same-length-6 c = search rules
 
-returns-3 : tie.Need-returns-3 invariant-loop decreases-loop
+returns-3 : tie.Need-returns-then-d-ne0 invariant-loop decreases-loop
 returns-3 c =
     let m = c.before.before.before.before.before in
-    passed _ _ _ _ c.if3.true ∙ sym (m.before.before.before.before.before.before.before.before.before.before.before.loop.invariant.0 ∙ turn m)
+    passed _ _ _ _ c.if-d-ne0.true ∙ sym (m.loop-start.invariant.0 ∙ turn m)
 
-advance-requires : tie.Need-advance-requires invariant-loop decreases-loop
+advance-requires : tie.Need-advance-i-requires invariant-loop decreases-loop
 advance-requires c κs = search rules
 
-loop-less : tie.Need-loop-smaller invariant-loop decreases-loop
-loop-less c = falling c.before.before.before.before.before.before c.before.if3.false
+loop-less : tie.Need-loop-start-smaller invariant-loop decreases-loop
+loop-less c = falling c.before.before.before.before.before.before c.if-d-ne0.false
 
-loop-again : tie.Need-loop-preserved invariant-loop decreases-loop
+loop-again : tie.Need-loop-start-preserved invariant-loop decreases-loop
 loop-again c =
     let m = c.before.before.before.before.before.before in
-    let l = m.before.before.before.before.before.before.before.before.before.before.before.loop in
-    let fewer = falling m c.before.if3.false in
-    let one = m.next-bone.ensures.1 in (
+    let l = m.loop-start in
+    let fewer = falling m c.if-d-ne0.false in
+    let one = m.next_bone-b.ensures.count_value in (
       l.invariant.0 ∙ turn m,
-      m.next-bone.auto.1.1.0 ∙ l.invariant.1,
-      m.next-bone.auto.1.1.1.1.0 ∙ l.invariant.2,
-      rows_on c.advance.result l.i l.count _ _ _ m.next-bone.auto.1.1.0 one l.invariant.3 c.advance.ensures,
+      m.next_bone-b.auto.1.1.0 ∙ l.invariant.1,
+      m.next_bone-b.auto.1.1.1.1.0 ∙ l.invariant.2,
+      rows_on c.advance-i.result l.i l.count _ _ _ m.next_bone-b.auto.1.1.0 one l.invariant.3 c.advance-i.ensures,
       omega arith,
     )
 
-pub more-bones-spec : {M : Type 1} → statement M
-more-bones-spec =
-    tie.close
-    (tie.spec
-    invariant-loop
-    decreases-loop
-    loop-holds
-    slice-aggregate-optional
-    optional-requires
-    same_length
-    same-length-2
-    returns
-    same-length-3
-    same-length-4
-    returns-2
-    next-bone-requires
-    same-length-5
-    same-length-6
-    returns-3
-    advance-requires
-    loop-less
-    loop-again)
+pub more_bones_spec : {M : Type 1} → statement M
+more_bones_spec = tie.close (tie.spec invariant-loop decreases-loop loop-holds optional-requires same_length same-length-2 returns same-length-3 same-length-4 returns-2 next-bone-requires same-length-5 same-length-6 returns-3 advance-requires loop-less loop-again)

@@ -5,22 +5,22 @@ use borrow.Author.Rules.{rules}
 use Rattle.tra4_bones.proofs.list.next_bone.Statement.{statement}
 use Rattle.tra4_bones.proofs.list.next_bone.Tie as tie
 
-bone-tail-requires : tie.Need-bone-tail-requires
+bone-tail-requires : tie.Need-bone_tail-b-requires
 bone-tail-requires c κs = search rules
 
-add-t15 : tie.Need-overflow-add-t15
+add-t15 : tie.Need-overflow_add-result
 add-t15 c = search rules
 
-same_length : tie.Need-same-length
+same_length : tie.Need-shape_of-bone_rows
 same_length c = search rules
 
-same-length-2 : tie.Need-same-length-2
+same-length-2 : tie.Need-shape_of-key_rows
 same-length-2 c = search rules
 
 returns : tie.Need-returns
 returns c =
     let b = c.before.before.before.before in
-    (next_step _ _ _ _ _ _ _ _ _ _ b.before.before.before.before.before.before.requires.0 b.bone-tail.ensures.0, refl)
+    (next_step _ _ _ _ _ _ _ _ _ _ b.requires.0 b.bone_tail-b.ensures.read, refl)
 
-pub next-bone-spec : {M : Type 1} → statement M
-next-bone-spec = tie.close (tie.spec bone-tail-requires add-t15 same_length same-length-2 returns)
+pub next_bone_spec : {M : Type 1} → statement M
+next_bone_spec = tie.close (tie.spec bone-tail-requires add-t15 same_length same-length-2 returns)

@@ -8,96 +8,74 @@ use Rattle.tra4_channels.proofs.Turns.{Between, between_start, channels_end, cha
 use Rattle.tra4_channels.proofs.channel.channel_chunks.Statement.{statement}
 use Rattle.tra4_channels.proofs.channel.channel_chunks.Tie as tie
 
-abbrev invariant-loop : tie.invariant-loop
+abbrev invariant-loop : tie.invariant-loop-seen
 invariant-loop text at ranges₀ keys₀ seen₀ d₀ left₀ count₀ over₀ t14 t15 ranges keys seen d left count over =
     Between text at left d seen ranges keys count over
     × (length seen ≡ 10)
     × (length ranges ≡ length ranges₀)
     × (length keys ≡ length keys₀)
 
-abbrev decreases-loop : tie.decreases-loop
+abbrev decreases-loop : tie.decreases-loop-seen
 decreases-loop text at ranges₀ keys₀ seen₀ d₀ left₀ count₀ over₀ t14 t15 ranges keys seen d left count over =
     left
 
-loop-holds : tie.Need-loop-init invariant-loop decreases-loop
-loop-holds c = let p = c.before.requires in (between_start _ _ _ _ _ refl p.0 p.1, refl, refl, refl)
+loop-holds : tie.Need-loop-seen-init invariant-loop decreases-loop
+loop-holds c = let p = c.requires in (between_start _ _ _ _ _ refl p.0 p.1, refl, refl, refl)
 
-slice-aggregate-next-chunk : tie.Need-slice-aggregate-next-chunk invariant-loop decreases-loop
+slice-aggregate-next-chunk : tie.Need-slice_bounds-next_chunk-end-in-loop-seen-2 invariant-loop decreases-loop
 slice-aggregate-next-chunk c = search rules
 
-slice-aggregate-next-chunk-2 : tie.Need-slice-aggregate-next-chunk-2 invariant-loop decreases-loop
-slice-aggregate-next-chunk-2 c = search rules
-
-slice-aggregate-next-chunk-3 : tie.Need-slice-aggregate-next-chunk-3 invariant-loop decreases-loop
-slice-aggregate-next-chunk-3 c = search rules
-
-next-chunk-requires : tie.Need-next-chunk-requires invariant-loop decreases-loop
+next-chunk-requires : tie.Need-next_chunk-h-requires invariant-loop decreases-loop
 next-chunk-requires c κs = search rules
 
-same_length : tie.Need-same-length invariant-loop decreases-loop
+same_length : tie.Need-shape_of-ranges-then-k-ge10 invariant-loop decreases-loop
 same_length c = search rules
 
-same-length-2 : tie.Need-same-length-2 invariant-loop decreases-loop
+same-length-2 : tie.Need-shape_of-keys-then-k-ge10 invariant-loop decreases-loop
 same-length-2 c = search rules
 
-returns : tie.Need-returns invariant-loop decreases-loop
+returns : tie.Need-returns-then-k-ge10 invariant-loop decreases-loop
 unfolding bytes
 returns c =
     let h = c.before.before.before in
     let l = h.before.before.before.before in
-    channels_end _ _ _ _ _ _ _ _ _ l.loop.invariant.0 _ _ h.next-chunk.ensures.0 c.if1.true
+    channels_end _ _ _ _ _ _ _ _ _ l.loop-seen.invariant.0 _ _ h.next_chunk-h.ensures.kind_value c.if-k-ge10.true
 
-channel-keys-requires : tie.Need-channel-keys-requires invariant-loop decreases-loop
+channel-keys-requires : tie.Need-channel_keys-m-requires invariant-loop decreases-loop
 unfolding bytes
 channel-keys-requires c κs =
     let e = c.before.before in
     let h = e.before.before.before in
     let l = h.before.before.before.before in
-    channel-sizes _ _ _ _ _ _ _ _ _ l.loop.invariant.0 _ _ h.next-chunk.ensures.0 e.if1.false h.next-chunk.ensures.1.1
+    channel-sizes _ _ _ _ _ _ _ _ _ l.loop-seen.invariant.0 _ _ h.next_chunk-h.ensures.kind_value e.if-k-ge10.false h.next_chunk-h.ensures.seen_after.1
 
 -- a chunk could open
-opened : (e : tie.Else1 invariant-loop decreases-loop) → e.before.before.before.before.before.before.before.loop.left ≡ 0 → ⊥
+opened : (e : tie.Else-k-ge10 invariant-loop decreases-loop) → e.loop-seen.left ≡ 0 → ⊥
 unfolding bytes
 opened e =
     let h = e.before.before.before in
     let l = h.before.before.before.before in
-    channel-left _ _ _ _ _ _ _ _ _ l.loop.invariant.0 _ _ h.next-chunk.ensures.0 e.if1.false h.next-chunk.ensures.1.1
+    channel-left _ _ _ _ _ _ _ _ _ l.loop-seen.invariant.0 _ _ h.next_chunk-h.ensures.kind_value e.if-k-ge10.false h.next_chunk-h.ensures.seen_after.1
 
-sub-left : tie.Need-overflow-sub-left invariant-loop decreases-loop
+sub-left : tie.Need-overflow_sub-left invariant-loop decreases-loop
 sub-left c = omega (arith, opened c.before.before.before.before.before.before)
 
-loop-less : tie.Need-loop-smaller invariant-loop decreases-loop
+loop-less : tie.Need-loop-seen-smaller invariant-loop decreases-loop
 loop-less c = omega (arith, opened c.before.before.before.before.before.before)
 
-loop-again : tie.Need-loop-preserved invariant-loop decreases-loop
+loop-again : tie.Need-loop-seen-preserved invariant-loop decreases-loop
 unfolding bytes
 loop-again c =
     let y = c.before.before.before in
     let e = y.before.before.before in
     let h = e.before.before.before in
     let l = h.before.before.before.before in
-    let s = y.channel-keys.auto in (
-      channel_on _ _ _ _ _ _ _ _ _ l.loop.invariant.0 _ _ h.next-chunk.ensures.0 e.if1.false h.next-chunk.ensures.1.1 _ _ y.channel-keys.ensures _ h.next-chunk.ensures.1.0,
-      h.next-chunk.auto.1.1.1.1.0 ∙ l.loop.invariant.1,
-      s.1.1.1.0 ∙ l.loop.invariant.2,
-      s.1.1.1.1.0 ∙ l.loop.invariant.3,
+    let s = y.channel_keys-m.auto in (
+      channel_on _ _ _ _ _ _ _ _ _ l.loop-seen.invariant.0 _ _ h.next_chunk-h.ensures.kind_value e.if-k-ge10.false h.next_chunk-h.ensures.seen_after.1 _ _ y.channel_keys-m.ensures _ h.next_chunk-h.ensures.seen_after.0,
+      h.next_chunk-h.auto.1.1.1.1.0 ∙ l.loop-seen.invariant.1,
+      s.1.1.1.0 ∙ l.loop-seen.invariant.2,
+      s.1.1.1.1.0 ∙ l.loop-seen.invariant.3,
     )
 
-pub channel-chunks-spec : {M : Type 1} → statement M
-channel-chunks-spec =
-    tie.close
-    (tie.spec
-    invariant-loop
-    decreases-loop
-    loop-holds
-    slice-aggregate-next-chunk
-    slice-aggregate-next-chunk-2
-    slice-aggregate-next-chunk-3
-    next-chunk-requires
-    same_length
-    same-length-2
-    returns
-    channel-keys-requires
-    sub-left
-    loop-less
-    loop-again)
+pub channel_chunks_spec : {M : Type 1} → statement M
+channel_chunks_spec = tie.close (tie.spec invariant-loop decreases-loop loop-holds slice-aggregate-next-chunk next-chunk-requires same_length same-length-2 returns channel-keys-requires sub-left loop-less loop-again)

@@ -9,27 +9,27 @@ use Rattle.tra4_text.proofs.Zero.{zero_bits}
 use Rattle.tra4_frames.proofs.channel.key_fits.Statement.{statement}
 use Rattle.tra4_frames.proofs.channel.key_fits.Tie as tie
 
-told : (m : tie.After-is-frame) → m.is-frame.result ≡ is_frame m.before.args.total m.before.args.frame
-told m = let f = m.before.ranges in rw (to_z-of_z f.total, to_z-of_z f.frame) at m.is-frame.ensures
+told : (m : tie.After-is_frame) → m.is_frame.result ≡ is_frame m.args.total m.args.frame
+told m = let f = m.ranges in rw (to_z-of_z f.total, to_z-of_z f.frame) at m.is_frame.ensures
 
-is-frame-requires : tie.Need-is-frame-requires
+is-frame-requires : tie.Need-is_frame-requires
 is-frame-requires c κs = search rules
 
-returns : tie.Need-returns
-returns c = sym (failed _ (told c.before) c.if1.true)
+returns : tie.Need-returns-then-not-is_frame
+returns c = sym (failed _ (told c.before) c.if-not-is_frame.true-raw)
 
-returns-2 : tie.Need-returns-2
+returns-2 : tie.Need-returns-then-first
 unfolding before_of rises
 returns-2 c =
     let m = c.before.before in
-    zero_bits _ m.before.ranges.frame ∙ sym (passed _ (told m) c.before.if1.false ∙ rw c.if2.true)
+    zero_bits _ m.ranges.frame ∙ sym (passed _ (told m) c.if-not-is_frame.false-raw ∙ rw c.if-first.true)
 
-returns-3 : tie.Need-returns-3
+returns-3 : tie.Need-returns
 unfolding before_of rises
 returns-3 c =
     let m = c.before.before in
-    let f = m.before.ranges in
-    rw (to_z-of_z f.frame, to_z-of_z f.before) (sym (passed _ (told m) c.before.if1.false ∙ rw c.if2.false))
+    let f = m.ranges in
+    rw (to_z-of_z f.frame, to_z-of_z f.before) (sym (passed _ (told m) c.if-not-is_frame.false-raw ∙ rw c.if-first.false))
 
-pub key-fits-spec : {M : Type 1} → statement M
-key-fits-spec = tie.close (tie.spec is-frame-requires returns returns-2 returns-3)
+pub key_fits_spec : {M : Type 1} → statement M
+key_fits_spec = tie.close (tie.spec is-frame-requires returns returns-2 returns-3)

@@ -19,101 +19,82 @@ use Rattle.tra4_frames.proofs.Patterns.{line_row}
 use Rattle.tra4_frames.proofs.pattern.lines_fault.Statement.{statement}
 use Rattle.tra4_frames.proofs.pattern.lines_fault.Tie as tie
 
-abbrev invariant-loop : tie.invariant-loop
+abbrev invariant-loop : tie.invariant-loop-row
 invariant-loop total patterns count base₀ row₀ base row =
     (base ≤ length patterns)
     × (first_bad 16 (pattern_fine (to_z w64 total)) 0 (rows_of 3 count patterns) ≡ bad_from 16 3 (pattern_fine (to_z w64 total)) patterns row (count - row) base)
 
-abbrev decreases-loop : tie.decreases-loop
+abbrev decreases-loop : tie.decreases-loop-row
 decreases-loop total patterns count base₀ row₀ base row = count - row
 
 -- the invariant, with the total as it was passed
-found : (c : tie.At-loop invariant-loop decreases-loop) → let a = c.before.args in first_bad 16 (pattern_fine a.total) 0 (rows_of 3 a.count a.patterns.now) ≡ bad_from 16 3 (pattern_fine a.total) a.patterns.now c.loop.row (a.count - c.loop.row) c.loop.base
-found c = rw (to_z-of_z c.before.ranges.total) at c.loop.invariant.1
+found : (c : tie.At-loop-row invariant-loop decreases-loop) → let a = c.args in first_bad 16 (pattern_fine a.total) 0 (rows_of 3 a.count a.patterns.now) ≡ bad_from 16 3 (pattern_fine a.total) a.patterns.now c.loop-row.row (a.count - c.loop-row.row) c.loop-row.base
+found c = rw (to_z-of_z c.ranges.total) at c.loop-row.invariant.1
 
-loop-holds : tie.Need-loop-init invariant-loop decreases-loop
+loop-holds : tie.Need-loop-row-init invariant-loop decreases-loop
 loop-holds c = (omega arith, walk_start 16 3 _ _ _)
 
-sub-if1 : tie.Need-overflow-sub-if1 invariant-loop decreases-loop
+sub-if1 : tie.Need-overflow_sub-patterns invariant-loop decreases-loop
 sub-if1 c = search rules
 
-returns : tie.Need-returns invariant-loop decreases-loop
+returns : tie.Need-returns-then-patterns-base-lt-PATTERN_WIDTH invariant-loop decreases-loop
 unfolding refusal
-returns c = sym (found c.before.before ∙ walk_short 16 3 _ _ _ _ _ c.if1.true)
+returns c = sym (found c.before.before ∙ walk_short 16 3 _ _ _ _ _ c.if-patterns-base-lt-PATTERN_WIDTH.true)
 
-mul-pattern-fits : tie.Need-overflow-mul-pattern-fits invariant-loop decreases-loop
+mul-pattern-fits : tie.Need-offset_bounds-patterns-base invariant-loop decreases-loop
 mul-pattern-fits c = search rules
 
-shared-slice-copy-out-pattern-fits : tie.Need-shared-slice-copy-out-pattern-fits invariant-loop decreases-loop
+shared-slice-copy-out-pattern-fits : tie.Need-bounds-patterns-base invariant-loop decreases-loop
 shared-slice-copy-out-pattern-fits c = search rules
 
-add-pattern-fits : tie.Need-overflow-add-pattern-fits invariant-loop decreases-loop
+add-pattern-fits : tie.Need-overflow_add-base invariant-loop decreases-loop
 add-pattern-fits c = search rules
 
-mul-pattern-fits-2 : tie.Need-overflow-mul-pattern-fits-2 invariant-loop decreases-loop
+mul-pattern-fits-2 : tie.Need-offset_bounds-patterns-base-in-loop-row invariant-loop decreases-loop
 mul-pattern-fits-2 c = search rules
 
-shared-slice-copy-out-pattern-fits-2 : tie.Need-shared-slice-copy-out-pattern-fits-2 invariant-loop decreases-loop
+shared-slice-copy-out-pattern-fits-2 : tie.Need-bounds-patterns-base-in-loop-row invariant-loop decreases-loop
 shared-slice-copy-out-pattern-fits-2 c = search rules
 
-pattern-fits-requires : tie.Need-pattern-fits-requires invariant-loop decreases-loop
+pattern-fits-requires : tie.Need-pattern_fits-requires invariant-loop decreases-loop
 pattern-fits-requires c κs = search rules
 
 -- what the call says of the row
-told : (c : tie.After-pattern-fits invariant-loop decreases-loop) → let b = c.before.before.before.before.before in let a = b.before.args in c.pattern-fits.result ≡ pattern_fine a.total (take 3 (drop b.loop.base a.patterns.now))
+told : (c : tie.After-pattern_fits invariant-loop decreases-loop) → let b = c.before.before.before.before.before in let a = b.args in c.pattern_fits.result ≡ pattern_fine a.total (take 3 (drop b.loop-row.base a.patterns.now))
 told c =
     let b = c.before.before.before.before.before in
-    let a = b.before.args in
-    rw (line_row a.patterns.now b.loop.base c.before.before.before.if1.false)
-    (rw (to_z-of_z b.before.ranges.total, to_z-of_z (record { sfits = c.before.before.pattern-fits-arg.given }), to_z-of_z (record { sfits = c.before.pattern-fits-arg2.given })) at (c.pattern-fits.ensures (get_or a.patterns.now (b.loop.base + 2) (pos 0))))
+    let a = b.args in
+    rw (line_row a.patterns.now b.loop-row.base c.if-patterns-base-lt-PATTERN_WIDTH.false)
+    (rw (to_z-of_z b.ranges.total, to_z-of_z (record { sfits = c.pattern_fits-arg-1.given }), to_z-of_z (record { sfits = c.pattern_fits-arg-in-loop-row-1.given })) at (c.pattern_fits.ensures (get_or a.patterns.now (b.loop-row.base + 2) (pos 0))))
 
-returns-2 : tie.Need-returns-2 invariant-loop decreases-loop
+returns-2 : tie.Need-returns-then-not-pattern_fits invariant-loop decreases-loop
 unfolding refusal
 returns-2 c =
     let b = c.before.before.before.before.before.before in
-    let n : b.before.args.count - b.loop.row ≡ suc (b.before.args.count - (b.loop.row + 1)) = omega arith in
-    sym (found b ∙ rw n (walk_found 16 3 _ _ _ _ _ c.before.before.before.before.if1.false (sym (told c.before) ∙ not-true _ c.if2.true)))
+    let n : b.args.count - b.loop-row.row ≡ suc (b.args.count - (b.loop-row.row + 1)) = omega arith in
+    sym (found b ∙ rw n (walk_found 16 3 _ _ _ _ _ c.if-patterns-base-lt-PATTERN_WIDTH.false (sym (told c.before) ∙ not-true _ c.if-not-pattern_fits.true-raw)))
 
-add-base : tie.Need-overflow-add-base invariant-loop decreases-loop
+add-base : tie.Need-overflow_add-base-in-loop-row invariant-loop decreases-loop
 add-base c = search rules
 
-add_row : tie.Need-overflow-add-row invariant-loop decreases-loop
+add_row : tie.Need-overflow_add-row invariant-loop decreases-loop
 add_row c = search rules
 
-loop-less : tie.Need-loop-smaller invariant-loop decreases-loop
+loop-less : tie.Need-loop-row-smaller invariant-loop decreases-loop
 loop-less c = search rules
 
-loop-again : tie.Need-loop-preserved invariant-loop decreases-loop
+loop-again : tie.Need-loop-row-preserved invariant-loop decreases-loop
 loop-again c =
     let b = c.before.before.before.before.before.before in
-    let n : b.before.args.count - b.loop.row ≡ suc (b.before.args.count - (b.loop.row + 1)) = omega arith in
-    let w = c.before.before.before.before.if1.false in
-    (omega arith, rw (to_z-of_z b.before.ranges.total) (found b ∙ rw (n, add-one b.loop.row) (walk_passed 16 3 _ _ _ _ _ w (sym (told c.before) ∙ not-false _ c.if2.false))))
+    let n : b.args.count - b.loop-row.row ≡ suc (b.args.count - (b.loop-row.row + 1)) = omega arith in
+    let w = c.if-patterns-base-lt-PATTERN_WIDTH.false in
+    (omega arith, rw (to_z-of_z b.ranges.total) (found b ∙ rw (n, add-one b.loop-row.row) (walk_passed 16 3 _ _ _ _ _ w (sym (told c.before) ∙ not-false _ c.if-not-pattern_fits.false-raw))))
 
-returns-3 : tie.Need-returns-3 invariant-loop decreases-loop
+returns-3 : tie.Need-returns invariant-loop decreases-loop
 unfolding refusal
 returns-3 c =
-    let e : c.before.before.args.count - c.before.loop.row ≡ 0 = omega arith in
+    let e : c.args.count - c.loop-row.row ≡ 0 = omega arith in
     sym (found c.before ∙ rw e (walk_done 16 3 _ _ _ _))
 
-pub lines-fault-spec : {M : Type 1} → statement M
-lines-fault-spec =
-    tie.close
-    (tie.spec
-    invariant-loop
-    decreases-loop
-    loop-holds
-    sub-if1
-    returns
-    mul-pattern-fits
-    shared-slice-copy-out-pattern-fits
-    add-pattern-fits
-    mul-pattern-fits-2
-    shared-slice-copy-out-pattern-fits-2
-    pattern-fits-requires
-    returns-2
-    add-base
-    add_row
-    loop-less
-    loop-again
-    returns-3)
+pub lines_fault_spec : {M : Type 1} → statement M
+lines_fault_spec = tie.close (tie.spec invariant-loop decreases-loop loop-holds sub-if1 returns mul-pattern-fits shared-slice-copy-out-pattern-fits add-pattern-fits mul-pattern-fits-2 shared-slice-copy-out-pattern-fits-2 pattern-fits-requires returns-2 add-base add_row loop-less loop-again returns-3)

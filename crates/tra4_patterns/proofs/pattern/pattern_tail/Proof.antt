@@ -8,25 +8,19 @@ use borrow.Author.Rules.{rules}
 use Rattle.tra4_patterns.proofs.pattern.pattern_tail.Statement.{statement}
 use Rattle.tra4_patterns.proofs.pattern.pattern_tail.Tie as tie
 
-slice-aggregate-keyword : tie.Need-slice-aggregate-keyword
-slice-aggregate-keyword c = search rules
-
 keyword-requires : tie.Need-keyword-requires
 keyword-requires c κs = search rules
 
-numbers-requires : tie.Need-numbers-requires
+numbers-requires : tie.Need-numbers-d-requires
 numbers-requires c κs = search rules
 
-slice-aggregate-one-of : tie.Need-slice-aggregate-one-of
-slice-aggregate-one-of c = search rules
-
-one-of-requires : tie.Need-one-of-requires
+one-of-requires : tie.Need-one_of-n-requires
 one-of-requires c κs = search rules
 
 advance-requires : tie.Need-advance-requires
 advance-requires c κs = search rules
 
-slice-aggregate-store : tie.Need-slice-aggregate-store
+slice-aggregate-store : tie.Need-slice_bounds-store-end
 slice-aggregate-store c = search rules
 
 store-requires : tie.Need-store-requires
@@ -35,7 +29,7 @@ store-requires c κs = search rules
 closing-requires : tie.Need-closing-requires
 closing-requires c κs = search rules
 
-same_length : tie.Need-same-length
+same_length : tie.Need-shape_of-out
 same_length c = search rules
 
 returns : tie.Need-returns
@@ -43,20 +37,7 @@ unfolding bytes form_named
 returns c =
     let o = c.before.before.before.before.before.before.before.before in
     let n = c.before.before.before.before.before.before.before.before.before.before.before in
-    pattern-read _ _ _ _ _ _ _ _ _ _ _ _ n.before.before.keyword.ensures n.numbers.ensures.0 o.one_of.ensures c.before.before.before.before.advance.ensures (rw (to_z-of_z {w = w64} {z = o.one_of.result.value} (record { sfits = c.before.before.before.before.before.before.struct_told.given.1.0.1 })) at c.before.before.store.ensures) c.closing.ensures
+    pattern-read _ _ _ _ _ _ _ _ _ _ _ _ n.keyword.ensures n.numbers-d.ensures.meaning o.one_of-n.ensures c.advance.ensures (rw (to_z-of_z {w = w64} {z = o.one_of-n.result.value} (record { sfits = c.struct_told-1.given.1.0.1 })) at c.store.ensures) c.closing.ensures
 
-pub pattern-tail-spec : {M : Type 1} → statement M
-pattern-tail-spec =
-    tie.close
-    (tie.spec
-    slice-aggregate-keyword
-    keyword-requires
-    numbers-requires
-    slice-aggregate-one-of
-    one-of-requires
-    advance-requires
-    slice-aggregate-store
-    store-requires
-    closing-requires
-    same_length
-    returns)
+pub pattern_tail_spec : {M : Type 1} → statement M
+pattern_tail_spec = tie.close (tie.spec keyword-requires numbers-requires one-of-requires advance-requires slice-aggregate-store store-requires closing-requires same_length returns)

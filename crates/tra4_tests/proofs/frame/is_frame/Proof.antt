@@ -5,13 +5,13 @@ use Rattle.tra4_tests.proofs.Frames.{frame_negative, frame_natural}
 use Rattle.tra4_tests.proofs.frame.is_frame.Statement.{statement}
 use Rattle.tra4_tests.proofs.frame.is_frame.Tie as tie
 
-returns : tie.Need-returns
-returns c = sym (frame_negative _ _ (rw (to_z-of_z c.before.ranges.frame) at c.if1.true))
+returns : tie.Need-returns-then-frame-lt0
+returns c = sym (frame_negative _ _ (rw (to_z-of_z c.ranges.frame) at c.if-frame-lt0.true))
 
-returns-2 : tie.Need-returns-2
+returns-2 : tie.Need-returns
 returns-2 c =
-    let f = c.before.ranges in
-    rw (to_z-of_z f.frame, to_z-of_z f.total) (sym (frame_natural _ _ (rw (to_z-of_z f.frame) at c.if1.false)))
+    let f = c.ranges in
+    rw (to_z-of_z f.frame, to_z-of_z f.total) (sym (frame_natural _ _ (rw (to_z-of_z f.frame) at c.if-frame-lt0.false)))
 
-pub is-frame-spec : {M : Type 1} → statement M
-is-frame-spec = tie.close (tie.spec returns returns-2)
+pub is_frame_spec : {M : Type 1} → statement M
+is_frame_spec = tie.close (tie.spec returns returns-2)
