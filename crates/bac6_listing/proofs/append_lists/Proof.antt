@@ -83,7 +83,7 @@ unfolding put_of reached figure_lists bytes list_at lists_from
 returns c =
     let l = c.loop-i in
     let a = c.args in
-    ap put_of (all-rows _ l.i _ _ (omega arith) l.invariant.2) ∙ all_lines (output a.start a.buf-1.now) a.table.now (figure_lists a.n)
+    ap put_of (all-rows _ l.i _ _ (omega arith) l.invariant.2) ∙ all_lines (output a.start a.buf.now) a.table.now (figure_lists a.n)
 
 pub append_lists_spec : {M : Type 1} → statement M
 append_lists_spec = tie.close (tie.spec invariant-loop decreases-loop loop-holds mul-from mul-end array-read-end add-end sub-append-list part-append-list-start part-append-list-end mul-append-list array-read-append-list mul-append-list-2 array-read-append-list-2 append-list-requires add-i loop-less loop-again same_length returns)

@@ -1,12 +1,12 @@
 -- `tell_faces` goes on to the end of each part, which lies past its start.
 use mathlib.Core.Path.{◌≡◌, sym, ◌∙◌}
-use mathlib.Core.Logic.{⊎_elim}
 use Prim.Native.Nat.{◌-◌, ◌≤◌}
 use native.Mathlib.Omega.{arith}
 use lib.ListN.{length}
 use lib.Seq.{length-take-le}
 use borrow.Author.Rules.{rules}
 use Rattle.corners.proofs.tell_faces.Statement.{statement}
+use Rattle.corners.proofs.tell_faces.Goals.{then-faces-face-gt32, else-faces-face-gt32}
 use Rattle.corners.proofs.tell_faces.Tie as tie
 
 abbrev invariant-loop : tie.invariant-loop-face
@@ -40,12 +40,12 @@ write-all-requires : tie.Need-write_all-requires invariant-loop decreases-loop
 write-all-requires c κs = search rules
 
 loop-less : tie.Need-loop-face-smaller invariant-loop decreases-loop
-loop-less c = ⊎_elim (λ w. omega arith) (λ w. omega arith) c.if-faces-face-gt32.branch
+loop-less c = elim c.if-faces-face-gt32.branch [ then-faces-face-gt32 w ↦ omega arith | else-faces-face-gt32 w ↦ omega arith ]
 
 loop-again : tie.Need-loop-face-preserved invariant-loop decreases-loop
 loop-again c =
     let l = c.before.before.before in
-    (⊎_elim (λ w. omega arith) (λ w. omega arith) c.if-faces-face-gt32.branch, l.list_corners-filled.auto.0 ∙ c.loop-face.invariant.1)
+    (elim c.if-faces-face-gt32.branch [ then-faces-face-gt32 w ↦ omega arith | else-faces-face-gt32 w ↦ omega arith ], l.list_corners-filled.auto.0 ∙ c.loop-face.invariant.1)
 
 returns : tie.Need-returns invariant-loop decreases-loop
 returns c = search rules

@@ -55,8 +55,8 @@ loop-again c =
     let a = s.args in
     let h = s.loop-bone-test.true in
     let f = Label a.figure.now a.n a.table.now a.movement.now a.m a.moves.now in
-    let put = label-put l.at l.bone _ l.buf-1 _ _ _ s.label-name.ensures (label-most a.figure.now a.n a.table.now a.movement.now a.m a.moves.now l.bone) k.append_label-at.ensures in
-    (k.append_label-at.auto.0 ∙ l.invariant.0, rw add-one (l.invariant.1 ∙ turn_put f 283 l.bone a.n.bones l.at _ l.buf-1 _ h put.0), rw add-one (turn_short f 283 0 l.bone a.n.bones h put.1 l.invariant.2))
+    let put = label-put l.at l.bone _ l.buf _ _ _ s.label-name.ensures (label-most a.figure.now a.n a.table.now a.movement.now a.m a.moves.now l.bone) k.append_label-at.ensures in
+    (k.append_label-at.auto.0 ∙ l.invariant.0, rw add-one (l.invariant.1 ∙ turn_put f 283 l.bone a.n.bones l.at _ l.buf _ h put.0), rw add-one (turn_short f 283 0 l.bone a.n.bones h put.1 l.invariant.2))
 
 same_length : tie.Need-shape_of-buf invariant-loop decreases-loop
 same_length c = c.loop-bone.invariant.0
@@ -69,7 +69,7 @@ returns c =
     let f = Label a.figure.now a.n a.table.now a.movement.now a.m a.moves.now in
     let h = c.loop-bone-test.false in
     let whole : a.n.bones - 0 ≡ a.n.bones = omega arith in
-    (rw whole at (all_lines f 283 0 l.bone a.n.bones a.filled _ a.buf-1.now l.buf-1 h l.invariant.1), rw whole at (all_short f 283 0 l.bone a.n.bones h l.invariant.2))
+    (rw whole at (all_lines f 283 0 l.bone a.n.bones a.filled _ a.buf.now l.buf h l.invariant.1), rw whole at (all_short f 283 0 l.bone a.n.bones h l.invariant.2))
 
 pub append_labels_spec : {M : Type 1} → statement M
 append_labels_spec = tie.close (tie.spec invariant-loop decreases-loop loop-holds label-requires append-label-requires add-bone loop-less loop-again same_length returns)

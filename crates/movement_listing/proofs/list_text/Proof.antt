@@ -32,7 +32,7 @@ returns c =
     let a = c.args in
     let lines = same_lines a.text.now r.new.1.0 r.result r.ensures.0 r.ensures.1 in
     let text = same_text a.text.now r.new.1.0 r.result r.ensures.0 r.ensures.1 in
-    (l.ensures.0 ∙ ap (appended_each (output 0 a.buf-1.now)) lines, (l.ensures.1.0, λ h. l.ensures.1.1 (rw text h) ∙ text))
+    (l.ensures.0 ∙ ap (appended_each (output 0 a.buf.now)) lines, (l.ensures.1.0, λ h. l.ensures.1.1 (rw text h) ∙ text))
 
 pub list_text_spec : {M : Type 1} → statement M
 list_text_spec = tie.close (tie.spec slice-aggregate-read read-requires slice-aggregate-list-movement list-movement-requires same_length returns)

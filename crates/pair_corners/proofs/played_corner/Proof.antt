@@ -48,7 +48,7 @@ unfolding corner_told
 returns-2 c = let l = c.load-a in
     let a = c.args in
     let o = pair-loaded _ _ l.ensures.0 c.if-a-eq0.false in
-    let same = ap₂ (λ (n : FigureCounts) (t : List ℤ). corner_in n t a.face a.k) (ap (λ (x : PairAnswer). x.figure) l.ensures.0) l.ensures.1.0 ∙ every_corner a.figure.now a.table-1.now a.movement.now a.moves-1.now o.figure o.movement o.is a.face a.k in
+    let same = ap₂ (λ (n : FigureCounts) (t : List ℤ). corner_in n t a.face a.k) (ap (λ (x : PairAnswer). x.figure) l.ensures.0) l.ensures.1.0 ∙ every_corner a.figure.now a.table.now a.movement.now a.moves.now o.figure o.movement o.is a.face a.k in
     (told_by (λ (f : Figure) (m : Movement). corner_asked f a.face a.k) _ o _ same _ _ c.corner_number.ensures c.corner-value.ensures, l.ensures.1)
 
 pub played_corner_spec : {M : Type 1} → statement M

@@ -41,7 +41,7 @@ returns-2 : tie.Need-returns
 returns-2 c = let l = c.load-a in
     let a = c.args in
     let o = pair-loaded _ _ l.ensures.0 c.if-a-eq0.false in
-    let same = label_of a.figure.now a.table-1.now a.movement.now a.moves-1.now o.figure o.movement o.is l.result.figure _ l.result.movement _ (ap (λ (x : PairAnswer). x.figure) l.ensures.0) l.ensures.1.0 (ap (λ (x : PairAnswer). x.movement) l.ensures.0) l.ensures.1.1 a.bone in
+    let same = label_of a.figure.now a.table.now a.movement.now a.moves.now o.figure o.movement o.is l.result.figure _ l.result.movement _ (ap (λ (x : PairAnswer). x.figure) l.ensures.0) l.ensures.1.0 (ap (λ (x : PairAnswer). x.movement) l.ensures.0) l.ensures.1.1 a.bone in
     (ap (λ (n : ℕ). record { number = n; place = 0; file = 0 }) c.label_number.ensures ∙ number-zeros _ ∙ ap refusal_of (by_texts (λ (f : Figure) (m : Movement). label_asked f m a.bone) _ o _ same), l.ensures.1)
 
 pub played_label_number_spec : {M : Type 1} → statement M

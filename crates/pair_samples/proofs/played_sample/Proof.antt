@@ -48,7 +48,7 @@ returns-2 c =
     let l = c.load-a in
     let a = c.args in
     let o = pair-loaded _ _ l.ensures.0 c.if-a-eq0.false in
-    let same = ap₂ (λ (n : MovementCounts) (t : List ℤ). sample_in n t a.bone a.channel a.at) (ap (λ (x : PairAnswer). x.movement) l.ensures.0) l.ensures.1.1 ∙ every_sample a.figure.now a.table-1.now a.movement.now a.moves-1.now o.figure o.movement o.is a.bone a.channel a.at in
+    let same = ap₂ (λ (n : MovementCounts) (t : List ℤ). sample_in n t a.bone a.channel a.at) (ap (λ (x : PairAnswer). x.movement) l.ensures.0) l.ensures.1.1 ∙ every_sample a.figure.now a.table.now a.movement.now a.moves.now o.figure o.movement o.is a.bone a.channel a.at in
     (told_by (λ (f : Figure) (m : Movement). sample_asked m a.bone a.channel a.at) _ o _ same _ _ c.sample_number.ensures c.sample-value.ensures, l.ensures.1)
 
 pub played_sample_spec : {M : Type 1} → statement M

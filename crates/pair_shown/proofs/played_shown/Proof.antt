@@ -44,7 +44,7 @@ unfolding shown_told
 returns-2 c = let l = c.load-a in
     let a = c.args in
     let o = pair-loaded _ _ l.ensures.0 c.if-a-eq0.false in
-    let same = shown_of_lem a.figure.now a.table-1.now a.movement.now a.moves-1.now o.figure o.movement o.is l.result.figure _ l.result.movement _ (ap (λ (x : PairAnswer). x.figure) l.ensures.0) l.ensures.1.0 (ap (λ (x : PairAnswer). x.movement) l.ensures.0) l.ensures.1.1 a.face a.at in
+    let same = shown_of_lem a.figure.now a.table.now a.movement.now a.moves.now o.figure o.movement o.is l.result.figure _ l.result.movement _ (ap (λ (x : PairAnswer). x.figure) l.ensures.0) l.ensures.1.0 (ap (λ (x : PairAnswer). x.movement) l.ensures.0) l.ensures.1.1 a.face a.at in
     (told_by (λ (f : Figure) (m : Movement). shown_asked f m a.face a.at) _ o _ same _ _ c.shown_number.ensures c.shown-value.ensures, l.ensures.1)
 
 pub played_shown_spec : {M : Type 1} → statement M

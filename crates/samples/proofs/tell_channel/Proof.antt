@@ -1,12 +1,12 @@
 -- `tell_channel` goes on to the end of each part, which lies past its start.
 use mathlib.Core.Path.{◌≡◌, sym, ◌∙◌}
-use mathlib.Core.Logic.{⊎_elim}
 use Prim.Native.Nat.{◌-◌, ◌≤◌}
 use native.Mathlib.Omega.{arith}
 use lib.ListN.{length}
 use lib.Seq.{length-take-le}
 use borrow.Author.Rules.{rules}
 use Rattle.samples.proofs.tell_channel.Statement.{statement}
+use Rattle.samples.proofs.tell_channel.Goals.{then-total-at-gt256, else-total-at-gt256}
 use Rattle.samples.proofs.tell_channel.Tie as tie
 
 abbrev invariant-loop : tie.invariant-loop-at
@@ -40,12 +40,12 @@ write-all-requires : tie.Need-write_all-requires invariant-loop decreases-loop
 write-all-requires c κs = search rules
 
 loop-less : tie.Need-loop-at-smaller invariant-loop decreases-loop
-loop-less c = ⊎_elim (λ w. omega arith) (λ w. omega arith) c.if-total-at-gt256.branch
+loop-less c = elim c.if-total-at-gt256.branch [ then-total-at-gt256 w ↦ omega arith | else-total-at-gt256 w ↦ omega arith ]
 
 loop-again : tie.Need-loop-at-preserved invariant-loop decreases-loop
 loop-again c =
     let l = c.before.before.before in
-    (⊎_elim (λ w. omega arith) (λ w. omega arith) c.if-total-at-gt256.branch, l.list_samples-filled.auto.0 ∙ c.loop-at.invariant.1)
+    (elim c.if-total-at-gt256.branch [ then-total-at-gt256 w ↦ omega arith | else-total-at-gt256 w ↦ omega arith ], l.list_samples-filled.auto.0 ∙ c.loop-at.invariant.1)
 
 returns : tie.Need-returns invariant-loop decreases-loop
 returns c = search rules

@@ -47,7 +47,7 @@ returns c =
     (next_list _ k3.append_list-bones.ensures
     (next_list _ k2.append_list-names.ensures
     k1.append_list-frames.ensures))))
-    ∙ all_lines (output a.start a.buf-1.now) a.table.now (movement_lists a.n)
+    ∙ all_lines (output a.start a.buf.now) a.table.now (movement_lists a.n)
 
 pub append_lists_spec : {M : Type 1} → statement M
 append_lists_spec = tie.close (tie.spec append-list-requires append-list-requires-2 append-list-requires-3 append-list-requires-4 append-list-requires-5 same_length returns)

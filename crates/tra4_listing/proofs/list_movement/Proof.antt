@@ -18,7 +18,7 @@ unfolding bytes movement_lines movement_text
 returns c =
     let k = c.before.before.before.before in
     let a = k.args in
-    said_refused (bytes "movement") a.answer.refusal a.answer.place a.answer.total (movement_lists a.answer.counts-1) a.table.now _ a.buf-1.now _ (ne_eqb a.answer.refusal 0 c.if-answer-ne0.true) k.first_line-n.ensures
+    said_refused (bytes "movement") a.answer.refusal a.answer.place a.answer.total (movement_lists a.answer.counts) a.table.now _ a.buf.now _ (ne_eqb a.answer.refusal 0 c.if-answer-ne0.true) k.first_line-n.ensures
 
 append-lists-requires : tie.Need-append_lists-requires
 append-lists-requires c κs = search rules
@@ -33,7 +33,7 @@ returns-2 c =
     let t = l.before.before.before in
     let k = t.before.before.before.before in
     let a = k.args in
-    said_taken (bytes "movement") a.answer.refusal a.answer.place a.answer.total (movement_lists a.answer.counts-1) a.table.now _ _ a.buf-1.now _ _ (eq-eqb a.answer.refusal 0 t.if-answer-ne0.false) k.first_line-n.ensures l.append_lists.ensures
+    said_taken (bytes "movement") a.answer.refusal a.answer.place a.answer.total (movement_lists a.answer.counts) a.table.now _ _ a.buf.now _ _ (eq-eqb a.answer.refusal 0 t.if-answer-ne0.false) k.first_line-n.ensures l.append_lists.ensures
 
 pub list_movement_spec : {M : Type 1} → statement M
 list_movement_spec = tie.close (tie.spec first-line-requires same_length returns append-lists-requires same-length-2 returns-2)

@@ -24,9 +24,9 @@ refused-requires c κs = search rules
 returns : tie.Need-returns-in-Refused
 unfolding format_named figure_outcome
 returns c =
-    let k = c.before.before.before.before in
+    let k = c.before.before in
     let a = k.args in
-    outcome_answered a.text.now (text-refused _ _ _ a.text.now (refused_by k.check_text.ensures c.in-Refused.is)) (refused_answered refl c.refused.ensures a.table-1.now)
+    outcome_answered a.text.now (text-refused _ _ _ a.text.now (refused_by k.check_text.ensures c.in-Refused.is)) (refused_answered refl c.refused.ensures a.table.now)
 
 enum_told : tie.Need-enum_told-1
 enum_told c = search rules
@@ -51,9 +51,9 @@ unfolding format_named figure_outcome
 returns-2 c =
     let k = c.before.before.before.before.before.before.before in
     let t = k.before.before.before.before in
-    let b = t.before.before in
+    let b = t.before in
     let a = b.args in
-    outcome_answered a.text.now (text-clear _ _ _ a.text.now (clear_by b.check_text.ensures t.in_default.is)) (refused_answered (shape-refused a.text.now _ _ _ _ _ _ _ k.parse-p.ensures c.if-d-ne0.true) c.refused-then-d-ne0.ensures a.table-1.now)
+    outcome_answered a.text.now (text-clear _ _ _ a.text.now (clear_by b.check_text.ensures t.in_default.is)) (refused_answered (shape-refused a.text.now _ _ _ _ _ _ _ k.parse-p.ensures c.if-d-ne0.true) c.refused-then-d-ne0.ensures a.table.now)
 
 slice-aggregate-read-rows : tie.Need-slice_bounds-read_rows-end
 slice-aggregate-read-rows c = sym (c.parse-p.auto.1.0 ∙ length-replicate 34912 (pos 0))
@@ -69,7 +69,7 @@ unfolding format_named
 read-rows-requires c κs =
     let k = c.before.before.before.before.before.before.before.before.before.before in
     let t = k.before.before.before.before in
-    let b = t.before.before in
+    let b = t.before in
     (shape-held b.args.text.now _ _ _ _ _ _ _ k.parse-p.ensures c.if-d-ne0.false (text-short _ _ (clear_by b.check_text.ensures t.in_default.is)) (length-replicate 34912 (pos 0)) refl (length-replicate 64 (pos 0))).held
 
 same_length : tie.Need-shape_of-table
@@ -80,7 +80,7 @@ unfolding format_named figure_outcome
 returns-3 c =
     let k = c.before.before.before.before.before.before.before.before.before.before.before.before.before in
     let t = k.before.before.before.before in
-    let b = t.before.before in
+    let b = t.before in
     let a = b.args in
     let e = clear_by b.check_text.ensures t.in_default.is in
     outcome_answered a.text.now (text-clear _ _ _ a.text.now e)

@@ -13,13 +13,13 @@ use Rattle.bac6.proofs.reader.read_rows.Statement.{statement}
 use Rattle.bac6.proofs.reader.read_rows.Tie as tie
 
 -- the answer of the rules is that of what was parsed
-faults-are : (f : tie.After-first_fault) → refusal f.first_fault.result ≡ rules_fault f.args.p f.args.rows-1.now
+faults-are : (f : tie.After-first_fault) → refusal f.first_fault.result ≡ rules_fault f.args.p f.args.rows.now
 faults-are f =
     let a = f.args in
-    rules_by a.p _ _ a.rows-1.now f.claims_of.ensures f.first_fault.ensures.answer
+    rules_by a.p _ _ a.rows.now f.claims_of.ensures f.first_fault.ensures.0
 
-clean : (e : tie.In_default) → rules_fault e.args.p e.args.rows-1.now ≡ clear
-clean e = clear_by (faults-are e.before.before.before) e.in_default.is
+clean : (e : tie.In_default) → rules_fault e.args.p e.args.rows.now ≡ clear
+clean e = clear_by (faults-are e.before.before) e.in_default.is
 
 claims-of-requires : tie.Need-claims_of-requires
 claims-of-requires c κs = search rules
@@ -38,9 +38,9 @@ same_length c = search rules
 
 returns : tie.Need-returns-in-Refused
 returns c =
-    let f = c.before.before.before.before.before in
+    let f = c.before.before.before in
     let e = refused_by (faults-are f) c.in-Refused.is in
-    record { outcome = λ h. broken_rows h e c.refused.ensures f.args.table-1.now }
+    record { outcome = λ h. broken_rows h e c.refused.ensures f.args.table.now }
 
 enum_told : tie.Need-enum_told-1
 enum_told c = search rules
@@ -58,11 +58,11 @@ returns-2 : tie.Need-returns-then-table-total
 returns-2 c =
     let t = c.before.before in
     let e = t.before.before in
-    let f = e.before.before.before in
-    record { outcome = λ h. short-rows h (clean e) _ f.first_fault.ensures.content _ t.total_of-total.ensures f.args.table-1.now c.refused-then-table-total.ensures c.if-table-total.true }
+    let f = e.before.before in
+    record { outcome = λ h. short-rows h (clean e) _ f.first_fault.ensures.1 _ t.total_of-total.ensures f.args.table.now c.refused-then-table-total.ensures c.if-table-total.true }
 
 cast-t19 : tie.Need-overflow-cast-t19
-cast-t19 c = let z = name-fits c.requires in search rules
+cast-t19 c = let z = name-fits c.before.before.before.before.before.before.before.before.before.requires in search rules
 
 cast-t20 : tie.Need-overflow_cast-name
 cast-t20 c = let z = name-fits c.requires in search rules
@@ -87,8 +87,8 @@ returns-3 c =
     let f = e.before.before.before in
     let a = f.args in
     let z = name-fits f.requires in
-    let n = named_by a.p _ _ _ a.owners.now a.names.now a.table-1.now _ (bits_pos a.p.place (omega (arith, z.0))) (bits_pos a.p.length (omega (arith, z.1))) c.lay.ensures in
-    record { outcome = λ h. long_rows h (clean e) _ f.first_fault.ensures.content _ t.total_of-total.ensures a.table-1.now _ l.if-table-total.false n }
+    let n = named_by a.p _ _ _ a.owners.now a.names.now a.table.now _ (bits_pos a.p.place (omega (arith, z.0))) (bits_pos a.p.length (omega (arith, z.1))) c.lay.ensures in
+    record { outcome = λ h. long_rows h (clean e) _ f.first-fault.ensures.1 _ t.total_of.ensures a.table.now _ l.if1.false n }
 
 the_overflow_cast_name_2 : tie.Need-overflow_cast-name-2
 the_overflow_cast_name_2 = search rules

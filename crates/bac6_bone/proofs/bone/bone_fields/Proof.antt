@@ -38,7 +38,7 @@ returns c =
     let h = c.before.before.before in
     let l = h.before.before.before.before in
     state_bits _ _ _ _ _ _ _ l.ranges.bone
-    (fields_end _ _ _ _ _ _ _ _ _ l.loop-seen.invariant.0 _ _ h.next_chunk-h.ensures.kind_value c.if-k-ge7.true)
+    (fields_end _ _ _ _ _ _ _ _ _ l.loop-seen.invariant.0 _ _ h.next_chunk-h.ensures.0 c.if-k-ge7.true)
 
 bone-value-requires : tie.Need-bone_value-m-requires invariant-loop decreases-loop
 bone-value-requires c κs = search rules
@@ -49,7 +49,7 @@ unfolding bytes
 opened e =
     let h = e.before.before.before in
     let l = h.before.before.before.before in
-    field_left _ _ _ _ _ _ _ _ _ l.loop-seen.invariant.0 _ _ h.next_chunk-h.ensures.kind_value e.if-k-ge7.false h.next_chunk-h.ensures.seen_after.1
+    field_left _ _ _ _ _ _ _ _ _ l.loop-seen.invariant.0 _ _ h.next_chunk-h.ensures.0 e.if-k-ge7.false h.next_chunk-h.ensures.1.1
 
 sub-left : tie.Need-overflow_sub-left invariant-loop decreases-loop
 sub-left c = omega (arith, opened c.before.before.before.before.before)
@@ -64,7 +64,7 @@ loop-again c =
     let e = y.before.before.before in
     let h = e.before.before.before in
     let l = h.before.before.before.before in (
-      field_on _ _ _ _ _ _ _ _ _ l.loop-seen.invariant.0 _ _ h.next_chunk-h.ensures.kind_value e.if-k-ge7.false h.next_chunk-h.ensures.seen_after.1 _ _ y.bone_value-m.ensures _ h.next_chunk-h.ensures.seen_after.0,
+      field_on _ _ _ _ _ _ _ _ _ l.loop-seen.invariant.0 _ _ h.next_chunk-h.ensures.0 e.if-k-ge7.false h.next_chunk-h.ensures.1.1 _ _ y.bone_value-m.ensures _ h.next_chunk-h.ensures.1.0,
       h.next_chunk-h.auto.1.1.1.1.0 ∙ l.loop-seen.invariant.1,
       y.bone_value-m.auto.1.1.1.1.1.1.0 ∙ l.loop-seen.invariant.2,
     )

@@ -22,7 +22,7 @@ unfolding form_named
 returns c =
     let n = c.before in
     let p = n.requires in
-    vector_read _ _ _ _ _ _ c.closing.ensures _ p.0 p.1 n.numbers-d.ensures.meaning
+    vector_read _ _ _ _ _ _ c.closing.ensures _ p.0 p.1 n.numbers-d.ensures.0
 
 pub bone_vector_spec : {M : Type 1} → statement M
 bone_vector_spec = tie.close (tie.spec sub-to mul-to numbers-requires closing-requires returns)

@@ -11,7 +11,7 @@ use Rattle.bac6_bone_rules.proofs.bone.place_bones.Statement.{statement}
 use Rattle.bac6_bone_rules.proofs.bone.place_bones.Tie as tie
 
 -- what the walk says
-walk : (c : tie.After-bones) {r : Walk} → c.bones.result ≡ r → Walked c.whole_rows-rows.result 0 c.args.table-1.now c.bones.new.0 (whole_list (flags_in c.args.count c.args.table-1.now)) r
+walk : (c : tie.After-bones) {r : Walk} → c.bones.result ≡ r → Walked c.whole_rows-rows.result 0 c.args.table.now c.bones.new.0 (whole_list (flags_in c.args.count c.args.table.now)) r
 walk c e = whole_walk _ _ _ c.whole_rows-rows.ensures _ _ (walked_as _ _ _ _ c.bones.ensures refl e)
 
 whole-rows-requires : tie.Need-whole_rows-rows-requires
@@ -33,9 +33,9 @@ returns : tie.Need-returns-then-next-rows
 unfolding refusal bones_fault
 returns c =
     let n = c.before.before in
-    let b = n.before.before.before in
+    let b = n.before.before in
     let e = b.whole_rows-rows.ensures in
-    let t = b.args.table-1.now in
+    let t = b.args.table.now in
     let w = walk b n.in-At.is in
     (sym (rw (whole_flags _ _ t e) (fault-left _ _ _ _ _ (rows-most _ _ t e) _ w (rows_whole _ _ t e) c.if-next-rows.true)), settled_at _ _ _ _ _ (rows-most _ _ t e) _ w)
 
@@ -45,9 +45,9 @@ same-length-2 c = search rules
 returns-2 : tie.Need-returns-in-Short
 unfolding refusal bones_fault
 returns-2 c =
-    let b = c.before.before.before in
+    let b = c.before.before in
     let e = b.whole_rows-rows.ensures in
-    let t = b.args.table-1.now in
+    let t = b.args.table.now in
     let w = walk b c.in-Short.is in
     (sym (rw (whole_flags _ _ t e) (fault-short _ _ _ _ _ (rows-most _ _ t e) w)), settled_short _ _ _ _ _ (rows-most _ _ t e) w)
 
@@ -58,9 +58,9 @@ returns-3 : tie.Need-returns-else-next-rows
 unfolding refusal bones_fault
 returns-3 c =
     let n = c.before.before in
-    let b = n.before.before.before in
+    let b = n.before.before in
     let e = b.whole_rows-rows.ensures in
-    let t = b.args.table-1.now in
+    let t = b.args.table.now in
     let w = walk b n.in-At.is in
     (sym (rw (whole_flags _ _ t e) (fault_none _ _ _ _ _ (rows-most _ _ t e) _ w (rows_whole _ _ t e) c.if-next-rows.false)), settled_at _ _ _ _ _ (rows-most _ _ t e) _ w)
 

@@ -33,11 +33,11 @@ rows_on : (r i n k len len' : ℕ) → len' ≡ len → k ≡ n + 1 → min i le
 rows_on r i n k len len' e f h g = omega arith
 
 -- a turn: the bones left are one fewer
-turn : (m : tie.After-next_bone-b invariant-loop decreases-loop) → from m.args.text.now m.loop-start.d-1 (folded (bone_step m.args.points) bone (m.loop-start.count, m.loop-start.table-1, (fault_of m.loop-start.faulty m.loop-start.fault, m.loop-start.owners-1))) ≡ from m.args.text.now m.next_bone-b.result.cursor (folded (bone_step m.args.points) bone (m.next_bone-b.result.count, m.next_bone-b.new.1.1.1.1.0, (fault_of m.next_bone-b.result.faulty m.next_bone-b.result.fault, m.next_bone-b.new.1.1.1.1.1.1.0)))
-turn m = folded_more _ bone bone_tail bone_takes bone_keeps bone_opens _ _ _ _ m.next_item-item.ensures _ _ _ m.next_bone-b.ensures.owners_after m.if-item.false
+turn : (m : tie.After-next_bone-b invariant-loop decreases-loop) → from m.args.text.now m.loop-start.d (folded (bone_step m.args.points) bone (m.loop-start.count, m.loop-start.table, (fault_of m.loop-start.faulty m.loop-start.fault, m.loop-start.owners))) ≡ from m.args.text.now m.next_bone-b.result.cursor (folded (bone_step m.args.points) bone (m.next_bone-b.result.count, m.next_bone-b.new.1.1.1.1.0, (fault_of m.next_bone-b.result.faulty m.next_bone-b.result.fault, m.next_bone-b.new.1.1.1.1.1.1.0)))
+turn m = folded_more _ bone bone_tail bone_takes bone_keeps bone_opens _ _ _ _ m.next_item-item.ensures _ _ _ m.next_bone-b.ensures.0 m.if-item.false
 
-falling : (m : tie.After-next_bone-b invariant-loop decreases-loop) → m.next_bone-b.result.cursor.refusal ≡ 0 → length (lex_at m.args.text.now m.next_bone-b.result.cursor.at) < length (lex_at m.args.text.now m.loop-start.d-1.at)
-falling m o = folded_fall _ bone bone_tail bone_takes bone_keeps bone_opens _ _ _ _ m.next_item-item.ensures _ _ _ m.next_bone-b.ensures.owners_after o
+falling : (m : tie.After-next_bone-b invariant-loop decreases-loop) → m.next_bone-b.result.cursor.refusal ≡ 0 → length (lex_at m.args.text.now m.next_bone-b.result.cursor.at) < length (lex_at m.args.text.now m.loop-start.d.at)
+falling m o = folded_fall _ bone bone_tail bone_takes bone_keeps bone_opens _ _ _ _ m.next_item-item.ensures _ _ _ m.next_bone-b.ensures.0 o
 
 loop-holds : tie.Need-loop-start-init invariant-loop decreases-loop
 loop-holds c = let p = c.requires in (refl, refl, refl, rw p, rw p (omega (arith, lex_at_count c.args.text.now c.args.first.cursor.at)))
@@ -74,7 +74,7 @@ next-bone-requires c κs =
     let n = e.before.before.before.before in
     let l = n.loop-start in
     let a = n.before.before.before.before in
-    let two = item_falls a.args.text.now l.d-1 n.next_item-item.result.cursor n.next_item-item.result.ended n.next_item-item.ensures e.if-start-ne0.false in
+    let two = item_falls a.args.text.now l.d n.next_item-item.result.cursor n.next_item-item.result.ended n.next_item-item.ensures e.if-start-ne0.false in
     (l.invariant.3, omega arith)
 
 same-length-5 : tie.Need-shape_of-table-then-d-ne0 invariant-loop decreases-loop
@@ -99,7 +99,7 @@ loop-again c =
     let m = c.before.before.before.before.before.before in
     let l = m.loop-start in
     let fewer = falling m c.if-d-ne0.false in
-    let one = m.next_bone-b.ensures.count_value in (
+    let one = m.next_bone-b.ensures.1 in (
       l.invariant.0 ∙ turn m,
       m.next_bone-b.auto.1.1.1.1.0 ∙ l.invariant.1,
       m.next_bone-b.auto.1.1.1.1.1.1.0 ∙ l.invariant.2,

@@ -25,7 +25,7 @@ returns : tie.Need-returns-in-Refused
 unfolding refusal rows_fault tables_fault
 returns c =
     let e = refused_by c.counts_fault.ensures c.in-Refused.is in
-    (sym (or-fault _ e), left-same c.args.n c.args.rows-1.now _ e refl)
+    (sym (or-fault _ e), left-same c.args.n c.args.rows.now _ e refl)
 
 same_length : tie.Need-shape_of-rows
 same_length c = search rules
@@ -34,7 +34,7 @@ returns-2 : tie.Need-returns-in-Clear
 unfolding rows_fault tables_fault
 returns-2 c =
     let e = clear_by c.counts_fault.ensures c.in-Clear.is in
-    (c.placed_fault.ensures.answer ∙ sym (or-clear _ e), left-placed c.args.n c.args.rows-1.now _ e c.placed_fault.ensures.content)
+    (c.placed_fault.ensures.0 ∙ sym (or-clear _ e), left-placed c.args.n c.args.rows.now _ e c.placed_fault.ensures.1)
 
 pub first_fault_spec : {M : Type 1} → statement M
 first_fault_spec = tie.close (tie.spec counts-fault-requires enum-known-number enum_told placed-fault-requires returns same_length returns-2)

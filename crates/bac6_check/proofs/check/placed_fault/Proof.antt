@@ -16,14 +16,14 @@ row-ends-requires c κs = search rules
 
 mul-place-bones : tie.Need-offset_bounds-rows-b
 mul-place-bones c =
-    let h = normals_in c.args.n c.args.rows-1.now _ c.row_ends-e.ensures in
+    let h = normals_in c.args.n c.args.rows.now _ c.row_ends-e.ensures in
     record { fits = omega arith }
 
 sub-place-bones : tie.Need-slice_bounds-place_bones-count
-sub-place-bones c = normals_in c.args.n c.args.rows-1.now _ c.row_ends-e.ensures
+sub-place-bones c = normals_in c.args.n c.args.rows.now _ c.row_ends-e.ensures
 
 part-place-bones-start : tie.Need-slice_bounds-place_bones-start
-part-place-bones-start c = normals_in c.args.n c.args.rows-1.now _ c.row_ends-e.ensures
+part-place-bones-start c = normals_in c.args.n c.args.rows.now _ c.row_ends-e.ensures
 
 part-place-bones-end : tie.Need-slice_bounds-place_bones-end
 part-place-bones-end c = search rules
@@ -46,7 +46,7 @@ returns c =
     let a = c.args in
     let b = c.place_bones.ensures in
     let e = c.row_ends-e.ensures in
-    (sym (or-fault _ (refused_by (bones_by a.n a.rows-1.now _ e b.0) c.in-Refused.is)), placed_in a.n a.rows-1.now _ e _ b.1)
+    (sym (or-fault _ (refused_by (bones_by a.n a.rows.now _ e b.0) c.in-Refused.is)), placed_in a.n a.rows.now _ e _ b.1)
 
 same-length-2 : tie.Need-shape_of-rows-in-Clear
 same-length-2 c = search rules
@@ -56,7 +56,7 @@ returns-2 c =
     let a = c.args in
     let b = c.place_bones.ensures in
     let e = c.row_ends-e.ensures in
-    (c.later_fault-later.ensures ∙ sym (or-clear _ (clear_by (bones_by a.n a.rows-1.now _ e b.0) c.in-Clear.is)), placed_in a.n a.rows-1.now _ e _ b.1)
+    (c.later_fault-later.ensures ∙ sym (or-clear _ (clear_by (bones_by a.n a.rows.now _ e b.0) c.in-Clear.is)), placed_in a.n a.rows.now _ e _ b.1)
 
 pub placed_fault_spec : {M : Type 1} → statement M
 placed_fault_spec = tie.close (tie.spec later-fault-requires row-ends-requires mul-place-bones sub-place-bones part-place-bones-start part-place-bones-end place-bones-requires enum-known-number enum_told same_length returns same-length-2 returns-2)

@@ -22,7 +22,7 @@ abbrev decreases-loop : tie.decreases-loop-t
 decreases-loop text start points bone owners₀ fine at₀ free₀ owners at free = length (lex_at text at)
 
 -- an entry read, before it is tried
-read : (m : tie.After-number-n invariant-loop decreases-loop) → entries_into m.args.points (to_z w64 (of_z w64 m.args.bone)) (m.loop-t.free, m.loop-t.owners-1) (lex_at m.args.text.now m.loop-t.at) ≡ from m.args.text.now m.number-n.result.cursor (entries_into m.args.points (to_z w64 (of_z w64 m.args.bone)) (claimed_one m.args.points (to_z w64 (of_z w64 m.args.bone)) (m.loop-t.free, m.loop-t.owners-1) m.number-n.result.value))
+read : (m : tie.After-number-n invariant-loop decreases-loop) → entries_into m.args.points (to_z w64 (of_z w64 m.args.bone)) (m.loop-t.free, m.loop-t.owners) (lex_at m.args.text.now m.loop-t.at) ≡ from m.args.text.now m.number-n.result.cursor (entries_into m.args.points (to_z w64 (of_z w64 m.args.bone)) (claimed_one m.args.points (to_z w64 (of_z w64 m.args.bone)) (m.loop-t.free, m.loop-t.owners) m.number-n.result.value))
 unfolding lexeme_of lexeme form_named
 read m =
     let k = m.before.before in

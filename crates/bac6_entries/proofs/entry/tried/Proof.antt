@@ -14,7 +14,7 @@ returns : tie.Need-returns-then-fine
 returns c =
     let b = c.before.before.before in
     let a = b.before in
-    tried_yes _ _ _ _ _ _ _ a.ranges.bone a.ranges.z b.if-fine.true c.claim.ensures.answer c.claim.ensures.content
+    tried_yes _ _ _ _ _ _ _ a.ranges.bone a.ranges.z b.if-fine.true c.claim.ensures.0 c.claim.ensures.1
 
 returns-2 : tie.Need-returns
 returns-2 c = tried_no _ _ _ _ _ c.if-fine.false

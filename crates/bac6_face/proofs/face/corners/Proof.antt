@@ -52,7 +52,7 @@ returns c =
     let cl = ro.before.before in
     let nm = cl.before.before in
     let b = nm.before.before.before.before in
-    rw st.store.ensures (corners-joined _ _ _ _ _ _ b.requires _ _ _ _ _ _ _ _ _ (blank_bits _ _ _ b.ranges.material b.ranges.group b.requires) nm.numbers-vertices.ensures.meaning cl.closing-d.ensures ro.row-uvs.ensures.meaning c.closing.ensures)
+    rw st.store.ensures (corners-joined _ _ _ _ _ _ b.requires _ _ _ _ _ _ _ _ _ (blank_bits _ _ _ b.ranges.material b.ranges.group b.requires) nm.numbers-vertices.ensures.0 cl.closing-d.ensures ro.row-uvs.ensures.0 c.closing.ensures)
 
 pub corners_spec : {M : Type 1} → statement M
 corners_spec = tie.close (tie.spec array-set-from-row cast-row array-set-from-row-2 array-set-from-row-3 slice-aggregate-numbers numbers-requires closing-requires slice-aggregate-row row-requires slice-aggregate-store store-requires closing-requires-2 same_length returns)

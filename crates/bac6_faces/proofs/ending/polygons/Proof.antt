@@ -25,7 +25,7 @@ group-list-requires c κs =
     let o = f.before.before in
     let n = lex_at_count o.args.text.now o.opened.result.at in
     (λ q. let l = short _ _ _ _ _ (last_keeps _) t.trailing-start.ensures q in
-    let k = f.face_list-f.ensures.fewer (alive _ _ _ _ _ t.trailing-start.ensures q) in
+    let k = f.face_list-f.ensures.1 (alive _ _ _ _ _ t.trailing-start.ensures q) in
     omega arith)
 
 same_length : tie.Need-shape_of-faces-then-start
@@ -42,7 +42,7 @@ returns c =
     let t = i.before.before in
     let f = t.before.before.before.before in
     let o = f.before.before in
-    polygons-groups _ _ _ _ _ _ _ o.opened.ensures f.face_list-f.ensures.out_after _ _ t.trailing-start.ensures i.if-start.true _ _ _ _ _ g.group_list.ensures
+    polygons-groups _ _ _ _ _ _ _ o.opened.ensures f.face_list-f.ensures.0 _ _ t.trailing-start.ensures i.if-start.true _ _ _ _ _ g.group_list.ensures
 
 same-length-3 : tie.Need-shape_of-faces
 same-length-3 c = search rules
@@ -53,7 +53,7 @@ returns-2 c =
     let t = c.before.before in
     let f = t.before.before.before.before in
     let o = f.before.before in
-    polygons_alone _ _ _ _ _ _ _ o.opened.ensures f.face_list-f.ensures.out_after _ _ t.trailing-start.ensures c.if-start.false
+    polygons_alone _ _ _ _ _ _ _ o.opened.ensures f.face_list-f.ensures.0 _ _ t.trailing-start.ensures c.if-start.false
 
 pub polygons_spec : {M : Type 1} → statement M
 polygons_spec = tie.close (tie.spec opened-requires face-list-requires trailing-requires group-list-requires same_length same-length-2 returns same-length-3 returns-2)

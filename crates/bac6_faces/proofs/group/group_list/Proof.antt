@@ -32,11 +32,11 @@ abbrev decreases-loop : tie.decreases-loop-start
 decreases-loop text faces₀ count names₀ d₀ n₀ i₀ faces names d n i = length (lex_at text d.at)
 
 -- a turn: the groups left are one fewer
-turn : (m : tie.After-group_tail-g invariant-loop decreases-loop) → from m.args.text.now m.loop-start.d-1 (folded group_step group ((m.loop-start.i, m.loop-start.names-1), (m.loop-start.n, m.loop-start.faces-1))) ≡ from m.args.text.now m.group_tail-g.result.cursor (folded group_step group ((m.loop-start.i + 1, m.group_tail-g.new.1.1.1.1.1.0), (m.group_tail-g.result.count, m.group_tail-g.new.1.1.1.0)))
-turn m = folded_more group_step group group_tail group_takes group_keeps group_opens _ _ _ _ m.next_item-item.ensures _ _ _ m.group_tail-g.ensures.faces_after m.if-item.false
+turn : (m : tie.After-group_tail-g invariant-loop decreases-loop) → from m.args.text.now m.loop-start.d (folded group_step group ((m.loop-start.i, m.loop-start.names), (m.loop-start.n, m.loop-start.faces))) ≡ from m.args.text.now m.group_tail-g.result.cursor (folded group_step group ((m.loop-start.i + 1, m.group_tail-g.new.1.1.1.1.1.0), (m.group_tail-g.result.count, m.group_tail-g.new.1.1.1.0)))
+turn m = folded_more group_step group group_tail group_takes group_keeps group_opens _ _ _ _ m.next_item-item.ensures _ _ _ m.group_tail-g.ensures.0 m.if-item.false
 
-falling : (m : tie.After-group_tail-g invariant-loop decreases-loop) → m.group_tail-g.result.cursor.refusal ≡ 0 → length (lex_at m.args.text.now m.group_tail-g.result.cursor.at) < length (lex_at m.args.text.now m.loop-start.d-1.at)
-falling m o = folded_fall group_step group group_tail group_takes group_keeps group_opens _ _ _ _ m.next_item-item.ensures _ _ _ m.group_tail-g.ensures.faces_after o
+falling : (m : tie.After-group_tail-g invariant-loop decreases-loop) → m.group_tail-g.result.cursor.refusal ≡ 0 → length (lex_at m.args.text.now m.group_tail-g.result.cursor.at) < length (lex_at m.args.text.now m.loop-start.d.at)
+falling m o = folded_fall group_step group group_tail group_takes group_keeps group_opens _ _ _ _ m.next_item-item.ensures _ _ _ m.group_tail-g.ensures.0 o
 
 loop-holds : tie.Need-loop-start-init invariant-loop decreases-loop
 loop-holds c = (refl, refl, refl, c.requires, omega (arith, lex_at_count c.args.text.now c.args.c.at))
@@ -59,7 +59,7 @@ group-tail-requires : tie.Need-group_tail-g-requires invariant-loop decreases-lo
 group-tail-requires c κs =
     let b = c.before.before.before.before in
     let l = b.loop-start in
-    let t = lex_at_some b.args.text.now l.d-1.at in
+    let t = lex_at_some b.args.text.now l.d.at in
     let k = l.invariant.4 in
     (omega arith, (λ o. let f = falls _ _ _ item_of _ item_takes b.next_item-item.ensures o in let h = l.invariant.3 (alive _ _ _ _ _ b.next_item-item.ensures o) in omega arith))
 
@@ -92,10 +92,10 @@ loop-again c =
     let l = b.loop-start in
     let f = falling m c.if-d-ne0.false in
     let k = l.invariant.4 in
-    let o = alive _ _ _ _ _ m.group_tail-g.ensures.faces_after c.if-d-ne0.false in
+    let o = alive _ _ _ _ _ m.group_tail-g.ensures.0 c.if-d-ne0.false in
     let h = l.invariant.3 (alive _ _ _ _ _ b.next_item-item.ensures o) in
     let t = falls _ _ _ item_of _ item_takes b.next_item-item.ensures o in
-    let e = m.group_tail-g.ensures.fewer c.if-d-ne0.false in
+    let e = m.group_tail-g.ensures.1 c.if-d-ne0.false in
     (l.invariant.0 ∙ turn m, m.group_tail-g.auto.1.1.1.0 ∙ l.invariant.1, m.group_tail-g.auto.1.1.1.1.1.0 ∙ l.invariant.2, (λ _. omega arith), omega arith)
 
 pub group_list_spec : {M : Type 1} → statement M

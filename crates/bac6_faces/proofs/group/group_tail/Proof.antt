@@ -53,7 +53,7 @@ face-list-requires c κs =
     let o = x.before.before.before in
     let b = o.before.before.before.before in
     (λ q. let h = named-short _ _ _ _ _ _ o.keyword.ensures o.optional_name-n.ensures q in
-    let k = b.requires.bounded (alive _ _ _ _ _ o.keyword.ensures (alive _ _ _ _ _ o.optional_name-n.ensures q)) in
+    let k = b.requires.1 (alive _ _ _ _ _ o.keyword.ensures (alive _ _ _ _ _ o.optional_name-n.ensures q)) in
     omega arith)
 
 same_length : tie.Need-shape_of-faces
@@ -76,7 +76,7 @@ returns-2 c =
     let p : o.optional_name-n.result.place < 2 ^ 63 = omega arith in
     let n : o.optional_name-n.result.length < 2 ^ 63 = omega arith in
     let l = named-short _ _ _ _ _ _ o.keyword.ensures o.optional_name-n.ensures x.if-d-ne0.false in
-    (group-joined _ _ _ _ _ _ _ _ _ _ o.keyword.ensures o.optional_name-n.ensures (rw (bits_pos _ small) at f.face_list.ensures.out_after) _ (λ _. name-row _ _ _ _ _ _ p n ri.row_index.ensures st.store.ensures), (λ q. let k = f.face_list.ensures.fewer q in omega arith))
+    (group-joined _ _ _ _ _ _ _ _ _ _ o.keyword.ensures o.optional_name-n.ensures (rw (bits_pos _ small) at f.face_list.ensures.0) _ (λ _. name-row _ _ _ _ _ _ p n ri.row_index.ensures st.store.ensures), (λ q. let k = f.face_list.ensures.1 q in omega arith))
 
 pub group_tail_spec : {M : Type 1} → statement M
 group_tail_spec = tie.close (tie.spec keyword-requires optional-name-requires returns cast-face-list cast-t18 row-index-requires slice-aggregate-store store-requires cast-face-list-2 face-list-requires same_length same-length-2 returns-2)

@@ -36,7 +36,7 @@ returns : tie.Need-returns
 unfolding material_section materials_into opened bytes
 returns c =
     let a = c.args in
-    ended _ _ _ _ _ c.with_end.ensures _ (list_read _ _ _ material_section 9 a.at _ a.rows-1.now _ (then_read _ _ _ _ _ _ _ _ _ c.opened-begun.ensures (lent_read _ _ _ _ a.at _ a.rows-1.now _ c.requires c.materials-k.ensures)))
+    ended _ _ _ _ _ c.with_end.ensures _ (list_read _ _ _ material_section 9 a.at _ a.rows.now _ (then_read _ _ _ _ _ _ _ _ _ c.opened-begun.ensures (lent_read _ _ _ _ a.at _ a.rows.now _ c.requires c.materials-k.ensures)))
 
 pub materials_spec : {M : Type 1} → statement M
 materials_spec = tie.close (tie.spec opened-requires mul-materials sub-materials part-materials-start part-materials-end materials-requires with-end-requires same_length returns)

@@ -32,7 +32,7 @@ unfolding normal_section rows_into opened row bytes form_named
 returns c =
     let a = c.args in
     let e = c.with_end.ensures in
-    (ended _ _ _ _ _ e _ (list_read _ _ _ normal_section 3 a.at _ a.rows-k.now _ (then_read _ _ _ _ _ _ _ _ _ c.opened-begun.ensures (closed_at _ _ _ _ _ _ c.rows-k.ensures.meaning c.closing-k.ensures ∙ sym (from-same _ _ _ _ (closed-map _ _))))), ends-within _ _ _ _ _ e)
+    (ended _ _ _ _ _ e _ (list_read _ _ _ normal_section 3 a.at _ a.rows.now _ (then_read _ _ _ _ _ _ _ _ _ c.opened-begun.ensures (closed_at _ _ _ _ _ _ c.rows-k.ensures.0 c.closing-k.ensures ∙ sym (from-same _ _ _ _ (closed-map _ _))))), ends-within _ _ _ _ _ e)
 
 pub normals_spec : {M : Type 1} → statement M
 normals_spec = tie.close (tie.spec opened-requires rows-requires closing-requires with-end-requires same_length returns)

@@ -31,7 +31,7 @@ returns c =
     let r = c.before.before in
     let o = r.before.before.before in
     let a = o.args in
-    ended _ _ _ _ _ c.with_end.ensures _ (list_read _ _ _ point_section 3 a.at _ a.rows-1.now _ (then_read _ _ _ _ _ _ _ _ _ (seq _ _ _ _ _ _ _ _ o.opened.ensures o.opened-begun.ensures) r.some_rows-k.ensures.meaning))
+    ended _ _ _ _ _ c.with_end.ensures _ (list_read _ _ _ point_section 3 a.at _ a.rows.now _ (then_read _ _ _ _ _ _ _ _ _ (seq _ _ _ _ _ _ _ _ o.opened.ensures o.opened-begun.ensures) r.some_rows-k.ensures.0))
 
 pub points_spec : {M : Type 1} → statement M
 points_spec = tie.close (tie.spec opened-requires opened-requires-2 some-rows-requires with-end-requires same_length returns)

@@ -46,13 +46,13 @@ returns : tie.Need-returns
 unfolding front_into front_value name_into name_section optional_name texture_section colour_section reads head opened bytes form_named
 returns c = (
   join _ _ _ _ _ _ _ _ (then_read _ _ _ _ _ _ _ _ _ (seq _ _ _ _ _ _ _ _ c.head-head.ensures c.opened.ensures) c.optional_name-name.ensures)
-      (join _ _ _ _ _ _ _ _ (section_list "Textures" "i2" INT 2 _ _ _ c.section-t.ensures.content)
-      (join _ _ _ _ _ _ _ _ (section_list "Colors" "f3" FLOAT 3 _ _ _ c.section-k.ensures.content)
+      (join _ _ _ _ _ _ _ _ (section_list "Textures" "i2" INT 2 _ _ _ c.section-t.ensures.0)
+      (join _ _ _ _ _ _ _ _ (section_list "Colors" "f3" FLOAT 3 _ _ _ c.section-k.ensures.0)
       (join _ _ _ _ _ _ _ _ c.materials-m.ensures
       (join _ _ _ _ _ _ _ _ c.points-p.ensures
-      (join _ _ _ _ _ _ _ _ c.normals-v.ensures.content
+      (join _ _ _ _ _ _ _ _ c.normals-v.ensures.0
       refl))))),
-  c.normals-v.ensures.within,
+  c.normals-v.ensures.1,
 )
 
 pub read_front_spec : {M : Type 1} → statement M

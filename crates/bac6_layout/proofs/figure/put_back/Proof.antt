@@ -28,7 +28,7 @@ returns c =
     let a = c.args in
     let e = a.e in
     let s = back_sum e _ c.requires in
-    (content_by a.at _ (e.faces - e.bones) e.bones e.bones a.rows.now a.table-1.now _ s refl c.put_lists.ensures.content, next_by a.at _ (e.faces - e.bones) _ (length a.table-1.now) s c.put_lists.ensures.next)
+    (content_by a.at _ (e.faces - e.bones) e.bones e.bones a.rows.now a.table.now _ s refl c.put_lists.ensures.0, next_by a.at _ (e.faces - e.bones) _ (length a.table.now) s c.put_lists.ensures.1)
 
 pub put_back_spec : {M : Type 1} → statement M
 put_back_spec = tie.close (tie.spec sub-t6 sub-t7 slice-aggregate-put-lists put-lists-requires same_length returns)

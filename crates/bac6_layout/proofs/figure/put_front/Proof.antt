@@ -35,7 +35,7 @@ returns : tie.Need-returns
 returns c =
     let a = c.args in
     let s = front_sum a.e _ c.requires in
-    (content_by a.at _ a.e.bones 0 0 a.rows.now a.table-1.now _ s refl c.put_lists.ensures.content, next_by a.at _ a.e.bones _ (length a.table-1.now) s c.put_lists.ensures.next)
+    (content_by a.at _ a.e.bones 0 0 a.rows.now a.table.now _ s refl c.put_lists.ensures.0, next_by a.at _ a.e.bones _ (length a.table.now) s c.put_lists.ensures.1)
 
 pub put_front_spec : {M : Type 1} → statement M
 put_front_spec = tie.close (tie.spec sub-t6 sub-t7 sub-t8 sub-t9 sub-t10 slice-aggregate-put-lists put-lists-requires same_length returns)

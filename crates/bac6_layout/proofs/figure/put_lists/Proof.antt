@@ -28,7 +28,7 @@ loop-holds : tie.Need-loop-k-init invariant-loop decreases-loop
 unfolding sum_of
 loop-holds c =
     let a = c.args in
-    (omega arith, omega arith, sym (overlay_at_none a.at a.table-1.now), ap (λ (n : ℕ). min n (length a.table-1.now)) (omega arith))
+    (omega arith, omega arith, sym (overlay_at_none a.at a.table.now), ap (λ (n : ℕ). min n (length a.table.now)) (omega arith))
 
 mul-end : tie.Need-offset_bounds-sizes-k invariant-loop decreases-loop
 mul-end c = search rules
@@ -75,8 +75,8 @@ loop-again c =
     let h : l.k < length a.sizes.now = omega arith in (
       omega arith,
       rw (add-one, sum_more a.sizes.now l.k h) (omega (arith, l.invariant.1)),
-      lists_more a.at a.begin l.to l.from l.k 0 a.sizes.now a.rows.now a.table-1.now l.table-1 _ h l.invariant.1 c.requires l.invariant.2 l.invariant.3 c.put-to.ensures.content,
-      next_more a.at a.begin l.to l.from l.k _ a.sizes.now a.rows.now a.table-1.now l.table-1 [] h l.invariant.1 c.requires l.invariant.2 l.invariant.3 c.put-to.ensures.next,
+      lists_more a.at a.begin l.to l.from l.k 0 a.sizes.now a.rows.now a.table.now l.table _ h l.invariant.1 c.requires l.invariant.2 l.invariant.3 c.put-to.ensures.0,
+      next_more a.at a.begin l.to l.from l.k _ a.sizes.now a.rows.now a.table.now l.table [] h l.invariant.1 c.requires l.invariant.2 l.invariant.3 c.put-to.ensures.1,
     )
 
 same_length : tie.Need-shape_of-table invariant-loop decreases-loop

@@ -36,7 +36,7 @@ unfolding bytes
 returns c =
     let h = c.before.before.before in
     let l = h.before.before.before.before in
-    fields_end _ _ _ _ _ _ l.loop-seen.invariant.0 _ _ h.next_chunk-h.ensures.kind_value c.if-k-ge9.true
+    fields_end _ _ _ _ _ _ l.loop-seen.invariant.0 _ _ h.next_chunk-h.ensures.0 c.if-k-ge9.true
 
 material-value-requires : tie.Need-material_value-v-requires invariant-loop decreases-loop
 material-value-requires c κs = search rules
@@ -57,7 +57,7 @@ unfolding bytes
 opened v =
     let h = v.before.before.before.before in
     let l = h.before.before.before.before in
-    field_left _ _ _ _ _ _ l.loop-seen.invariant.0 _ _ h.next_chunk-h.ensures.kind_value v.if-k-ge9.false h.next_chunk-h.ensures.seen_after.1
+    field_left _ _ _ _ _ _ l.loop-seen.invariant.0 _ _ h.next_chunk-h.ensures.0 v.if-k-ge9.false h.next_chunk-h.ensures.1.1
 
 sub-left : tie.Need-overflow_sub-left invariant-loop decreases-loop
 sub-left c = omega (arith, opened c.before.before)
@@ -73,7 +73,7 @@ loop-again c =
     let l = h.before.before.before.before in
     let z = v.material_value-v.result.value in
     rw (to_z-of_z {w = w64} {z = z} (record { sfits = c.struct_told-1.given.1.0.1 })) (
-      field_on _ _ _ _ _ _ l.loop-seen.invariant.0 _ _ h.next_chunk-h.ensures.kind_value v.if-k-ge9.false h.next_chunk-h.ensures.seen_after.1 _ _ v.material_value-v.ensures _ h.next_chunk-h.ensures.seen_after.0,
+      field_on _ _ _ _ _ _ l.loop-seen.invariant.0 _ _ h.next_chunk-h.ensures.0 v.if-k-ge9.false h.next_chunk-h.ensures.1.1 _ _ v.material_value-v.ensures _ h.next_chunk-h.ensures.1.0,
       h.next_chunk-h.auto.1.1.1.1.0 ∙ l.loop-seen.invariant.1,
       length-set l.loop-seen.row h.next_chunk-h.result.kind z ∙ l.loop-seen.invariant.2,
     )

@@ -21,7 +21,7 @@ returns c =
     let a = s.args in
     let v = to_z-of_z {w = w64} {z = a.v.0} (record { sfits = k.struct_told-1.given.0.1 }) in
     let b = to_z-of_z s.ranges.bone in
-    (k.claim_row.ensures.answer ∙ ap (λ (z : ℤ). is_free a.points z a.owners-1.now) v, k.claim_row.ensures.content ∙ ap₂ (λ (y z : ℤ). after_claim a.points y z a.owners-1.now) b v)
+    (k.claim_row.ensures.0 ∙ ap (λ (z : ℤ). is_free a.points z a.owners.now) v, k.claim_row.ensures.1 ∙ ap₂ (λ (y z : ℤ). after_claim a.points y z a.owners.now) b v)
 
 pub claim_spec : {M : Type 1} → statement M
 claim_spec = tie.close (tie.spec claim-row-requires same_length returns)

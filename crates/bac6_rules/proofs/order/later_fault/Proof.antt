@@ -32,13 +32,13 @@ returns c = sym (or-fault _ (refused_by refl c.in-Refused.is))
 returns-2 : tie.Need-returns-in-Refused-material_fault
 unfolding refusal later_fault
 returns-2 c =
-    let m = c.before.before.before in
+    let m = c.before in
     sym (or-clear _ (clear_by refl m.in-Clear.is) ∙ or-fault _ (refused_by m.material_fault.ensures c.in-Refused-material_fault.is))
 
 returns-3 : tie.Need-returns-in-Clear-material_fault
 unfolding later_fault
 returns-3 c =
-    let m = c.before.before.before in
+    let m = c.before.before in
     c.face_fault.ensures ∙ sym (or-clear _ (clear_by refl m.in-Clear.is) ∙ or-clear _ (clear_by m.material_fault.ensures c.in-Clear-material_fault.is))
 
 pub later_fault_spec : {M : Type 1} → statement M

@@ -24,7 +24,7 @@ unfolding rows_if rows_into
 returns c =
     let a = c.args in
     let e = c.with_end.ensures in
-    (ended _ _ _ _ _ e _ (section_read _ _ _ _ a.name.now a.word.now (form_named a.form) a.width (a.at, a.out-1.now) _ _ _ c.optional-s.ensures c.if-s.true (list_read _ _ _ _ a.width a.at _ a.out-1.now _ c.rows-k.ensures.meaning)), ends-within _ _ _ _ _ e)
+    (ended _ _ _ _ _ e _ (section_read _ _ _ _ a.name.now a.word.now (form_named a.form) a.width (a.at, a.out.now) _ _ _ c.optional-s.ensures c.if-s.true (list_read _ _ _ _ a.width a.at _ a.out.now _ c.rows-k.ensures.0)), ends-within _ _ _ _ _ e)
 
 with-end-requires-2 : tie.Need-with_end-requires-2
 with-end-requires-2 c κs = search rules
@@ -34,7 +34,7 @@ unfolding rows_if
 returns-2 c =
     let a = c.args in
     let e = c.with_end-2.ensures in
-    (ended _ _ _ _ _ e _ (section_read _ _ _ _ a.name.now a.word.now (form_named a.form) a.width (a.at, a.out-1.now) _ _ _ c.optional-s.ensures c.if-s.false (list_read _ _ _ _ a.width a.at _ a.out-1.now _ (none_read _ _ a.at a.out-1.now))), ends-within _ _ _ _ _ e)
+    (ended _ _ _ _ _ e _ (section_read _ _ _ _ a.name.now a.word.now (form_named a.form) a.width (a.at, a.out.now) _ _ _ c.optional-s.ensures c.if-s.false (list_read _ _ _ _ a.width a.at _ a.out.now _ (none_read _ _ a.at a.out.now))), ends-within _ _ _ _ _ e)
 
 pub section_spec : {M : Type 1} → statement M
 section_spec = tie.close (tie.spec optional-requires rows-requires with-end-requires same_length returns with-end-requires-2 returns-2)

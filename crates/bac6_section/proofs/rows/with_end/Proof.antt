@@ -13,7 +13,7 @@ returns : tie.Need-returns
 unfolding listed_at
 returns c =
     let k = c.args.k in
-    ap (λ (e : ℕ). record { cursor = k.cursor-1; count = k.count; end = e }) c.rows_end.ensures
+    ap (λ (e : ℕ). record { cursor = k.cursor; count = k.count; end = e }) c.rows_end.ensures
 
 pub with_end_spec : {M : Type 1} → statement M
 with_end_spec = tie.close (tie.spec rows-end-requires returns)

@@ -35,7 +35,7 @@ same-length-2 c = search rules
 
 returns : tie.Need-returns
 unfolding opened bytes
-returns c = let a = c.args in rw c.rows_end.ensures (bones-read _ _ _ a.at a.rows-1.now c.requires _ _ _ _ _ _ _ c.opened-begun.ensures c.bones-b.ensures)
+returns c = let a = c.args in rw c.rows_end.ensures (bones-read _ _ _ a.at a.rows.now c.requires _ _ _ _ _ _ _ c.opened-begun.ensures c.bones-b.ensures)
 
 pub read_bones_spec : {M : Type 1} → statement M
 read_bones_spec = tie.close (tie.spec opened-requires mul-bones sub-bones part-bones-start part-bones-end bones-requires rows-end-requires same_length same-length-2 returns)

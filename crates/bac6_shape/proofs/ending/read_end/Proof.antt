@@ -32,7 +32,7 @@ same-length-2 : tie.Need-shape_of-names
 same-length-2 c = search rules
 
 returns : tie.Need-returns
-returns c = let a = c.args in end_read _ _ _ a.at a.rows-1.now c.requires _ _ _ _ _ _ _ c.polygons-q.ensures c.closing.ensures c.text_end.ensures
+returns c = let a = c.args in end_read _ _ _ a.at a.rows.now c.requires _ _ _ _ _ _ _ c.polygons-q.ensures c.closing.ensures c.text_end.ensures
 
 pub read_end_spec : {M : Type 1} → statement M
 read_end_spec = tie.close (tie.spec mul-polygons sub-polygons part-polygons-start part-polygons-end polygons-requires closing-requires text-end-requires same_length same-length-2 returns)

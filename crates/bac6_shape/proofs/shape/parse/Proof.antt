@@ -40,13 +40,13 @@ returns : tie.Need-returns
 unfolding back_steps kept kept_by front_value uv_section reads bytes form_named
 returns c =
     let a = c.args in
-    join _ _ _ _ _ _ _ (back_steps a.rows-1.now a.owners-1.now a.names-1.now) c.read_front-f.ensures.content
+    join _ _ _ _ _ _ _ (back_steps a.rows.now a.owners.now a.names.now) c.read_front-f.ensures.0
     (join _ _ _ _ _ _ _ _ c.read_bones-b.ensures
-    (join _ _ _ _ _ _ _ _ (section_list "TextureCoords" "f2" FLOAT 2 _ _ _ c.section-u.ensures.content)
+    (join _ _ _ _ _ _ _ _ (section_list "TextureCoords" "f2" FLOAT 2 _ _ _ c.section-u.ensures.0)
     (join _ _ _ _ _ _ _ _ c.read_end-q.ensures
     refl)))
     ∙ whole-text a.text.now _
-    ∙ figure-steps a.rows-1.now a.owners-1.now a.names-1.now _
+    ∙ figure-steps a.rows.now a.owners.now a.names.now _
 
 pub parse_spec : {M : Type 1} → statement M
 parse_spec = tie.close (tie.spec read-front-requires read-bones-requires section-requires read-end-requires same_length same-length-2 same-length-3 returns)

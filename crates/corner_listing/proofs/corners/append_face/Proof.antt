@@ -56,8 +56,8 @@ loop-again c =
     let a = s.args in
     let h = s.loop-k-test.true in
     let f = Corner a.counts a.table.now a.face in
-    let put = corner_put l.filled a.face l.k _ l.buf-1 _ s.corner-answer.result _ s.corner-answer.ensures p.append_corner-filled.ensures in
-    (p.append_corner-filled.auto.0 ∙ l.invariant.0, omega arith, rw add-one (l.invariant.2 ∙ turn_put f 196 l.k 4 l.filled _ l.buf-1 _ h put.0), rw add-one (turn_short f 196 0 l.k 4 h put.1 l.invariant.3))
+    let put = corner_put l.filled a.face l.k _ l.buf _ s.corner-answer.result _ s.corner-answer.ensures p.append_corner-filled.ensures in
+    (p.append_corner-filled.auto.0 ∙ l.invariant.0, omega arith, rw add-one (l.invariant.2 ∙ turn_put f 196 l.k 4 l.filled _ l.buf _ h put.0), rw add-one (turn_short f 196 0 l.k 4 h put.1 l.invariant.3))
 
 same_length : tie.Need-shape_of-buf invariant-loop decreases-loop
 same_length c = c.loop-k.invariant.0
@@ -69,7 +69,7 @@ returns c =
     let a = c.args in
     let f = Corner a.counts a.table.now a.face in
     let h = c.loop-k-test.false in
-    (all_lines f 196 0 l.k 4 a.n _ _ l.buf-1 h l.invariant.2, all_short f 196 0 l.k 4 h l.invariant.3)
+    (all_lines f 196 0 l.k 4 a.n _ _ l.buf h l.invariant.2, all_short f 196 0 l.k 4 h l.invariant.3)
 
 pub append_face_spec : {M : Type 1} → statement M
 append_face_spec = tie.close (tie.spec invariant-loop decreases-loop loop-holds corner-requires append-corner-requires add-k loop-less loop-again same_length returns)

@@ -41,7 +41,7 @@ loop-again c =
     let a = p.args in
     let h = p.loop-face-test.true in
     let f = face_lines a.n a.table.now in
-    (p.append_face-filled.auto.0 ∙ l.invariant.0, rw add-one (l.invariant.1 ∙ turn_put f 784 l.face a.end l.filled _ l.buf-1 _ h p.append_face-filled.ensures.lines), rw add-one (turn_short f 784 a.first l.face a.end h p.append_face-filled.ensures.most l.invariant.2))
+    (p.append_face-filled.auto.0 ∙ l.invariant.0, rw add-one (l.invariant.1 ∙ turn_put f 784 l.face a.end l.filled _ l.buf _ h p.append_face-filled.ensures.0), rw add-one (turn_short f 784 a.first l.face a.end h p.append_face-filled.ensures.1 l.invariant.2))
 
 same_length : tie.Need-shape_of-buf invariant-loop decreases-loop
 same_length c = c.loop-face.invariant.0
@@ -53,7 +53,7 @@ returns c =
     let a = c.args in
     let f = face_lines a.n a.table.now in
     let h = c.loop-face-test.false in
-    all_put f 784 a.first a.end l.filled a.buf-1.now l.buf-1 (all_lines f 784 a.first l.face a.end 0 _ _ l.buf-1 h l.invariant.1) (all_short f 784 a.first l.face a.end h l.invariant.2)
+    all_put f 784 a.first a.end l.filled a.buf.now l.buf (all_lines f 784 a.first l.face a.end 0 _ _ l.buf h l.invariant.1) (all_short f 784 a.first l.face a.end h l.invariant.2)
 
 pub list_corners_spec : {M : Type 1} → statement M
 list_corners_spec = tie.close (tie.spec invariant-loop decreases-loop loop-holds append-face-requires add-face loop-less loop-again same_length returns)

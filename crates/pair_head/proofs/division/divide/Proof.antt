@@ -34,14 +34,14 @@ returns-2 : tie.Need-returns-in-Length
 returns-2 c =
     let v = c.before in
     let f = v.length-1.given in
-    let p = v.before.before.before in
+    let p = v.before in
     let a = p.args in
     c.divide_at.ensures ∙ sym (by_length a.text.now a.more p.parse_head.result p.parse_head.ensures f.0.0 f.1)
 
 returns-3 : tie.Need-returns-in-Wrong
 unfolding division_named
 returns-3 c =
-    let p = c.before.before in
+    let p = c.before in
     let a = p.args in
     sym (by_wrong a.text.now a.more p.parse_head.result p.parse_head.ensures c.in-Wrong.is)
 

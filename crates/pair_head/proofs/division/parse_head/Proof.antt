@@ -27,7 +27,7 @@ unfolding length_named
 returns-2 c =
     let t = c.before in
     let e = t.before.before in
-    sym (too_few e.args.bytes.now e.if-bytes-ne9.false _ t.run_end.ensures c.if-run_end-lt8.true)
+    sym (too_few e.args.bytes.now e.if1.false _ t.run_end.ensures c.if-run_end-lt8.true)
 
 shared-slice-read-if3 : tie.Need-bounds-bytes-8
 shared-slice-read-if3 c = search rules
@@ -38,7 +38,7 @@ returns-3 c =
     let k = c.before.before in
     let t = k.before in
     let e = t.before.before in
-    sym (no_feed e.args.bytes.now e.if-bytes-ne9.false _ t.run_end.ensures k.if-run_end-lt8.false c.if-bytes-ne10.true)
+    sym (no_feed e.args.bytes.now e.if1.false _ t.run_end.ensures k.if-run_end-lt8.false c.if-bytes-ne10.true)
 
 int-requires : tie.Need-int-requires
 int-requires c κs = search rules
@@ -59,31 +59,31 @@ returns-4 : tie.Need-returns-in-Value
 unfolding length_named
 returns-4 c =
     let v = c.before in
-    let i = v.before.before.before in
+    let i = v.before in
     let k = i.before.before.before in
     let t = k.before in
     let e = t.before.before in
     let f = v.value-1.given in
-    let fits : SFits w64 f.0.0 = record { sfits = v.in-Value.known_told-1-own.given.0.1 } in
-    sym (head-value e.args.bytes.now e.if-bytes-ne9.false _ t.run_end.ensures k.if-run_end-lt8.false i.int.result f.0.0 _ i.if-bytes-ne10.false i.int.ensures f.1 (c.magnitude.ensures ∙ ap nat_abs (to_z-of_z fits)))
+    let fits : SFits w64 f.0.0 = record { sfits = v.known_told-1.given.0.1 } in
+    sym (head-value e.args.bytes.now e.if1.false _ t.run_end.ensures k.if-run_end-lt8.false i.int.result f.0.0 _ i.if-bytes-ne10.false i.int.ensures f.1 (c.magnitude.ensures ∙ ap nat_abs (to_z-of_z fits)))
 
 returns-5 : tie.Need-returns-in-Beyond
 unfolding length_named
 returns-5 c =
-    let i = c.before.before in
+    let i = c.before in
     let k = i.before.before.before in
     let t = k.before in
     let e = t.before.before in
-    absurd (never_beyond e.args.bytes.now e.if-bytes-ne9.false _ t.run_end.ensures k.if-run_end-lt8.false i.int.result i.int.ensures c.in-Beyond.is)
+    absurd (never_beyond e.args.bytes.now e.if1.false _ t.run_end.ensures k.if-run_end-lt8.false i.int.result i.int.ensures c.in-Beyond.is)
 
 returns-6 : tie.Need-returns-in-Malformed
 unfolding length_named
 returns-6 c =
-    let i = c.before.before in
+    let i = c.before in
     let k = i.before.before.before in
     let t = k.before in
     let e = t.before.before in
-    absurd (never_wrong e.args.bytes.now e.if-bytes-ne9.false _ t.run_end.ensures k.if-run_end-lt8.false i.int.result i.int.ensures c.in-Malformed.is)
+    absurd (never_wrong e.args.bytes.now e.if1.false _ t.run_end.ensures k.if-run_end-lt8.false i.int.result i.int.ensures c.in-Malformed.is)
 
 pub parse_head_spec : {M : Type 1} → statement M
 parse_head_spec = tie.close (tie.spec returns slice-aggregate-digits run-end-requires returns-2 shared-slice-read-if3 returns-3 int-requires enum-known-value magnitude-requires enum_told enum-told-2 returns-4 returns-5 returns-6)

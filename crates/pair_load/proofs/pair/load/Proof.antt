@@ -27,32 +27,32 @@ use Rattle.pair_load.proofs.pair.load.Tie as tie
 -- what is read into a table of the most numbers
 read_is : (e : tie.After-read-answer) → e.read-answer.result ≡ answer_of (fitted layout_of 37026 (figure_outcome e.args.figure.now))
 unfolding figure_answer
-read_is e = e.read-answer.ensures.answer ∙ ap (λ (n : ℕ). answer_of (fitted layout_of n (figure_outcome e.args.figure.now))) (length-replicate 37026 (pos 0))
+read_is e = e.read-answer.ensures.0 ∙ ap (λ (n : ℕ). answer_of (fitted layout_of n (figure_outcome e.args.figure.now))) (length-replicate 37026 (pos 0))
 
 module _ (e : tie.Else-total-eq0) where
   abbrev text : List ℕ
-  text = e.args.figure.now
+  text = e.before.before.before.before.before.before.args.figure.now
 
   abbrev zeros : List ℤ
   zeros = replicate 37026 (pos 0)
 
   abbrev last : List ℤ
-  last = e.read-answer.last.1.0
+  last = e.before.before.read.last.1.0
 
-  took : Read figure-held 37026 (figure_outcome text) e.read-answer.result
-  took = read_taken figure-held 37026 _ (figure_small _) _ (read_is e.before.before) e.if-total-eq0.left
+  took : Read figure-held 37026 (figure_outcome text) e.before.before.read.result
+  took = read_taken figure-held 37026 _ (figure_small _) _ (read_is e.before.before) e.if1.left
 
   taken : figure_answer text (length zeros) ≡ accepted took.value
   unfolding figure_answer
   taken = ap (λ (n : ℕ). fitted layout_of n (figure_outcome text)) (length-replicate 37026 (pos 0)) ∙ read_whole figure-held 37026 _ _ took (figure_small _)
 
   left : last ≡ table_after text zeros
-  left = e.read-answer.ensures.content
+  left = e.before.before.read.ensures.1
 
   laid-down : last ≡ layout_of took.value ++ drop (length (layout_of took.value)) zeros
   laid-down = left ∙ figure-table text zeros took.value taken
 
-  long : e.read-answer.result.total ≤ length last
+  long : e.before.before.read.result.total ≤ length last
   long = let a = ap length laid-down ∙ length-append (layout_of took.value) _ in let b = total-is figure-held 37026 _ _ took in omega arith
 
 -- the pair as the movement's half with the figure's own table
@@ -61,21 +61,21 @@ module _ (l : tie.After-load_movement-moved) where
   before-it = l.before.before.before.before.before
 
   abbrev movement : List ℕ
-  movement = before-it.args.movement.now
+  movement = before-it.before.before.before.before.before.before.args.movement.now
 
   abbrev space : ℕ
-  space = length before-it.args.moves-1.now
+  space = length before-it.before.before.before.before.before.before.args.moves.now
 
   abbrev half : Loaded Movement
-  half = moved_answer (text before-it) before-it.read-answer.result.counts (last before-it) movement space
+  half = moved_answer (text before-it) before-it.before.before.read.result.counts (last before-it) movement space
 
   abbrev whole : Loaded (Figure × Movement)
-  whole = pair_answer (text before-it) (length before-it.args.table-1.now) movement space
+  whole = pair_answer (text before-it) (length before-it.before.before.before.before.before.before.args.table.now) movement space
 
   paired : whole ≡ with_figure (took before-it).value half
   unfolding figure_answer answer_of
   paired =
-      pair_is _ _ _ _ (replicate 37026 (pos 0)) (took before-it).value (taken before-it) (figure_stands _ _ (took before-it).alone) (room_enough figure-held 37026 _ _ (took before-it) _ l.if-table-total.left)
+      pair_is _ _ _ _ (replicate 37026 (pos 0)) (took before-it).value (taken before-it) (figure_stands _ _ (took before-it).alone) (room_enough figure-held 37026 _ _ (took before-it) _ l.before.before.before.before.if2.left)
       ∙ ap (with_figure (took before-it).value) (sym (ap₂ (λ (n : FigureCounts) (t : List ℤ). moved_answer (text before-it) n t movement space) (ap (λ (a : FigureAnswer). a.counts) (took before-it).answer) (left before-it)))
 
   halved : half ≡ movement_of whole
@@ -125,9 +125,9 @@ same_length c = search rules
 returns-3 : tie.Need-returns-then-moved-eq0
 returns-3 c = let l = c.before.before.before.before in
     let e = l.before.before.before.before in
-    let p = paired l ∙ figure-kept _ _ _ _ _ (moved-refused _ _ l.load_movement-moved.ensures.answer c.if-moved-eq0.true) in
+    let p = paired l ∙ figure-kept _ _ _ _ _ (moved-refused _ _ l.load_movement-moved.ensures.0 c.if-moved-eq0.true) in
     let b = refused-pair _ _ _ _ p _ in
-    (c.refused-then-moved-eq0.ensures ∙ b.0, (b.1, l.load_movement-moved.ensures.content ∙ ap (movement_left _) (halved l)))
+    (c.refused-then-moved-eq0.ensures ∙ b.0, (b.1, l.load_movement-moved.ensures.1 ∙ ap (movement_left _) (halved l)))
 
 array-share-prefix-rows : tie.Need-slice_bounds-rows-end
 array-share-prefix-rows c = long c.before.before.before.before.before.before.before.before.before
@@ -148,12 +148,12 @@ returns-4 : tie.Need-returns
 unfolding figure_left laid
 returns-4 c = let l = c.before.before.before.before.before.before.before.before in
     let e = l.before.before.before.before.before in
-    let d = moved-taken _ _ l.load_movement-moved.ensures.answer c.if-moved-eq0.false in
+    let d = moved-taken _ _ l.load_movement-moved.ensures.0 c.if-moved-eq0.false in
     let p = loaded-is l d.movement d.is in (
       reply-is _ _ _ _ (took e).answer d.answer ∙ ap pair_reply (sym p),
       (
-        c.put.ensures.content ∙ rw (laid-down e, p) (left_is figure-held 37026 _ _ (took e) _ _ l.if-table-total.false),
-        l.load_movement-moved.ensures.content ∙ ap (movement_left _) (halved l),
+        c.put.ensures.0 ∙ rw (laid-down e, p) (left_is figure-held 37026 _ _ (took e) _ _ l.if-table-total.false),
+        l.load_movement-moved.ensures.1 ∙ ap (movement_left _) (halved l),
       ),
     )
 

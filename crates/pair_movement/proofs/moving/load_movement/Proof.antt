@@ -35,42 +35,42 @@ named e = sym e.has_names.ensures ∙ not-false _ e.if-not-has_names.false-raw
 -- what is read into a table of the most numbers
 read_is : (e : tie.After-read-answer) → e.read-answer.result ≡ answer_of (fitted layout_of 11779 (movement_outcome e.args.movement.now))
 unfolding movement_answer
-read_is e = e.read-answer.ensures.answer ∙ ap (λ (n : ℕ). answer_of (fitted layout_of n (movement_outcome e.args.movement.now))) (length-replicate 11779 (pos 0))
+read_is e = e.read-answer.ensures.0 ∙ ap (λ (n : ℕ). answer_of (fitted layout_of n (movement_outcome e.args.movement.now))) (length-replicate 11779 (pos 0))
 
 module _ (e : tie.Else-total-eq0) where
   abbrev text : List ℕ
-  text = e.args.movement.now
+  text = e.before.before.before.before.before.before.before.before.args.movement.now
 
   abbrev zeros : List ℤ
   zeros = replicate 11779 (pos 0)
 
   abbrev last : List ℤ
-  last = e.read-answer.last.1.0
+  last = e.before.before.read.last.1.0
 
-  took : Read movement-held 11779 (movement_outcome text) e.read-answer.result
-  took = read_taken movement-held 11779 _ (movement_small _) _ (read_is e.before.before) e.if-total-eq0.left
+  took : Read movement-held 11779 (movement_outcome text) e.before.before.read.result
+  took = read_taken movement-held 11779 _ (movement_small _) _ (read_is e.before.before) e.if2.left
 
   taken : movement_answer text (length zeros) ≡ accepted took.value
   unfolding movement_answer
   taken = ap (λ (n : ℕ). fitted layout_of n (movement_outcome text)) (length-replicate 11779 (pos 0)) ∙ read_whole movement-held 11779 _ _ took (movement_small _)
 
   left : last ≡ movement_table text zeros
-  left = e.read-answer.ensures.content
+  left = e.before.before.read.ensures.1
 
   laid-down : last ≡ layout_of took.value ++ drop (length (layout_of took.value)) zeros
   laid-down = left ∙ table-read text zeros took.value taken
 
-  counted : e.read-answer.result.counts ≡ counts_read took.value
+  counted : e.before.before.read.result.counts ≡ counts_read took.value
   unfolding answer_of
   counted = ap (λ (a : MovementAnswer). a.counts) took.answer
 
-  holds : holds_movement e.read-answer.result.counts last ≡ true
+  holds : holds_movement e.before.before.read.result.counts last ≡ true
   holds = ap₂ holds_movement counted left ∙ movement_holds text zeros took.value taken
 
-  long : e.read-answer.result.total ≤ length last
+  long : e.before.before.read.result.total ≤ length last
   long = let a = ap length laid-down ∙ length-append (layout_of took.value) _ in let b = total-is movement-held 11779 _ _ took in omega arith
 
-  ruled : tables_fault e.args.figure.now e.args.n e.args.table.now text e.read-answer.result.counts last ≡ pair_fault (names e.args.figure.now e.args.n e.args.table.now) e.args.n.groups took.value
+  ruled : tables_fault e.before.before.before.before.before.before.before.before.args.figure.now e.before.before.before.before.before.before.before.before.args.n e.before.before.before.before.before.before.before.before.args.table.now text e.before.before.read.result.counts last ≡ pair_fault (names e.before.before.before.before.before.before.before.before.args.figure.now e.before.before.before.before.before.before.before.before.args.n e.before.before.before.before.before.before.before.before.args.table.now) e.before.before.before.before.before.before.before.before.args.n.groups took.value
   ruled = held_tables _ _ _ _ _ _ (names_some _ _ _ (named e.before.before.before.before)).1 holds ∙ ap₂ (rows_fault _ _ _ text) counted left ∙ (tables_are text zeros took.value taken (movement_stands text took.value took.alone) _ _ _)
 
 has-names-requires : tie.Need-has_names-requires
@@ -121,17 +121,17 @@ enum_told : tie.Need-enum_told-1
 enum_told c = search rules
 
 array-share-prefix-rows : tie.Need-slice_bounds-rows-end
-array-share-prefix-rows c = long c.before.before.before.before.before.before.before
+array-share-prefix-rows c = long c.before.before.before.before.before.before
 
 slice-aggregate-put : tie.Need-slice_bounds-put-end
-slice-aggregate-put c = let h = long c.before.before.before.before.before.before.before.before in simp length-take (omega arith)
+slice-aggregate-put c = let h = long c.before.before.before.before.before.before.before in simp length-take (omega arith)
 
 put-requires : tie.Need-put-requires
 put-requires c κs = search rules
 
 returns-4 : tie.Need-returns-in-Refused
 unfolding movement_answer
-returns-4 c = let e = c.before.before.before.before.before.before.before.before in
+returns-4 c = let e = c.before.before.before.before.before.before in
     let b = refused_both _ _ _ _ (moved-fault _ _ _ _ _ (named e.before.before.before.before) (took e).value _ _ (room_enough movement-held 11779 _ _ (took e) _ c.if-moves-total.false) (sym (ruled e) ∙ refused_by c.pair_fault.ensures c.in-Refused.is)) _ in
     (c.refused-in-Refused.ensures ∙ b.0, b.1)
 
@@ -140,9 +140,9 @@ same_length c = search rules
 
 returns-5 : tie.Need-returns-in-Clear
 unfolding movement_answer moved_reply movement_left laid
-returns-5 c = let e = c.before.before.before.before.before.before.before.before.before.before in
+returns-5 c = let e = c.before.before.before.before.before.before.before.before.before in
     let l = moved-loaded _ _ _ _ _ (named e.before.before.before.before) (took e).value (room_enough movement-held 11779 _ _ (took e) _ c.if-moves-total.false) (sym (ruled e) ∙ clear_by c.pair_fault.ensures c.in-Clear.is) in
-    ((took e).answer ∙ ap moved_reply (sym l), c.put.ensures.content ∙ rw (laid-down e, l) (left_is movement-held 11779 _ _ (took e) _ _ c.if-moves-total.false))
+    ((took e).answer ∙ ap moved_reply (sym l), c.put.ensures.0 ∙ rw (laid-down e, l) (left_is movement-held 11779 _ _ (took e) _ _ c.if-moves-total.false))
 
 pub load_movement_spec : {M : Type 1} → statement M
 load_movement_spec = tie.close (tie.spec has-names-requires refused-requires returns slice-aggregate-read read-requires refused-requires-2 returns-2 refused-requires-3 returns-3 slice-aggregate-pair-fault pair-fault-requires enum-known-number cast-refused refused-requires-4 enum_told array-share-prefix-rows slice-aggregate-put put-requires returns-4 same_length returns-5)

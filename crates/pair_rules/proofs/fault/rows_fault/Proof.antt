@@ -30,25 +30,25 @@ enum_told : tie.Need-enum_told-1
 enum_told c = search rules
 
 mul-from : tie.Need-overflow_mul-from
-mul-from c = let h = room c.before.before.before in omega arith
+mul-from c = let h = room c.before.before in omega arith
 
 add-from : tie.Need-overflow_add-from
-add-from c = let h = room c.before.before.before in omega arith
+add-from c = let h = room c.before.before in omega arith
 
 mul-from-2 : tie.Need-overflow_mul-from-in-Clear
-mul-from-2 c = let h = room c.before.before.before in omega arith
+mul-from-2 c = let h = room c.before.before in omega arith
 
 add-from-2 : tie.Need-overflow_add-from-in-Clear
-add-from-2 c = let h = room c.before.before.before in omega arith
+add-from-2 c = let h = room c.before.before in omega arith
 
 mul-groups-fault : tie.Need-overflow_mul-count
-mul-groups-fault c = let h = room c.before.before.before in omega arith
+mul-groups-fault c = let h = room c.before.before in omega arith
 
 add-groups-fault : tie.Need-overflow_add-from-in-Clear-2
-add-groups-fault c = let h = room c.before.before.before in omega arith
+add-groups-fault c = let h = room c.before.before in omega arith
 
 mul-groups-fault-2 : tie.Need-offset_bounds-moves-from
-mul-groups-fault-2 c = let h = room c.before.before.before in omega arith
+mul-groups-fault-2 c = let h = room c.before.before in omega arith
 
 sub-groups-fault : tie.Need-slice_bounds-groups_fault-count
 sub-groups-fault c = search rules
@@ -57,11 +57,11 @@ part-groups-fault-start : tie.Need-slice_bounds-groups_fault-start
 part-groups-fault-start c = search rules
 
 part-groups-fault-end : tie.Need-slice_bounds-groups_fault-end
-part-groups-fault-end c = let h = room c.before.before.before in omega arith
+part-groups-fault-end c = let h = room c.before.before in omega arith
 
 groups-fault-requires : tie.Need-groups_fault-requires
 groups-fault-requires c κs =
-    let h = room c.before.before.before.before in
+    let h = room c.before.before.before in
     let a = c.args in
     (part_length (3 + a.m.bones * 22 + a.m.keys * 2) (a.m.patterns * 3) a.moves.now (omega arith), omega arith)
 
@@ -72,7 +72,7 @@ returns-2 c = names-found _ _ _ _ _ _ c.if-n-bones.false _ _ (refused_by c.names
 returns-3 : tie.Need-returns-in-Clear
 unfolding refusal
 returns-3 c =
-    let e = c.before.before.before.before.before in
+    let e = c.before.before.before.before in
     let m = e.args.m in
     let z : 3 + m.bones * 22 + m.keys * 2 + m.patterns * 3 - (3 + m.bones * 22 + m.keys * 2) ≡ m.patterns * 3 = omega arith in
     c.groups_fault.ensures ∙ groups-found _ _ _ _ _ _ e.if-n-bones.false _ z (clear_by c.names_fault.ensures c.in-Clear.is)

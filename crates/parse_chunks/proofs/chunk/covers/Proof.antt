@@ -1,6 +1,5 @@
 -- `covers` is the definition: the invariant says that the flags passed are covered.
 use mathlib.Core.Path.{◌≡◌, refl, sym, ◌∙◌}
-use mathlib.Core.Logic.{⊎_elim}
 use Prim.Native.Nat.{◌-◌}
 use native.Mathlib.Numerals.{add-one}
 use borrow.Author.Rules.{rules}
@@ -9,6 +8,7 @@ use lib.ListN.{length, drop}
 use Rattle.parse_spec.specs.Internal.Fields.{covers_all}
 use Rattle.parse_chunks.proofs.Stored.{covers_end, covers_past, covers_missing, covers_set, covers_free}
 use Rattle.parse_chunks.proofs.chunk.covers.Statement.{statement}
+use Rattle.parse_chunks.proofs.chunk.covers.Goals.{then-needed-i, else-needed-i}
 use Rattle.parse_chunks.proofs.chunk.covers.Tie as tie
 
 abbrev invariant-loop : tie.invariant-loop-i
@@ -45,7 +45,7 @@ loop-again c =
     let l = c.loop-i in
     let n = c.loop-i-test.true in
     let s = c.if-seen-i.false in
-    rw add-one (⊎_elim (λ w. l.invariant ∙ covers_set _ _ _ n s (not-false _ w.2.left)) (λ w. l.invariant ∙ covers_free _ _ _ n s w.left) c.if-needed-i.branch)
+    rw add-one (elim c.if-needed-i.branch [ then-needed-i w ↦ l.invariant ∙ covers_set _ _ _ n s (not-false _ w.2.left) | else-needed-i w ↦ l.invariant ∙ covers_free _ _ _ n s w.left ])
 
 returns-3 : tie.Need-returns invariant-loop decreases-loop
 returns-3 c = sym (c.loop-i.invariant ∙ covers_end _ _ _ c.loop-i-test.false)

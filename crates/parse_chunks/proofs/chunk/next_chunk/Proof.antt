@@ -32,7 +32,7 @@ returns-2 c =
     let v = c.before in
     let k = v.before.before.before in
     let n = k.before in
-    (next_early _ _ _ n.next-t.ensures n.if-c-ne0.false _ _ _ _ _ (sym (k.is_closing.ensures _) ∙ v.if-is_closing.true) (sym v.covers.ensures ∙ not-true _ c.if-not-covers.true-raw), (sym (set_out _ _ _ (omega arith)), λ _. refl))
+    (next_early _ _ _ n.next.ensures n.if-c-ne0.false _ _ _ _ _ (sym (k.is-closing.ensures _) ∙ v.if-is_closing.true) (sym v.covers.ensures ∙ not-true _ c.if-not-covers.true-raw), (sym (set_out _ _ _ (omega arith)), λ _. refl))
 
 same-length-2 : tie.Need-shape_of-seen-then-is_closing
 same-length-2 c = search rules
@@ -43,7 +43,7 @@ returns-3 c =
     let v = c.before in
     let k = v.before.before.before in
     let n = k.before in
-    (next_close _ _ _ n.next-t.ensures n.if-c-ne0.false _ _ _ _ (sym (k.is_closing.ensures _) ∙ v.if-is_closing.true) (sym v.covers.ensures ∙ not-false _ c.if-not-covers.false-raw), (sym (set_out _ _ _ (omega arith)), λ _. refl))
+    (next_close _ _ _ n.next.ensures n.if-c-ne0.false _ _ _ _ (sym (k.is-closing.ensures _) ∙ v.if-is_closing.true) (sym v.covers.ensures ∙ not-false _ c.if-not-covers.false-raw), (sym (set_out _ _ _ (omega arith)), λ _. refl))
 
 returns-4 : tie.Need-returns-then-left-eq0
 unfolding lexeme_of lexeme
@@ -76,7 +76,7 @@ returns-6 c =
     let p = w.before.before.before in
     let k = p.before.before.before in
     let n = k.before in
-    (next_open _ _ _ n.next-t.ensures n.if-c-ne0.false _ _ _ _ p.if-left-eq0.false (sym (k.is_closing.ensures _) ∙ p.if-is_closing.false) (sym (p.is_opening.ensures _) ∙ not-false _ w.if-not-is_opening.false-raw) _ _ w.next_keyword.ensures.kind_value, w.next_keyword.ensures.seen_after)
+    (next_open _ _ _ n.next-t.ensures n.if-c-ne0.false _ _ _ _ p.if-left-eq0.false (sym (k.is_closing.ensures _) ∙ p.if-is_closing.false) (sym (p.is_opening.ensures _) ∙ not-false _ w.if-not-is_opening.false-raw) _ _ w.next_keyword.ensures.0, w.next_keyword.ensures.1)
 
 pub next_chunk_spec : {M : Type 1} → statement M
 next_chunk_spec = tie.close (tie.spec returns next-requires is-closing-requires covers-requires same_length returns-2 same-length-2 returns-3 returns-4 is-opening-requires returns-5 next-keyword-requires same-length-3 returns-6)

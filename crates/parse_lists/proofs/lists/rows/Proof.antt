@@ -49,8 +49,8 @@ returns-2 c =
     let e = m.before.before in
     let b = e.before.before in (
       passed _ _ _ _ c.if-d-ne0.true
-          ∙ sym (b.loop-form.invariant.0 ∙ rows_more _ _ _ _ _ _ _ _ b.next_item-item.ensures _ _ _ _ _ m.row_tail-d.ensures.meaning e.if-item.false _ refl),
-      earlier _ b.loop-form.i _ _ m.row_tail-d.auto.1.1.1.1.1.1.0 b.loop-form.invariant.4 m.row_tail-d.ensures.before ∙ b.loop-form.invariant.3,
+          ∙ sym (b.loop-form.invariant.0 ∙ rows_more _ _ _ _ _ _ _ _ b.next_item-item.ensures _ _ _ _ _ m.row_tail-d.ensures.0 e.if-item.false _ refl),
+      earlier _ b.loop-form.i _ _ m.row_tail-d.auto.1.1.1.1.1.1.0 b.loop-form.invariant.4 m.row_tail-d.ensures.1 ∙ b.loop-form.invariant.3,
     )
 
 add-count : tie.Need-overflow_add-count invariant-loop decreases-loop
@@ -66,7 +66,7 @@ loop-less : tie.Need-loop-form-smaller invariant-loop decreases-loop
 loop-less c =
     let m = c.before.before.before.before.before in
     let b = m.before.before.before.before in
-    rows_fall _ _ _ _ _ _ _ _ b.next_item-item.ensures 0 _ _ _ _ m.row_tail-d.ensures.meaning c.if-d-ne0.false
+    rows_fall _ _ _ _ _ _ _ _ b.next_item-item.ensures 0 _ _ _ _ m.row_tail-d.ensures.0 c.if-d-ne0.false
 
 loop-again : tie.Need-loop-form-preserved invariant-loop decreases-loop
 loop-again c =
@@ -75,11 +75,11 @@ loop-again c =
     let b = e.before.before in
     let l = b.loop-form in
     let long = m.row_tail-d.auto.1.1.1.1.1.1.0 in
-    let fewer = rows_fall _ _ _ _ _ _ _ _ b.next_item-item.ensures 0 _ _ _ _ m.row_tail-d.ensures.meaning c.if-d-ne0.false in (
-      l.invariant.0 ∙ rows_more _ _ _ _ _ _ _ _ b.next_item-item.ensures _ _ _ _ _ m.row_tail-d.ensures.meaning e.if-item.false _ (row_past l.i _ _ _ _ _ c.advance.ensures c.advance-i.ensures),
+    let fewer = rows_fall _ _ _ _ _ _ _ _ b.next_item-item.ensures 0 _ _ _ _ m.row_tail-d.ensures.0 c.if-d-ne0.false in (
+      l.invariant.0 ∙ rows_more _ _ _ _ _ _ _ _ b.next_item-item.ensures _ _ _ _ _ m.row_tail-d.ensures.0 e.if-item.false _ (row_past l.i _ _ _ _ _ c.advance.ensures c.advance-i.ensures),
       long ∙ l.invariant.1,
       omega arith,
-      earlier _ l.i _ _ long l.invariant.4 m.row_tail-d.ensures.before ∙ l.invariant.3,
+      earlier _ l.i _ _ long l.invariant.4 m.row_tail-d.ensures.1 ∙ l.invariant.3,
       omega (arith, row_past l.i _ _ _ _ _ c.advance.ensures c.advance-i.ensures, long, l.invariant.4),
     )
 

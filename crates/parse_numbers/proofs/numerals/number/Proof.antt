@@ -31,20 +31,20 @@ enum-told-2 c = search rules
 returns-2 : tie.Need-returns-in-Value
 unfolding number_named
 returns-2 c =
-    let b = c.before.before.before in
-    rw (to_z-of_z {w = w64} {z = c.in-Value.value-1} (record { sfits = c.in-Value.known_told-1-own.given.0.1 }))
+    let b = c.before in
+    rw (to_z-of_z {w = w64} {z = c.in-Value.value} (record { sfits = c.known_told-1.given.0.1 }))
     (number-value _ _ _ b.next-t.ensures b.if-c-ne0.false _ _ (sym b.token_number.ensures ∙ ap number_named c.in-Value.is))
 
 returns-3 : tie.Need-returns-in-Beyond
 unfolding number_named
 returns-3 c =
-    let b = c.before.before in
+    let b = c.before in
     number-beyond _ _ _ b.next-t.ensures b.if-c-ne0.false _ _ (sym b.token_number.ensures ∙ ap number_named c.in-Beyond.is)
 
 returns-4 : tie.Need-returns-in-Malformed
 unfolding number_named
 returns-4 c =
-    let b = c.before.before in
+    let b = c.before in
     number-wrong _ _ _ b.next-t.ensures b.if-c-ne0.false _ _ (sym b.token_number.ensures ∙ ap number_named c.in-Malformed.is)
 
 pub number_spec : {M : Type 1} → statement M

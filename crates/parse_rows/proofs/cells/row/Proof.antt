@@ -18,7 +18,7 @@ same_length c = search rules
 returns : tie.Need-returns
 returns c =
     let n = c.before in
-    (seq _ _ _ _ _ _ _ _ n.opening.ensures n.row_tail.ensures.meaning ∙ sym (from-same _ _ _ _ (row_parts _ _ _ _ _ _)), n.row_tail.ensures.before)
+    (seq _ _ _ _ _ _ _ _ n.opening.ensures n.row_tail.ensures.0 ∙ sym (from-same _ _ _ _ (row_parts _ _ _ _ _ _)), n.row_tail.ensures.1)
 
 pub row_spec : {M : Type 1} → statement M
 row_spec = tie.close (tie.spec opening-requires row-tail-requires same_length returns)

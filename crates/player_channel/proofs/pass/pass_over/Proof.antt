@@ -113,7 +113,7 @@ stepped m =
     let rest = rows_at 2 a.keys.now ((l.i + 1) * 2) (a.count - (l.i + 1)) in
     (rw t at l.invariant.0)
     ∙ ap (λ (ks : List Key). pass_from a.total a.at (key_of l.p) (state_of l.p) ks) (left_more a.keys.now a.count a.total a.at s.requires l.i m.loop-i-test.true)
-    ∙ (rw (t, to_z-of_z {w = w64} {z = get_or a.keys.now (l.i * 2) (pos 0)} (record { sfits = m.step-arg-1.given }), to_z-of_z {w = w64} {z = get_or a.keys.now (l.i * 2 + 1) (pos 0)} (record { sfits = m.step-arg-in-loop-i-1.given })) at (m.step-p.ensures.ks_value rest))
+    ∙ (rw (t, to_z-of_z {w = w64} {z = get_or a.keys.now (l.i * 2) (pos 0)} (record { sfits = m.step-arg-1.given }), to_z-of_z {w = w64} {z = get_or a.keys.now (l.i * 2 + 1) (pos 0)} (record { sfits = m.step-arg-in-loop-i-1.given })) at (m.step-p.ensures.0 rest))
 
 returns-4 : tie.Need-returns-then-not-p invariant-loop decreases-loop
 returns-4 c = let m = c.before.before in stopped _ _ _ _ (not-true _ c.if-not-p.true) ∙ sym (stepped m)
@@ -130,7 +130,7 @@ loop-again c =
     let s = m.before.before.before.before.before.before.before.before.before.before.before.before in
     let t = to_z-of_z s.ranges.total in
     let fine = not-false _ c.if-not-p.false in
-    (rw t (stepped m ∙ goes_on _ _ _ _ fine), fine, rw t (rw t at (m.step-p.ensures.ready fine)), let h = m.loop-i-test.true in omega arith)
+    (rw t (stepped m ∙ goes_on _ _ _ _ fine), fine, rw t (rw t at (m.step-p.ensures.1 fine)), let h = m.loop-i-test.true in omega arith)
 
 returns-5 : tie.Need-returns invariant-loop decreases-loop
 returns-5 c =

@@ -49,13 +49,13 @@ vertex : (m : tie.After-face_vertex) → m.face_vertex.result.0 ≡ face_vertex 
 vertex m = m.face_vertex.ensures ∙ corner-is 2 _ _ (below m.before.before)
 
 position : (m : tie.After-point_at-p) → let p = m.point_at-p.result in ◌≡◌ {A = List ℤ} (p.x ∷ p.y ∷ p.z ∷ []) (point_at m.args.n m.args.table.now (face_vertex m.args.row.now m.args.k))
-position m = m.point_at-p.ensures.position ∙ ap (point_at m.args.n m.args.table.now) (vertex m.before)
+position m = m.point_at-p.ensures.0 ∙ ap (point_at m.args.n m.args.table.now) (vertex m.before)
 
 owner : (m : tie.After-point_at-p) → m.point_at-p.result.owner ≡ owner_at m.args.n m.args.table.now (face_vertex m.args.row.now m.args.k)
-owner m = m.point_at-p.ensures.owner.0 ∙ ap (owner_at m.args.n m.args.table.now) (vertex m.before)
+owner m = m.point_at-p.ensures.1.0 ∙ ap (owner_at m.args.n m.args.table.now) (vertex m.before)
 
 sound : (m : tie.After-point_at-p) → m.point_at-p.result.fine ≡ (all_float (point_at m.args.n m.args.table.now (face_vertex m.args.row.now m.args.k)) && is_index m.args.n.bones (owner_at m.args.n m.args.table.now (face_vertex m.args.row.now m.args.k)))
-sound m = m.point_at-p.ensures.owner.1 ∙ ap₂ (λ (p : List ℤ) (o : ℤ). all_float p && is_index m.args.n.bones o) (position m) (owner m)
+sound m = m.point_at-p.ensures.1.1 ∙ ap₂ (λ (p : List ℤ) (o : ℤ). all_float p && is_index m.args.n.bones o) (position m) (owner m)
 
 point-sound : (e : tie.Else-not-p) → (all_float (point_at e.args.n e.args.table.now (face_vertex e.args.row.now e.args.k)) && is_index e.args.n.bones (owner_at e.args.n e.args.table.now (face_vertex e.args.row.now e.args.k))) ≡ true
 point-sound e = sym (sound e.before.before.before.before.before.before) ∙ not-false _ e.if-not-p.false
@@ -72,10 +72,10 @@ some_uv : (e : tie.Else-is_none) → is_none (face_uv e.args.row.now e.args.k) �
 some_uv e = sym (none_told e.before) ∙ e.if-is_none.false
 
 uv-numbers : (m : tie.After-uv_at-c) → let p = m.uv_at-c.result in ◌≡◌ {A = List ℤ} (p.u ∷ p.v ∷ []) (uv_row m.args.n m.args.table.now (face_uv m.args.row.now m.args.k))
-uv-numbers m = m.uv_at-c.ensures.numbers ∙ ap (uv_row m.args.n m.args.table.now) (uv m.before.before.before.before)
+uv-numbers m = m.uv_at-c.ensures.0 ∙ ap (uv_row m.args.n m.args.table.now) (uv m.before.before.before.before)
 
 uv-sound : (m : tie.After-uv_at-c) → m.uv_at-c.result.fine ≡ all_float (uv_row m.args.n m.args.table.now (face_uv m.args.row.now m.args.k))
-uv-sound m = m.uv_at-c.ensures.sound ∙ ap all_float (uv-numbers m)
+uv-sound m = m.uv_at-c.ensures.1 ∙ ap all_float (uv-numbers m)
 
 face-sound-requires : tie.Need-face_sound-requires
 face-sound-requires c κs = search rules

@@ -76,18 +76,18 @@ abbrev Called : Type 0
 Called = tie.After-line_fine invariant-loop decreases-loop
 
 -- the line's three numbers from their bits
-frame : (m : Called) → let b = m.before.before.before.before.before in let z = get_or b.args.rows.now (b.loop-i.i * 3) (pos 0) in to_z w64 (of_z w64 z) ≡ z
-frame m = to_z-of_z (record { sfits = m.f-1.given })
+frame : (m : Called) → let b = m.before.before.before.before.before in let z = get_or b.before.args.rows.now (b.loop.i * 3) (pos 0) in to_z w64 (of_z w64 z) ≡ z
+frame m = to_z-of_z (record { sfits = m.before.before.before.f.given })
 
-group : (m : Called) → let b = m.before.before.before.before.before in let z = get_or b.args.rows.now (b.loop-i.i * 3 + 1) (pos 0) in to_z w64 (of_z w64 z) ≡ z
-group m = to_z-of_z (record { sfits = m.g-1.given })
+group : (m : Called) → let b = m.before.before.before.before.before in let z = get_or b.before.args.rows.now (b.loop.i * 3 + 1) (pos 0) in to_z w64 (of_z w64 z) ≡ z
+group m = to_z-of_z (record { sfits = m.before.before.g.given })
 
-flag : (m : Called) → let b = m.before.before.before.before.before in let z = get_or b.args.rows.now (b.loop-i.i * 3 + 2) (pos 0) in to_z w64 (of_z w64 z) ≡ z
-flag m = to_z-of_z (record { sfits = m.line_fine-arg-1.given })
+flag : (m : Called) → let b = m.before.before.before.before.before in let z = get_or b.before.args.rows.now (b.loop.i * 3 + 2) (pos 0) in to_z w64 (of_z w64 z) ≡ z
+flag m = to_z-of_z (record { sfits = m.before.line-fine-arg.given })
 
 -- the test of a line
-fine : (m : Called) → let b = m.before.before.before.before.before in let a = b.args in m.line_fine.result ≡ line_fine a.total a.groups (line_at a.rows.now (b.loop-i.i * 3))
-fine m = rw (to_z-of_z m.fits.total, frame m, group m, flag m) at m.line_fine.ensures
+fine : (m : Called) → let b = m.before.before.before.before.before in let a = b.before.args in m.line-fine.result ≡ line_fine a.total a.groups (line_at a.rows.now (b.loop.i * 3))
+fine m = rw (to_z-of_z m.before.before.before.before.before.before.fits.total, frame m, group m, flag m) at m.line-fine.ensures
 
 returns : tie.Need-returns-then-not-line_fine invariant-loop decreases-loop
 unfolding decided answer_by

@@ -44,23 +44,23 @@ enum-told-5 c = search rules
 
 returns : tie.Need-returns-in-Refused
 unfolding showed numbered explained
-returns c = by_answer c.before.before _ c.in-Refused.is
+returns c = by_answer c.before _ c.in-Refused.is
 
 returns-2 : tie.Need-returns-in-Shown
 unfolding showed numbered explained is_shown
-returns-2 c = by_answer c.before.before _ c.in-Shown.is
+returns-2 c = by_answer c.before _ c.in-Shown.is
 
 returns-3 : tie.Need-returns-in-Corner
 unfolding showed numbered explained is_shown
-returns-3 c = by_answer c.before.before _ c.in-Corner.is
+returns-3 c = by_answer c.before _ c.in-Corner.is
 
 returns-4 : tie.Need-returns-in-Unset
 unfolding showed numbered explained is_shown
-returns-4 c = by_answer c.before.before _ c.in-Unset.is
+returns-4 c = by_answer c.before _ c.in-Unset.is
 
 returns-5 : tie.Need-returns-in-Line
 unfolding showed numbered explained is_shown
-returns-5 c = by_answer c.before.before _ c.in-Line.is
+returns-5 c = by_answer c.before _ c.in-Line.is
 
 pub shown_spec : {M : Type 1} → statement M
 shown_spec = tie.close (tie.spec why-requires enum_told enum-told-2 enum-told-3 enum-told-4 enum-told-5 returns returns-2 returns-3 returns-4 returns-5)

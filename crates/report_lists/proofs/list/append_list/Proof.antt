@@ -33,10 +33,10 @@ has-room-requires c κs = search rules
 same : (c : tie.At-loop-left invariant-loop decreases-loop) →
     let l = c.loop-left in
     let a = c.args in
-    listed (listing (output l.n l.buf-1) (drop l.at a.table.now)) (row_list a.word.now a.width l.left) ≡ listed (reached a.p a.buf-1.now a.table.now) (row_list a.word.now a.width a.count)
+    listed (listing (output l.n l.buf) (drop l.at a.table.now)) (row_list a.word.now a.width l.left) ≡ listed (reached a.p a.buf.now a.table.now) (row_list a.word.now a.width a.count)
 same c =
     let a = c.args in
-    sym c.loop-left.invariant.2 ∙ ap (λ (s : Listing). listed s (row_list a.word.now a.width a.count)) (begins a.p a.buf-1.now a.table.now _ c.least-at.ensures)
+    sym c.loop-left.invariant.2 ∙ ap (λ (s : Listing). listed s (row_list a.word.now a.width a.count)) (begins a.p a.buf.now a.table.now _ c.least-at.ensures)
 
 same_length : tie.Need-shape_of-buf-then-not-has_room invariant-loop decreases-loop
 same_length c = c.loop-left.invariant.1
@@ -48,7 +48,7 @@ returns c =
     let a = c.args in
     let t = a.table.now in
     let out = leb-false (l.at + a.width) (length t) (sym c.has_room.ensures ∙ not-true _ c.if-not-has_room.true-raw) in
-    sym (rows_out l.n l.at a.width l.left l.buf-1 a.word.now t l.invariant.0 out c.loop-left-test.true) ∙ same c.before.before.before
+    sym (rows_out l.n l.at a.width l.left l.buf a.word.now t l.invariant.0 out c.loop-left-test.true) ∙ same c.before.before.before
 
 -- the row that is next stands in the table
 row_fits : (c : tie.Else-not-has_room invariant-loop decreases-loop) → let a = c.args in c.loop-left.at + a.width ≤ length a.table.now
@@ -84,7 +84,7 @@ loop-again c =
     let l = e.loop-left in
     let a = e.args in
     let q = c.append_row-n in
-    (row_fits e, q.auto.0 ∙ l.invariant.1, l.invariant.2 ∙ row_put l.n l.at a.width l.left l.buf-1 a.word.now a.table.now q.result q.new.0 (row_fits e) e.loop-left-test.true q.ensures)
+    (row_fits e, q.auto.0 ∙ l.invariant.1, l.invariant.2 ∙ row_put l.n l.at a.width l.left l.buf a.word.now a.table.now q.result q.new.0 (row_fits e) e.loop-left-test.true q.ensures)
 
 same-length-2 : tie.Need-shape_of-buf invariant-loop decreases-loop
 same-length-2 c = c.loop-left.invariant.1
@@ -94,7 +94,7 @@ unfolding reached
 returns-2 c =
     let l = c.loop-left in
     let a = c.args in
-    sym (rows_end_lem l.n l.at a.width l.left l.buf-1 a.word.now a.table.now c.loop-left-test.false) ∙ same c.before
+    sym (rows_end_lem l.n l.at a.width l.left l.buf a.word.now a.table.now c.loop-left-test.false) ∙ same c.before
 
 pub append_list_spec : {M : Type 1} → statement M
 append_list_spec = tie.close (tie.spec invariant-loop decreases-loop least-requires loop-holds has-room-requires same_length returns add-end mul-append-row sub-append-row part-append-row-start part-append-row-end append-row-requires sub-left loop-less loop-again same-length-2 returns-2)

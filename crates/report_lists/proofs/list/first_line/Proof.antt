@@ -39,9 +39,9 @@ returns c =
     let s1 = s2.before in
     let t = s1.before.before.before in
     let a = t.args in
-    let e : output k.append_row.result k.append_row.new.0 ≡ appended (output 0 a.buf-1.now) (line (bytes "refused") (to_z w64 (of_z w64 s1.shown.result) ∷ to_z w64 (of_z w64 s2.shown-then-refusal-ne0.result) ∷ [])) = k.append_row.ensures in
+    let e : output k.append_row.result k.append_row.new.0 ≡ appended (output 0 a.buf.now) (line (bytes "refused") (to_z w64 (of_z w64 s1.shown.result) ∷ to_z w64 (of_z w64 s2.shown-then-refusal-ne0.result) ∷ [])) = k.append_row.ensures in
     rw (held a.refusal s1.shown.result s1.shown.ensures, held a.place s2.shown-then-refusal-ne0.result s2.shown-then-refusal-ne0.ensures) at e
-    ∙ ap (appended (output 0 a.buf-1.now)) (sym (first-refused a.word.now a.refusal a.place a.total (ne_eqb a.refusal 0 t.if-refusal-ne0.true)))
+    ∙ ap (appended (output 0 a.buf.now)) (sym (first-refused a.word.now a.refusal a.place a.total (ne_eqb a.refusal 0 t.if-refusal-ne0.true)))
 
 shown-requires-3 : tie.Need-shown-requires-2
 shown-requires-3 c κs = search rules
@@ -58,9 +58,9 @@ returns-2 c =
     let s = k.before.before in
     let t = s.before.before in
     let a = t.args in
-    let e : output k.append_row-2.result k.append_row-2.new.0 ≡ appended (output 0 a.buf-1.now) (line a.word.now (to_z w64 (of_z w64 s.shown-2.result) ∷ [])) = k.append_row-2.ensures in
+    let e : output k.append_row-2.result k.append_row-2.new.0 ≡ appended (output 0 a.buf.now) (line a.word.now (to_z w64 (of_z w64 s.shown-2.result) ∷ [])) = k.append_row-2.ensures in
     rw (held a.total s.shown-2.result s.shown-2.ensures) at e
-    ∙ ap (appended (output 0 a.buf-1.now)) (sym (first_taken a.word.now a.refusal a.place a.total (eq-eqb a.refusal 0 t.if-refusal-ne0.false)))
+    ∙ ap (appended (output 0 a.buf.now)) (sym (first_taken a.word.now a.refusal a.place a.total (eq-eqb a.refusal 0 t.if-refusal-ne0.false)))
 
 pub first_line_spec : {M : Type 1} → statement M
 first_line_spec = tie.close (tie.spec shown-requires shown-requires-2 slice-aggregate-append-row append-row-requires same_length returns shown-requires-3 slice-aggregate-append-row-2 append-row-requires-2 same-length-2 returns-2)

@@ -30,22 +30,22 @@ row-fits-requires c κs = search rules
 returns : tie.Need-returns-then-not-row_fits invariant-loop decreases-loop
 returns c =
     let a = c.args in
-    no_room a.n _ a.buf-1.now (line a.word.now a.numbers.now) _ refl c.row_fits.ensures c.if-not-row_fits.true-raw
+    no_room a.n _ a.buf.now (line a.word.now a.numbers.now) _ refl c.row_fits.ensures c.if-not-row_fits.true-raw
 
 append-requires : tie.Need-append-at-requires invariant-loop decreases-loop
 append-requires c κs = search rules
 
 -- the line fits, as the word and what stands after it
-line-fits : (c : tie.Else-not-row_fits invariant-loop decreases-loop) → let a = c.args in a.n + length (a.word.now ++ rest a.numbers.now 0) ≤ length a.buf-1.now
+line-fits : (c : tie.Else-not-row_fits invariant-loop decreases-loop) → let a = c.args in a.n + length (a.word.now ++ rest a.numbers.now 0) ≤ length a.buf.now
 line-fits c =
     let a = c.args in
-    rw line-rest at (has_room a.n _ a.buf-1.now (line a.word.now a.numbers.now) _ refl c.row_fits.ensures c.if-not-row_fits.false-raw)
+    rw line-rest at (has_room a.n _ a.buf.now (line a.word.now a.numbers.now) _ refl c.row_fits.ensures c.if-not-row_fits.false-raw)
 
 loop-holds : tie.Need-loop-i-init invariant-loop decreases-loop
 loop-holds c =
     let p = c.before.before in
     let a = p.args in
-    (search rules, refl, fits_on a.n p.append-at.result a.buf-1.now p.append-at.new.0 a.word.now (rest a.numbers.now 0) (line-fits p.before.before) p.append-at.ensures, refl)
+    (search rules, refl, fits_on a.n p.append-at.result a.buf.now p.append-at.new.0 a.word.now (rest a.numbers.now 0) (line-fits p.before.before) p.append-at.ensures, refl)
 
 append-requires-2 : tie.Need-append-at-requires-in-loop-i invariant-loop decreases-loop
 append-requires-2 c κs = search rules
@@ -74,8 +74,8 @@ loop-again c =
     let o = output t.append-at-in-loop-i.result t.append-at-in-loop-i.new.0 in
     let q = w.append_number-at.ensures ∙ ap (appended o) (from_bits (get_or zs l.i (pos 0)) (record { sfits = w.append_number-arg-in-loop-i-1.given })) in
     let h = t.loop-i-test.true in
-    let fits = field_fits zs l.i l.at t.append-at-in-loop-i.result _ l.buf-1 t.append-at-in-loop-i.new.0 _ h l.invariant.2 t.append-at-in-loop-i.ensures q in
-    let goes = field_goes_on zs l.i l.at t.append-at-in-loop-i.result _ l.buf-1 t.append-at-in-loop-i.new.0 _ h l.invariant.2 t.append-at-in-loop-i.ensures q in
+    let fits = field_fits zs l.i l.at t.append-at-in-loop-i.result _ l.buf t.append-at-in-loop-i.new.0 _ h l.invariant.2 t.append-at-in-loop-i.ensures q in
+    let goes = field_goes_on zs l.i l.at t.append-at-in-loop-i.result _ l.buf t.append-at-in-loop-i.new.0 _ h l.invariant.2 t.append-at-in-loop-i.ensures q in
     (search rules, w.append_number-at.auto.0 ∙ t.append-at-in-loop-i.auto.0 ∙ l.invariant.1, rw add-one fits, rw add-one (l.invariant.3 ∙ goes))
 
 append-requires-3 : tie.Need-append-requires invariant-loop decreases-loop
@@ -94,10 +94,10 @@ returns-2 c =
     let a = p.args in
     let zs = a.numbers.now in
     c.append.ensures
-    ∙ ap (appended (output l.at l.buf-1)) (sym (rest_end zs l.i c.loop-i-test.false))
+    ∙ ap (appended (output l.at l.buf)) (sym (rest_end zs l.i c.loop-i-test.false))
     ∙ sym l.invariant.3
-    ∙ sym (goes_on a.n p.append-at.result a.buf-1.now p.append-at.new.0 a.word.now (rest zs 0) (line-fits p.before.before) p.append-at.ensures)
-    ∙ ap (appended (output a.n a.buf-1.now)) (sym (line-rest a.word.now zs))
+    ∙ sym (goes_on a.n p.append-at.result a.buf.now p.append-at.new.0 a.word.now (rest zs 0) (line-fits p.before.before) p.append-at.ensures)
+    ∙ ap (appended (output a.n a.buf.now)) (sym (line-rest a.word.now zs))
 
 pub append_row_spec : {M : Type 1} → statement M
 append_row_spec = tie.close (tie.spec invariant-loop decreases-loop row-fits-requires returns append-requires loop-holds append-requires-2 mul-append-number shared-slice-copy-out-append-number append-number-requires add-i loop-less loop-again append-requires-3 same_length returns-2)

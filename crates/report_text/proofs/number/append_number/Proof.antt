@@ -47,7 +47,7 @@ returns : tie.Need-returns-then-not-has_room
 returns c =
     let t = c.before.before in
     let a = t.args in
-    no_room a.n _ a.buf-1.now (numeral a.z) _ (wide t) c.has_room.ensures c.if-not-has_room.true-raw
+    no_room a.n _ a.buf.now (numeral a.z) _ (wide t) c.has_room.ensures c.if-not-has_room.true-raw
 
 slice-aggregate-append : tie.Need-slice_bounds-append-end-then-z-lt0
 slice-aggregate-append c = search rules
@@ -73,8 +73,8 @@ returns-2 c =
     let r = o.before.before.before in
     let t = r.before.before in
     let a = t.args in
-    let fits = has_room a.n _ a.buf-1.now (numeral a.z) _ (wide t) r.has_room.ensures r.if-not-has_room.false-raw in
-    rw (below t) (both a.n o.append-at.result a.buf-1.now _ (45 ∷ []) _ (rw (below t) at fits) o.append-at.ensures _ _ c.append.ensures)
+    let fits = has_room a.n _ a.buf.now (numeral a.z) _ (wide t) r.has_room.ensures r.if-not-has_room.false-raw in
+    rw (below t) (both a.n o.append-at.result a.buf.now _ (45 ∷ []) _ (rw (below t) at fits) o.append-at.ensures _ _ c.append.ensures)
 
 array-share-prefix-digits-2 : tie.Need-slice_bounds-digits-end-2
 array-share-prefix-digits-2 c = search rules

@@ -55,8 +55,8 @@ loop-again c =
     let a = s.args in
     let h = s.loop-at-test.true in
     let f = Frame a.n a.table.now a.bone a.channel in
-    let put = frame_put l.filled a.bone a.channel l.at _ l.buf-1 _ s.sample-answer.result (numbered (sample_in a.n a.table.now a.bone a.channel l.at)) s.sample-answer.ensures k.append_sample-filled.ensures in
-    (k.append_sample-filled.auto.0 ∙ l.invariant.0, rw add-one (l.invariant.1 ∙ turn_put f 112 l.at a.end l.filled _ l.buf-1 _ h put.0), rw add-one (turn_short f 112 a.first l.at a.end h put.1 l.invariant.2))
+    let put = frame_put l.filled a.bone a.channel l.at _ l.buf _ s.sample-answer.result (numbered (sample_in a.n a.table.now a.bone a.channel l.at)) s.sample-answer.ensures k.append_sample-filled.ensures in
+    (k.append_sample-filled.auto.0 ∙ l.invariant.0, rw add-one (l.invariant.1 ∙ turn_put f 112 l.at a.end l.filled _ l.buf _ h put.0), rw add-one (turn_short f 112 a.first l.at a.end h put.1 l.invariant.2))
 
 same_length : tie.Need-shape_of-buf invariant-loop decreases-loop
 same_length c = c.loop-at.invariant.0
@@ -68,7 +68,7 @@ returns c =
     let a = c.args in
     let f = Frame a.n a.table.now a.bone a.channel in
     let h = c.loop-at-test.false in
-    all_put f 112 a.first a.end l.filled a.buf-1.now l.buf-1 (all_lines f 112 a.first l.at a.end 0 _ _ l.buf-1 h l.invariant.1) (all_short f 112 a.first l.at a.end h l.invariant.2)
+    all_put f 112 a.first a.end l.filled a.buf.now l.buf (all_lines f 112 a.first l.at a.end 0 _ _ l.buf h l.invariant.1) (all_short f 112 a.first l.at a.end h l.invariant.2)
 
 pub list_samples_spec : {M : Type 1} → statement M
 list_samples_spec = tie.close (tie.spec invariant-loop decreases-loop loop-holds sample-requires append-sample-requires add_at loop-less loop-again same_length returns)

@@ -51,7 +51,7 @@ unfolding bytes
 returns c =
     let t = c.before.before.before.before.before.before in
     let a = t.args in
-    refused_put a.n a.face a.at _ a.buf-1.now _ a.answer t.in-Refused.is c.append_row.ensures
+    refused_put a.n a.face a.at _ a.buf.now _ a.answer t.in-Refused.is c.append_row.ensures
 
 same-length-2 : tie.Need-shape_of-buf-in-Shown
 same-length-2 c = search rules
@@ -64,8 +64,8 @@ returns-2 c =
     let s2 = t.before.before in
     let s1 = s2.before in
     let a = s1.args in
-    let e : output k.append_row-in-Shown.result k.append_row-in-Shown.new.0 ≡ appended (output a.n a.buf-1.now) (line (bytes "shown") (to_z w64 (of_z w64 s1.shown-f.result) ∷ to_z w64 (of_z w64 s2.shown-t.result) ∷ pos 1 ∷ [])) = k.append_row-in-Shown.ensures in
-    shown_put a.n a.face a.at _ a.buf-1.now _ a.answer t.in-Shown.is (rw (held a.face _ s1.shown-f.ensures, held a.at _ s2.shown-t.ensures) at e)
+    let e : output k.append_row-in-Shown.result k.append_row-in-Shown.new.0 ≡ appended (output a.n a.buf.now) (line (bytes "shown") (to_z w64 (of_z w64 s1.shown-f.result) ∷ to_z w64 (of_z w64 s2.shown-t.result) ∷ pos 1 ∷ [])) = k.append_row-in-Shown.ensures in
+    shown_put a.n a.face a.at _ a.buf.now _ a.answer t.in-Shown.is (rw (held a.face _ s1.shown-f.ensures, held a.at _ s2.shown-t.ensures) at e)
 
 same-length-3 : tie.Need-shape_of-buf-in-Hidden
 same-length-3 c = search rules
@@ -78,8 +78,8 @@ returns-3 c =
     let s2 = t.before.before in
     let s1 = s2.before in
     let a = s1.args in
-    let e : output k.append_row-in-Hidden.result k.append_row-in-Hidden.new.0 ≡ appended (output a.n a.buf-1.now) (line (bytes "shown") (to_z w64 (of_z w64 s1.shown-f.result) ∷ to_z w64 (of_z w64 s2.shown-t.result) ∷ pos 0 ∷ [])) = k.append_row-in-Hidden.ensures in
-    hidden_put a.n a.face a.at _ a.buf-1.now _ a.answer t.in-Hidden.is (rw (held a.face _ s1.shown-f.ensures, held a.at _ s2.shown-t.ensures) at e)
+    let e : output k.append_row-in-Hidden.result k.append_row-in-Hidden.new.0 ≡ appended (output a.n a.buf.now) (line (bytes "shown") (to_z w64 (of_z w64 s1.shown-f.result) ∷ to_z w64 (of_z w64 s2.shown-t.result) ∷ pos 0 ∷ [])) = k.append_row-in-Hidden.ensures in
+    hidden_put a.n a.face a.at _ a.buf.now _ a.answer t.in-Hidden.is (rw (held a.face _ s1.shown-f.ensures, held a.at _ s2.shown-t.ensures) at e)
 
 pub append_shown_spec : {M : Type 1} → statement M
 append_shown_spec = tie.close (tie.spec shown-requires shown-requires-2 enum_told append-row-requires enum-told-2 slice-aggregate-append-row append-row-requires-2 enum-told-3 slice-aggregate-append-row-2 append-row-requires-3 same_length returns same-length-2 returns-2 same-length-3 returns-3)

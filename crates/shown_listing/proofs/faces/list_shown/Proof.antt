@@ -57,8 +57,8 @@ loop-again c =
     let a = s.args in
     let h = s.loop-at-test.true in
     let f = Frame a.n a.table.now a.m a.moves.now a.face in
-    let put = frame_put l.filled a.face l.at _ l.buf-1 _ (showed s.shown-answer.result) (numbered (shown_in a.n a.table.now a.m a.moves.now a.face l.at)) s.shown-answer.ensures k.append_shown-filled.ensures in
-    (k.append_shown-filled.auto.0 ∙ l.invariant.0, rw add-one (l.invariant.1 ∙ turn_put f 69 l.at a.end l.filled _ l.buf-1 _ h put.0), rw add-one (turn_short f 69 a.first l.at a.end h put.1 l.invariant.2))
+    let put = frame_put l.filled a.face l.at _ l.buf _ (showed s.shown-answer.result) (numbered (shown_in a.n a.table.now a.m a.moves.now a.face l.at)) s.shown-answer.ensures k.append_shown-filled.ensures in
+    (k.append_shown-filled.auto.0 ∙ l.invariant.0, rw add-one (l.invariant.1 ∙ turn_put f 69 l.at a.end l.filled _ l.buf _ h put.0), rw add-one (turn_short f 69 a.first l.at a.end h put.1 l.invariant.2))
 
 same_length : tie.Need-shape_of-buf invariant-loop decreases-loop
 same_length c = c.loop-at.invariant.0
@@ -70,7 +70,7 @@ returns c =
     let a = c.args in
     let f = Frame a.n a.table.now a.m a.moves.now a.face in
     let h = c.loop-at-test.false in
-    all_put f 69 a.first a.end l.filled a.buf-1.now l.buf-1 (all_lines f 69 a.first l.at a.end 0 _ _ l.buf-1 h l.invariant.1) (all_short f 69 a.first l.at a.end h l.invariant.2)
+    all_put f 69 a.first a.end l.filled a.buf.now l.buf (all_lines f 69 a.first l.at a.end 0 _ _ l.buf h l.invariant.1) (all_short f 69 a.first l.at a.end h l.invariant.2)
 
 pub list_shown_spec : {M : Type 1} → statement M
 list_shown_spec = tie.close (tie.spec invariant-loop decreases-loop loop-holds shown-requires append-shown-requires add_at loop-less loop-again same_length returns)

@@ -22,7 +22,7 @@ is-bone : (e : tie.Else-n-bone) → e.args.bone < e.args.n.bones
 is-bone e = (let h = e.if-n-bone.false in omega arith)
 
 -- where the bone's row begins, and that it lies within the table
-begins : (e : tie.Else-n-bone) → e.figure_in-s.result-1.bones + e.args.bone * 14 ≡ bones_begin e.args.n + e.args.bone * 14
+begins : (e : tie.Else-n-bone) → e.figure_in-s.result.bones + e.args.bone * 14 ≡ bones_begin e.args.n + e.args.bone * 14
 begins e =
     ap (λ (s : FigureSections). s.bones + e.args.bone * 14) (figure-found _ _ _ e.figure_in-s.ensures e.if-s-eq0.false)
     ∙ unfold figure_sections in refl

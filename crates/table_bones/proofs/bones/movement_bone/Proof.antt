@@ -22,7 +22,7 @@ is-bone : (e : tie.Else-m-bone) → e.args.bone < e.args.m.bones
 is-bone e = (let h = e.if-m-bone.false in omega arith)
 
 -- where the bone's row begins, and that it lies within the table
-begins : (e : tie.Else-m-bone) → e.movement_in-s.result-1.bones + e.args.bone * 22 ≡ 3 + e.args.bone * 22
+begins : (e : tie.Else-m-bone) → e.movement_in-s.result.bones + e.args.bone * 22 ≡ 3 + e.args.bone * 22
 begins e =
     ap (λ (s : MovementSections). s.bones + e.args.bone * 22) (movement-found _ _ _ e.movement_in-s.ensures e.if-s-eq0.false)
     ∙ unfold movement_sections in refl

@@ -10,7 +10,7 @@ use borrow.Author.Rules.{rules}
 use Rattle.table_columns.proofs.owner.owner_at.Statement.{statement}
 use Rattle.table_columns.proofs.owner.owner_at.Tie as tie
 
-number : (m : tie.After-magnitude-i) → m.magnitude-i.result-1 ≡ nat_abs m.args.v.0
+number : (m : tie.After-magnitude-i) → m.magnitude-i.result ≡ nat_abs m.args.v.0
 number m = m.magnitude-i.ensures ∙ ap nat_abs (to_z-of_z {w = w64} {z = m.args.v.0} (record { sfits = m.struct_told-1.given.0.1 }))
 
 magnitude-requires : tie.Need-magnitude-i-requires
@@ -28,7 +28,7 @@ shared-slice-copy-out-result c = search rules
 
 returns-2 : tie.Need-returns
 unfolding number_at
-returns-2 c = (let s = c.before.before.before.before in to_z-of_z {w = w64} {z = get_or s.args.owners.now c.magnitude-i.result-1 (pos 0)} (record { sfits = c.result-1.given }) ∙ ap (λ (i : ℕ). get_or s.args.owners.now i (pos 0)) (number c.before.before))
+returns-2 c = (let s = c.before.before.before.before in to_z-of_z {w = w64} {z = get_or s.args.owners.now c.magnitude-i.result (pos 0)} (record { sfits = c.result-1.given }) ∙ ap (λ (i : ℕ). get_or s.args.owners.now i (pos 0)) (number c.before.before))
 
 pub owner_at_spec : {M : Type 1} → statement M
 owner_at_spec = tie.close (tie.spec magnitude-requires returns mul-result shared-slice-copy-out-result returns-2)

@@ -1,7 +1,6 @@
 -- `put` is the definition: what `store` leaves in the part that is lent stands between what lay before it and after it.
 use mathlib.Core.Path.{◌≡◌, ap, sym, ◌∙◌}
 use mathlib.Core.List.{List}
-use mathlib.Core.Logic.{⊎_elim}
 use Prim.Native.Nat.{◌+◌, ◌-◌, ◌≤◌, min}
 use native.Mathlib.Omega.{arith}
 use borrow.Author.Rules.{rules}
@@ -11,14 +10,15 @@ use lib.ListN.{length}
 use Rattle.table_rows.proofs.Tables.{overlay_at_past}
 use Rattle.table_rows.proofs.Chains.{middle}
 use Rattle.table_rows.proofs.rows.put.Statement.{statement}
+use Rattle.table_rows.proofs.rows.put.Goals.{then-rows-end, else-rows-end}
 use Rattle.table_rows.proofs.rows.put.Tie as tie
 
 -- where the part begins and ends
 begins : (c : tie.Joined-rows-end) → c.args.at ≤ c.if-rows-end.end
-begins c = ⊎_elim (λ w. omega (arith, w.1)) (λ w. omega (arith, w.1)) c.if-rows-end.branch
+begins c = elim c.if-rows-end.branch [ then-rows-end w ↦ omega arith | else-rows-end w ↦ omega arith ]
 
-ends : (c : tie.Joined-rows-end) → c.if-rows-end.end ≡ min (c.args.at + length c.args.rows.now) (length c.args.table-1.now)
-ends c = ⊎_elim (λ w. omega (arith, w.0.taken, w.1)) (λ w. omega (arith, w.0.left, w.1)) c.if-rows-end.branch
+ends : (c : tie.Joined-rows-end) → c.if-rows-end.end ≡ min (c.args.at + length c.args.rows.now) (length c.args.table.now)
+ends c = elim c.if-rows-end.branch [ then-rows-end w ↦ omega arith | else-rows-end w ↦ omega arith ]
 
 returns : tie.Need-returns-then-table-at
 returns c = (sym (overlay_at_past _ _ _ c.if-table-at.true), omega arith)
@@ -51,8 +51,8 @@ returns-2 : tie.Need-returns
 returns-2 c =
     let j = c.before.before.before.before in
     let s = j.before.before in (
-      ap (λ (ys : List ℤ). put_mid s.args.at (j.if-rows-end.end - s.args.at) s.args.table-1.now ys) c.store.ensures
-          ∙ middle s.args.at j.if-rows-end.end s.args.rows.now s.args.table-1.now (begins j) (omega (arith, ends j)),
+      ap (λ (ys : List ℤ). put_mid s.args.at (j.if-rows-end.end - s.args.at) s.args.table.now ys) c.store.ensures
+          ∙ middle s.args.at j.if-rows-end.end s.args.rows.now s.args.table.now (begins j) (omega (arith, ends j)),
       ends j,
     )
 

@@ -6,11 +6,11 @@ use Rattle.text_bytes.proofs.bytes.is_between.Tie as tie
 
 returns : tie.Need-returns-then-b-low
 unfolding between
-returns c = rw (lt-leb c.before.args.low _ c.if-b-low.true)
+returns c = rw (lt-leb c.args.low _ c.if-b-low.true)
 
 returns-2 : tie.Need-returns
 unfolding between
-returns-2 c = rw (le-leb c.before.args.low _ c.if-b-low.false)
+returns-2 c = rw (le-leb c.args.low _ c.if-b-low.false)
 
 pub is_between_spec : {M : Type 1} → statement M
 is_between_spec = tie.close (tie.spec returns returns-2)

@@ -11,23 +11,23 @@ is-between-requires c κs = search rules
 
 returns : tie.Need-returns-then-not-is_between
 unfolding is_letter
-returns c = rw (sym c.before.is_between.ensures ∙ not-true _ c.if-not-is_between.true-raw)
+returns c = rw (sym c.is_between.ensures ∙ not-true _ c.if-not-is_between.true-raw)
 
 returns-2 : tie.Need-returns-then-b-eq40
 unfolding is_letter
-returns-2 c = rw (sym c.before.before.is_between.ensures ∙ not-false _ c.before.if-not-is_between.false-raw, eq-eqb _ _ c.if-b-eq40.true)
+returns-2 c = rw (sym c.is_between.ensures ∙ not-false _ c.if-not-is_between.false-raw, eq-eqb _ _ c.if-b-eq40.true)
 
 returns-3 : tie.Need-returns-then-b-eq41
 unfolding is_letter
-returns-3 c = rw (sym c.before.before.before.is_between.ensures ∙ not-false _ c.before.before.if-not-is_between.false-raw, ne_eqb _ _ c.before.if-b-eq40.false, eq-eqb _ _ c.if-b-eq41.true)
+returns-3 c = rw (sym c.is_between.ensures ∙ not-false _ c.if-not-is_between.false-raw, ne_eqb _ _ c.if-b-eq40.false, eq-eqb _ _ c.if-b-eq41.true)
 
 returns-4 : tie.Need-returns-then-b-eq34
 unfolding is_letter
-returns-4 c = rw (sym c.before.before.before.before.is_between.ensures ∙ not-false _ c.before.before.before.if-not-is_between.false-raw, ne_eqb _ _ c.before.before.if-b-eq40.false, ne_eqb _ _ c.before.if-b-eq41.false, eq-eqb _ _ c.if-b-eq34.true)
+returns-4 c = rw (sym c.is_between.ensures ∙ not-false _ c.if-not-is_between.false-raw, ne_eqb _ _ c.if-b-eq40.false, ne_eqb _ _ c.if-b-eq41.false, eq-eqb _ _ c.if-b-eq34.true)
 
 returns-5 : tie.Need-returns
 unfolding is_letter
-returns-5 c = rw (sym c.before.before.before.before.is_between.ensures ∙ not-false _ c.before.before.before.if-not-is_between.false-raw, ne_eqb _ _ c.before.before.if-b-eq40.false, ne_eqb _ _ c.before.if-b-eq41.false, ne_eqb _ _ c.if-b-eq34.false)
+returns-5 c = rw (sym c.is_between.ensures ∙ not-false _ c.if-not-is_between.false-raw, ne_eqb _ _ c.if-b-eq40.false, ne_eqb _ _ c.if-b-eq41.false, ne_eqb _ _ c.if-b-eq34.false)
 
 pub is_letter_spec : {M : Type 1} → statement M
 is_letter_spec = tie.close (tie.spec is-between-requires returns returns-2 returns-3 returns-4 returns-5)

@@ -50,7 +50,7 @@ ordinary Letter h = refl
 ordinary Other h = absurd (⊎_elim (λ e. omega arith) (⊎_elim (λ e. omega arith) (⊎_elim (λ e. omega arith) (λ e. omega arith))) h)
 
 ahead : (m : tie.After-string_end invariant-loop decreases-loop) {v : Scan} → m.string_end.result ≡ v → Ahead m.loop-i.i (length m.args.text.now) v
-ahead m e = rw e at m.string_end.ensures.progress
+ahead m e = rw e at m.string_end.ensures.1
 
 loop-holds : tie.Need-loop-i-init invariant-loop decreases-loop
 loop-holds c = search rules
@@ -73,16 +73,16 @@ enum-known-next c = search rules
 loop-less : tie.Need-loop-i-smaller-in-Ended invariant-loop decreases-loop
 unfolding Ahead
 loop-less c =
-    let m = c.before.before.before in
+    let m = c.before in
     let a = ahead m c.in-Ended.is in
     omega arith
 
 loop-again : tie.Need-loop-i-preserved-in-Ended invariant-loop decreases-loop
 unfolding class_named scanned
 loop-again c =
-    let m = c.before.before.before in
-    let k = m.before.before.before in
-    k.loop-i.invariant ∙ fault-quote _ _ (inside k) (named k m.in-Quote.is) ∙ sym (ap (scanned _) (sym c.in-Ended.is) ∙ m.string_end.ensures.meaning)
+    let m = c.before in
+    let k = m.before.before in
+    k.loop-i.invariant ∙ fault-quote _ _ (inside k) (named k m.in-Quote.is) ∙ sym (ap (scanned _) (sym c.in-Ended.is) ∙ m.string_end.ensures.0)
 
 enum-known-number : tie.Need-enum_known-number invariant-loop decreases-loop
 enum-known-number c = search rules
@@ -90,9 +90,9 @@ enum-known-number c = search rules
 returns : tie.Need-returns-in-Faulty invariant-loop decreases-loop
 unfolding class_named scanned refusal
 returns c =
-    let m = c.before.before.before in
-    let k = m.before.before.before in
-    sym (k.loop-i.invariant ∙ fault-quote _ _ (inside k) (named k m.in-Quote.is) ∙ sym (ap (scanned _) (sym c.in-Faulty.is) ∙ m.string_end.ensures.meaning))
+    let m = c.before in
+    let k = m.before.before in
+    sym (k.loop-i.invariant ∙ fault-quote _ _ (inside k) (named k m.in-Quote.is) ∙ sym (ap (scanned _) (sym c.in-Faulty.is) ∙ m.string_end.ensures.0))
 
 enum-told-2 : tie.Need-enum_told-in-Semicolon invariant-loop decreases-loop
 enum-told-2 c = search rules
@@ -104,12 +104,12 @@ run-end-requires : tie.Need-run_end-i-requires invariant-loop decreases-loop
 run-end-requires c κs = search rules
 
 loop-less-2 : tie.Need-loop-i-smaller-in-Semicolon invariant-loop decreases-loop
-loop-less-2 c = let k = c.before.before.before in let h = inside k in omega (arith, c.run_end-i.ensures)
+loop-less-2 c = let k = c.before.before in let h = inside k in omega (arith, c.run_end-i.ensures)
 
 loop-again-2 : tie.Need-loop-i-preserved-in-Semicolon invariant-loop decreases-loop
 unfolding class_named test_named
 loop-again-2 c =
-    let k = c.before.before.before in
+    let k = c.before.before in
     let i = k.loop-i.i in
     let end : c.run_end-i.result ≡ suc i + length (run in_line (drop (suc i) k.args.text.now)) = rw (← add-one i) c.run_end-i.ensures in
     k.loop-i.invariant ∙ rw end (fault-comment _ _ (inside k) (named k c.in-Semicolon.is))
@@ -120,7 +120,7 @@ enum-told-3 c = search rules
 returns-2 : tie.Need-returns-in-Other invariant-loop decreases-loop
 unfolding class_named refusal
 returns-2 c =
-    let k = c.before.before in
+    let k = c.before in
     sym (k.loop-i.invariant ∙ fault-other _ _ (inside k) (named k c.in-Other.is))
 
 add-i : tie.Need-overflow_add-i-in-Blank invariant-loop decreases-loop

@@ -23,8 +23,8 @@ small c =
     let a = c.args in
     let l = c.loop-i in
     let word = a.word.now in
-    let n : length (part word a.start l.i) ≤ 9 = omega (arith, part_length word a.start l.i, c.loop-i-test.true, l.invariant.0, c.requires.end_bound.0) in
-    let ds = rw (← part_prefix word a.start l.i a.end l.invariant.1) at (digits-take (l.i - a.start) _ c.requires.end_bound.1) in
+    let n : length (part word a.start l.i) ≤ 9 = omega (arith, part_length word a.start l.i, c.loop-i-test.true, l.invariant.0, c.requires.1.0) in
+    let ds = rw (← part_prefix word a.start l.i a.end l.invariant.1) at (digits-take (l.i - a.start) _ c.requires.1.1) in
     let h = decimal-below (part word a.start l.i) 9 ds n in
     omega (arith, h, l.invariant.2)
 
@@ -33,8 +33,8 @@ digit c =
     let a = c.args in
     let l = c.loop-i in
     let word = a.word.now in
-    let n : l.i - a.start < length (part word a.start a.end) = omega (arith, part-whole word a.start a.end c.requires.start_le_end.1, c.loop-i-test.true, l.invariant.0) in
-    digit-range _ (rw (part_at word a.start a.end l.i l.invariant.0 c.loop-i-test.true) at (digits-at _ (l.i - a.start) c.requires.end_bound.1 n))
+    let n : l.i - a.start < length (part word a.start a.end) = omega (arith, part-whole word a.start a.end c.requires.0.1, c.loop-i-test.true, l.invariant.0) in
+    digit-range _ (rw (part_at word a.start a.end l.i l.invariant.0 c.loop-i-test.true) at (digits-at _ (l.i - a.start) c.requires.1.1 n))
 
 loop-holds : tie.Need-loop-i-init invariant-loop decreases-loop
 unfolding decimal decimal_from

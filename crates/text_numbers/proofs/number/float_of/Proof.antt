@@ -15,10 +15,10 @@ use Rattle.text_numbers.proofs.number.float_of.Tie as tie
 
 -- how many digits there are before the point and after it
 wholes : (c : tie.Start) → length (part c.args.word.now c.args.n.start c.args.n.end) ≡ c.args.n.end - c.args.n.start
-wholes c = part-whole c.args.word.now c.args.n.start c.args.n.end c.requires.start_le_end.1
+wholes c = part-whole c.args.word.now c.args.n.start c.args.n.end c.requires.0.1
 
 fractions : (c : tie.Start) → length (part c.args.word.now c.args.from c.args.last) ≡ c.args.last - c.args.from
-fractions c = part-whole c.args.word.now c.args.from c.args.last c.requires.from_le_last.0.1
+fractions c = part-whole c.args.word.now c.args.from c.args.last c.requires.1.0.1
 
 -- what the two values are, and that together they are small
 small : (c : tie.After-power) → c.decimal-units.result * 1000000 + c.decimal-parts.result * c.power.result ≡ millionths (part c.args.word.now c.args.n.start c.args.n.end) (part c.args.word.now c.args.from c.args.last)
@@ -27,7 +27,7 @@ small c = millionths-made _ _ _ _ c.decimal-units.ensures c.decimal-parts.ensure
 below : (c : tie.After-power) → c.decimal-units.result * 1000000 + c.decimal-parts.result * c.power.result < 10 ^ 13
 below c =
     let b = c.before.before.before.before.before.before in
-    rw (small c) (millionths-below _ _ b.requires.from_le_last.1.0 b.requires.from_le_last.1.1 (rw (wholes b) c.if-end-start-gt7.false) (rw (fractions b) c.if-last-from-gt6.false))
+    rw (small c) (millionths-below _ _ b.requires.1.1.0 b.requires.1.1.1 (rw (wholes b) c.if-end-start-gt7.false) (rw (fractions b) c.if-last-from-gt6.false))
 
 sub-if1 : tie.Need-overflow_sub-end
 sub-if1 c = search rules
@@ -52,7 +52,7 @@ decimal-requires-2 c κs = let p = c.requires in (p.1.0, (omega (arith, c.if-las
 mul-with-sign : tie.Need-overflow_mul-units
 mul-with-sign c =
     let b = c.before.before.before.before.before in
-    let h = decimal-below _ 7 b.requires.from_le_last.1.0 (rw (wholes b) c.if-end-start-gt7.false) in
+    let h = decimal-below _ 7 b.requires.1.1.0 (rw (wholes b) c.if-end-start-gt7.false) in
     omega (arith, rw (← c.decimal-units.ensures) at h)
 
 sub-power : tie.Need-overflow_sub-last-2

@@ -10,22 +10,22 @@ past : (n k : ℕ) → k ≤ n → (n ≡ k → ⊥) → k < n
 past d k h e = omega arith
 
 returns : tie.Need-returns-in-0
-returns c = rw c.in_default.keys1
+returns c = rw c.in-0.is
 
 returns-2 : tie.Need-returns-in-1
-returns-2 c = rw c.in_default.keys2
+returns-2 c = rw c.in-1.is
 
 returns-3 : tie.Need-returns-in-2
-returns-3 c = rw c.in_default.keys3
+returns-3 c = rw c.in-2.is
 
 returns-4 : tie.Need-returns-in-3
-returns-4 c = rw c.in_default.keys4
+returns-4 c = rw c.in-3.is
 
 returns-5 : tie.Need-returns-in-4
-returns-5 c = rw c.in_default.keys5
+returns-5 c = rw c.in-4.is
 
 returns-6 : tie.Need-returns-in-5
-returns-6 c = rw c.in_default.keys6
+returns-6 c = rw c.in-5.is
 
 returns-7 : tie.Need-returns-in_default
 returns-7 c =

@@ -23,10 +23,10 @@ bounded n most z e h = leb-true _ _ (sym (ap (λ (n : Parsed). within most (numb
 
 -- the number and the exponent fit their bits
 number_fits : (c : tie.In-Value) → SFits w64 c.in-Value.z
-number_fits c = record { sfits = c.in-Value.known_told-1-own.given.0.1 }
+number_fits c = record { sfits = c.known_told-1.given.0.1 }
 
 exponent-fits : (c : tie.In-Value-exponent-2) → SFits w64 c.in-Value-exponent-2.e
-exponent-fits c = record { sfits = c.in-Value-exponent-2.known_told-in-Value-1-own.given.0.1 }
+exponent-fits c = record { sfits = c.known_told-in-Value-1.given.0.1 }
 
 enum_told : tie.Need-enum_told-1
 enum_told c = search rules
@@ -57,7 +57,7 @@ enum-known-exponent c = search rules
 
 raise-requires : tie.Need-raise-requires
 raise-requires c κs =
-    let k = c.before.before.before in
+    let k = c.before in
     let p = k.requires in
     rw (to_z-of_z (number_fits k), to_z-of_z (exponent-fits c)) (bounded _ _ _ k.in-Value.is p.0, bounded _ _ _ c.in-Value-exponent-2.is p.1)
 
@@ -88,7 +88,7 @@ returns-6 c = rw (c.in-Value.is, c.in-Beyond-exponent-2.is)
 returns-7 : tie.Need-returns-in-Value-exponent-2
 unfolding number_named times_power
 returns-7 c =
-    let k = c.before.before.before.before in
+    let k = c.before.before in
     rw (k.in-Value.is, c.in-Value-exponent-2.is) (rw (to_z-of_z (number_fits k), to_z-of_z (exponent-fits c.before)) at c.raise.ensures)
 
 pub times_power_spec : {M : Type 1} → statement M

@@ -51,7 +51,7 @@ loop-less c = search rules
 loop-again : tie.Need-loop-i-preserved-in-Blank invariant-loop decreases-loop
 unfolding class_named
 loop-again c =
-    let m = c.before.before in
+    let m = c.before in
     let e = named m c.in-Blank.is in
     (m.loop-i.invariant.0 ∙ lex_at-blank _ _ (inside m) e, search rules)
 
@@ -67,7 +67,7 @@ loop-less-2 c = search rules
 loop-again-2 : tie.Need-loop-i-preserved-in-Other invariant-loop decreases-loop
 unfolding class_named
 loop-again-2 c =
-    let m = c.before.before in
+    let m = c.before in
     let e = named m c.in-Other.is in
     (m.loop-i.invariant.0 ∙ lex_at-other _ _ (inside m) e, search rules)
 
@@ -86,7 +86,7 @@ loop-less-3 c = search rules
 loop-again-3 : tie.Need-loop-i-preserved invariant-loop decreases-loop
 unfolding class_named test_named
 loop-again-3 c =
-    let m = c.before.before.before in
+    let m = c.before.before in
     let a = m.args in
     let i = m.loop-i.i in
     let e = named m c.in-Semicolon.is in
@@ -102,7 +102,7 @@ add-t12 c = search rules
 returns : tie.Need-returns-in-Opener invariant-loop decreases-loop
 unfolding class_named kind_of width_of bytes_of
 returns c =
-    let m = c.before.before in
+    let m = c.before in
     let l = m.loop-i in
     let h = inside m in
     next_earlier _ _ l.i _ l.invariant.0 l.invariant.1
@@ -117,7 +117,7 @@ add-t14 c = search rules
 returns-2 : tie.Need-returns-in-Closer invariant-loop decreases-loop
 unfolding class_named kind_of width_of bytes_of
 returns-2 c =
-    let m = c.before.before in
+    let m = c.before in
     let l = m.loop-i in
     let h = inside m in
     next_earlier _ _ l.i _ l.invariant.0 l.invariant.1
@@ -128,7 +128,7 @@ enum-told-6 c = search rules
 
 quoted-requires : tie.Need-quoted-requires invariant-loop decreases-loop
 unfolding class_named
-quoted-requires c κs = let m = c.before.before in (inside m, named m c.in-Quote.is)
+quoted-requires c κs = let m = c.before in (inside m, named m c.in-Quote.is)
 
 returns-3 : tie.Need-returns-in-Quote invariant-loop decreases-loop
 returns-3 c =
@@ -140,7 +140,7 @@ enum-told-7 c = search rules
 
 plain-requires : tie.Need-plain-requires invariant-loop decreases-loop
 unfolding class_named
-plain-requires c κs = let m = c.before.before in (inside m, named m c.in-Letter.is)
+plain-requires c κs = let m = c.before in (inside m, named m c.in-Letter.is)
 
 returns-4 : tie.Need-returns-in-Letter invariant-loop decreases-loop
 returns-4 c =

@@ -30,10 +30,10 @@ unfolding kind_of width_of bytes_of test_named
 returns c =
     let a = c.args in
     let text = a.text.now in
-    let within = run-within is_letter text (suc a.at) c.requires.at_in_bounds in
+    let within = run-within is_letter text (suc a.at) c.requires.0 in
     let end : c.run_end-end.result ≡ suc a.at + length (run is_letter (drop (suc a.at) text)) = rw (← add-one a.at) c.run_end-end.ensures in
     spanned text a.at (plain (get_or text a.at 0 ∷ run is_letter (drop (suc a.at) text))) _ _ _ refl (omega arith) (omega arith)
-    (next_plain text a.at c.requires.at_in_bounds c.requires.at_value)
+    (next_plain text a.at c.requires.0 c.requires.1)
 
 pub plain_spec : {M : Type 1} → statement M
 plain_spec = tie.close (tie.spec add-run-end run-end-requires sub-t4 returns)

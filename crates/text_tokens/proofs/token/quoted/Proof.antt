@@ -1,6 +1,5 @@
 -- `quoted` is the next token: the run of content from after its quote, and the closing quote where there is one.
 use mathlib.Core.Path.{◌≡◌, refl}
-use mathlib.Core.Logic.{⊎_elim}
 use Prim.Native.Nat.{◌+◌, suc}
 use native.Mathlib.Omega.{arith}
 use native.Mathlib.Numerals.{add-one}
@@ -14,6 +13,7 @@ use Rattle.text_runs.specs.Internal.Answers.{test_named}
 use Rattle.text_runs.proofs.Runs.{run-within}
 use Rattle.text_tokens.proofs.Spans.{spanned, next_quoted}
 use Rattle.text_tokens.proofs.token.quoted.Statement.{statement}
+use Rattle.text_tokens.proofs.token.quoted.Goals.{then-last-text, else-last-text}
 use Rattle.text_tokens.proofs.token.quoted.Tie as tie
 
 add-run-end : tie.Need-overflow_add-at
@@ -37,12 +37,12 @@ returns c =
     let a = c.args in
     let text = a.text.now in
     let content = run in_string (drop (suc a.at) text) in
-    let within = run-within in_string text (suc a.at) c.requires.at_in_bounds in
+    let within = run-within in_string text (suc a.at) c.requires.0 in
     let last : c.run_end-last.result ≡ suc a.at + length content = rw (← add-one a.at) c.run_end-last.ensures in
     spanned text a.at (quoted content) _ _ _ refl
-    (⊎_elim (λ w. omega arith) (λ w. omega arith) c.if-last-text.branch)
+    (elim c.if-last-text.branch [ then-last-text w ↦ omega arith | else-last-text w ↦ omega arith ])
     (omega arith)
-    (next_quoted text a.at c.requires.at_in_bounds c.requires.at_value)
+    (next_quoted text a.at c.requires.0 c.requires.1)
 
 pub quoted_spec : {M : Type 1} → statement M
 quoted_spec = tie.close (tie.spec add-run-end run-end-requires add-end sub-t5 sub-t10 returns)

@@ -25,9 +25,9 @@ refused-requires c κs = search rules
 returns : tie.Need-returns-in-Refused
 unfolding format_named movement_outcome
 returns c =
-    let k = c.before.before.before.before in
+    let k = c.before.before in
     let a = k.args in
-    outcome_answered a.text.now (text-refused _ _ _ a.text.now (refused_by k.check_text.ensures c.in-Refused.is)) (refused_answered refl c.refused.ensures a.table-1.now)
+    outcome_answered a.text.now (text-refused _ _ _ a.text.now (refused_by k.check_text.ensures c.in-Refused.is)) (refused_answered refl c.refused.ensures a.table.now)
 
 enum_told : tie.Need-enum_told-1
 enum_told c = search rules
@@ -52,9 +52,9 @@ unfolding format_named movement_outcome parsed_as
 returns-2 c =
     let k = c.before.before.before.before.before.before.before in
     let t = k.before.before.before.before in
-    let b = t.before.before in
+    let b = t.before in
     let a = b.args in
-    outcome_answered a.text.now (text-clear _ _ _ a.text.now (clear_by b.check_text.ensures t.in_default.is)) (refused_answered (shape-refused a.text.now _ _ _ _ _ _ _ k.parse-p.ensures c.if-d-ne0.true) c.refused-then-d-ne0.ensures a.table-1.now)
+    outcome_answered a.text.now (text-clear _ _ _ a.text.now (clear_by b.check_text.ensures t.in_default.is)) (refused_answered (shape-refused a.text.now _ _ _ _ _ _ _ k.parse-p.ensures c.if-d-ne0.true) c.refused-then-d-ne0.ensures a.table.now)
 
 slice-aggregate-read-rows : tie.Need-slice_bounds-read_rows-end
 slice-aggregate-read-rows c = sym (c.parse-p.auto.1.0 ∙ length-replicate 2816 (pos 0))
@@ -70,7 +70,7 @@ unfolding format_named parsed_as
 read-rows-requires c κs =
     let k = c.before.before.before.before.before.before.before.before.before.before in
     let t = k.before.before.before.before in
-    let b = t.before.before in
+    let b = t.before in
     (shape-held b.args.text.now _ _ _ _ _ _ _ k.parse-p.ensures c.if-d-ne0.false (text-short _ _ (clear_by b.check_text.ensures t.in_default.is)) (length-replicate 2816 (pos 0)) (length-replicate 8192 (pos 0)) (length-replicate 768 (pos 0))).held
 
 same_length : tie.Need-shape_of-table
@@ -81,7 +81,7 @@ unfolding format_named movement_outcome parsed_as
 returns-3 c =
     let k = c.before.before.before.before.before.before.before.before.before.before.before.before in
     let t = k.before.before.before.before in
-    let b = t.before.before in
+    let b = t.before in
     let a = b.args in
     let e = clear_by b.check_text.ensures t.in_default.is in
     outcome_answered a.text.now (text-clear _ _ _ a.text.now e)

@@ -33,13 +33,13 @@ enum_told c = search rules
 
 set-down-requires : tie.Need-set_down-requires
 set-down-requires c κs =
-    let f = c.before.before.before in
+    let f = c.before.before in
     rows_fit f.requires (clear_by (rules_are f) c.in-Clear.is)
 
 returns : tie.Need-returns-in-Refused
 returns c =
-    let f = c.before.before.before.before in
-    let t = f.args.table-1.now in
+    let f = c.before.before in
+    let t = f.args.table.now in
     let e = refused_by (rules_are f) c.in-Refused.is in
     record { outcome = λ h. broken_rows h e c.refused.ensures t }
 
@@ -48,10 +48,10 @@ same_length c = search rules
 
 returns-2 : tie.Need-returns-in-Clear
 returns-2 c =
-    let f = c.before.before.before.before.before in
-    let t = f.args.table-1.now in
+    let f = c.before.before.before.before in
+    let t = f.args.table.now in
     let e = clear_by (rules_are f) c.in-Clear.is in
-    record { outcome = λ h. down_rows h e t _ c.set_down.ensures.answer c.set_down.ensures.content }
+    record { outcome = λ h. down_rows h e t _ c.set_down.ensures.0 c.set_down.ensures.1 }
 
 pub read_rows_spec : {M : Type 1} → statement M
 read_rows_spec = tie.close (tie.spec key-count-requires first-fault-requires enum-known-number refused-requires enum_told set-down-requires returns same_length returns-2)

@@ -39,7 +39,7 @@ returns : tie.Need-returns-then-table-total
 unfolding total_of
 returns c =
     let a = c.args in
-    (c.refused.ensures ∙ sym (short-answer a.p (length a.table-1.now) c.if-table-total.true), short-table a.p _ a.table-1.now c.if-table-total.true)
+    (c.refused.ensures ∙ sym (short-answer a.p (length a.table.now) c.if-table-total.true), short-table a.p _ a.table.now c.if-table-total.true)
 
 cast-t23 : tie.Need-overflow_cast-place
 cast-t23 c = search rules
@@ -79,12 +79,12 @@ returns-2 c =
     let k0 = k1.before.before.before in
     let told = k0.before.before.before in
     let a = told.before.before.before.before.before in
-    let t = a.args.table-1.now in
+    let t = a.args.table.now in
     let first = first-numbers a.args.p.total _ a.args.p.place a.args.p.length (to_z-of_z {w = w64} {z = a.args.p.total} (record { sfits = told.struct_told-1.given.1.0.1 })) (omega (arith, a.requires.place)) (omega (arith, a.requires.size)) in
-    let l1 = laid-first t (a.args.p.total ∷ pos a.args.p.place ∷ pos a.args.p.length ∷ []) _ _ (k0.put-named.ensures.content ∙ ap (λ (l : List ℤ). overlay_at 0 l t) first) k0.put-named.ensures.next in
-    let l2 = laid_next t _ _ _ _ _ _ l1 k1.put_part-boned.ensures.content k1.put_part-boned.ensures.next in
-    let l3 = laid_next t _ _ _ _ _ _ l2 k2.put_part-keyed.ensures.content k2.put_part-keyed.ensures.next in
-    let l4 = laid_next t _ _ _ _ _ _ l3 k3.put_part.ensures.content k3.put_part.ensures.next in
+    let l1 = laid-first t (a.args.p.total ∷ pos a.args.p.place ∷ pos a.args.p.length ∷ []) _ _ (k0.put-named.ensures.0 ∙ ap (λ (l : List ℤ). overlay_at 0 l t) first) k0.put-named.ensures.1 in
+    let l2 = laid_next t _ _ _ _ _ _ l1 k1.put_part-boned.ensures.0 k1.put_part-boned.ensures.1 in
+    let l3 = laid_next t _ _ _ _ _ _ l2 k2.put_part-keyed.ensures.0 k2.put_part-keyed.ensures.1 in
+    let l4 = laid_next t _ _ _ _ _ _ l3 k3.put_part.ensures.0 k3.put_part.ensures.1 in
     (sym (long_answer a.args.p (length t) told.if-table-total.false), long_table a.args.p _ t _ told.if-table-total.false l4.0)
 
 pub set_down_spec : {M : Type 1} → statement M

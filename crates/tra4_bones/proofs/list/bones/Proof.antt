@@ -25,7 +25,7 @@ unfolding bytes
 returns c =
     let m = c.before.before in
     let n = m.before.before.before.before.before.before in
-    bones-from _ _ _ _ _ _ _ _ _ n.opened-start.ensures n.next_bone-first.ensures.key_rows_after m.more_bones.ensures
+    bones-from _ _ _ _ _ _ _ _ _ n.opened-start.ensures n.next_bone-first.ensures.0 m.more_bones.ensures
 
 pub bones_spec : {M : Type 1} → statement M
 bones_spec = tie.close (tie.spec opened-requires next-bone-requires more-bones-requires same_length same-length-2 returns)

@@ -20,7 +20,7 @@ same-length-2 c = search rules
 returns : tie.Need-returns
 returns c =
     let b = c.before.before.before.before in
-    (next_step _ _ _ _ _ _ _ _ _ _ b.requires.0 b.bone_tail-b.ensures.read, refl)
+    (next_step _ _ _ _ _ _ _ _ _ _ b.requires.0 b.bone_tail-b.ensures.0, refl)
 
 pub next_bone_spec : {M : Type 1} → statement M
 next_bone_spec = tie.close (tie.spec bone-tail-requires add-t15 same_length same-length-2 returns)

@@ -39,7 +39,7 @@ unfolding bytes
 returns c =
     let h = c.before.before.before in
     let l = h.before.before.before.before in
-    channels_end _ _ _ _ _ _ _ _ _ l.loop-seen.invariant.0 _ _ h.next_chunk-h.ensures.kind_value c.if-k-ge10.true
+    channels_end _ _ _ _ _ _ _ _ _ l.loop-seen.invariant.0 _ _ h.next_chunk-h.ensures.0 c.if-k-ge10.true
 
 channel-keys-requires : tie.Need-channel_keys-m-requires invariant-loop decreases-loop
 unfolding bytes
@@ -47,7 +47,7 @@ channel-keys-requires c κs =
     let e = c.before.before in
     let h = e.before.before.before in
     let l = h.before.before.before.before in
-    channel-sizes _ _ _ _ _ _ _ _ _ l.loop-seen.invariant.0 _ _ h.next_chunk-h.ensures.kind_value e.if-k-ge10.false h.next_chunk-h.ensures.seen_after.1
+    channel-sizes _ _ _ _ _ _ _ _ _ l.loop-seen.invariant.0 _ _ h.next_chunk-h.ensures.0 e.if-k-ge10.false h.next_chunk-h.ensures.1.1
 
 -- a chunk could open
 opened : (e : tie.Else-k-ge10 invariant-loop decreases-loop) → e.loop-seen.left ≡ 0 → ⊥
@@ -55,7 +55,7 @@ unfolding bytes
 opened e =
     let h = e.before.before.before in
     let l = h.before.before.before.before in
-    channel-left _ _ _ _ _ _ _ _ _ l.loop-seen.invariant.0 _ _ h.next_chunk-h.ensures.kind_value e.if-k-ge10.false h.next_chunk-h.ensures.seen_after.1
+    channel-left _ _ _ _ _ _ _ _ _ l.loop-seen.invariant.0 _ _ h.next_chunk-h.ensures.0 e.if-k-ge10.false h.next_chunk-h.ensures.1.1
 
 sub-left : tie.Need-overflow_sub-left invariant-loop decreases-loop
 sub-left c = omega (arith, opened c.before.before.before.before.before.before)
@@ -71,7 +71,7 @@ loop-again c =
     let h = e.before.before.before in
     let l = h.before.before.before.before in
     let s = y.channel_keys-m.auto in (
-      channel_on _ _ _ _ _ _ _ _ _ l.loop-seen.invariant.0 _ _ h.next_chunk-h.ensures.kind_value e.if-k-ge10.false h.next_chunk-h.ensures.seen_after.1 _ _ y.channel_keys-m.ensures _ h.next_chunk-h.ensures.seen_after.0,
+      channel_on _ _ _ _ _ _ _ _ _ l.loop-seen.invariant.0 _ _ h.next_chunk-h.ensures.0 e.if-k-ge10.false h.next_chunk-h.ensures.1.1 _ _ y.channel_keys-m.ensures _ h.next_chunk-h.ensures.1.0,
       h.next_chunk-h.auto.1.1.1.1.0 ∙ l.loop-seen.invariant.1,
       s.1.1.1.0 ∙ l.loop-seen.invariant.2,
       s.1.1.1.1.0 ∙ l.loop-seen.invariant.3,

@@ -23,7 +23,7 @@ unfolding bytes form_named
 returns c =
     let s = c.before.before.before.before in
     let a = s.before.before.before.before in
-    keys-refused _ _ _ _ _ _ _ _ _ _ a.requires.0 s.some_rows-read.ensures.meaning c.if-d-ne0.true _
+    keys-refused _ _ _ _ _ _ _ _ _ _ a.requires.0 s.some_rows-read.ensures.0 c.if-d-ne0.true _
 
 same-length-2 : tie.Need-shape_of-keys-then-over
 same-length-2 c = search rules
@@ -33,7 +33,7 @@ unfolding bytes form_named
 returns-2 c =
     let s = c.before.before.before.before.before in
     let a = s.before.before.before.before in
-    keys-over _ _ _ _ _ _ _ _ _ _ a.requires.0 s.some_rows-read.ensures.meaning c.if-over.true
+    keys-over _ _ _ _ _ _ _ _ _ _ a.requires.0 s.some_rows-read.ensures.0 c.if-over.true
 
 sub-if3 : tie.Need-overflow_sub-count
 sub-if3 c = search rules
@@ -46,7 +46,7 @@ unfolding bytes form_named
 returns-3 c =
     let s = c.before.before.before.before.before.before in
     let a = s.before.before.before.before in
-    keys-many _ _ _ _ _ _ _ _ _ _ a.requires.0 s.some_rows-read.ensures.meaning c.if-over.false c.if-count-n.true
+    keys-many _ _ _ _ _ _ _ _ _ _ a.requires.0 s.some_rows-read.ensures.0 c.if-over.false c.if-count-n.true
 
 mul-store : tie.Need-overflow_mul-k
 mul-store c = search rules
@@ -80,7 +80,7 @@ returns-4 c =
     let a = s.before.before.before.before in
     let first : a.args.count < 2 ^ 63 = omega (arith, a.requires.3) in
     let size : s.some_rows-read.result.count < 2 ^ 63 = omega (arith, f.if-count-n.false) in
-    keys_more _ _ _ _ _ _ _ _ _ _ a.requires.0 s.some_rows-read.ensures.meaning _ f.if-over.false f.if-count-n.false (rw (bits_pos a.args.count first, bits_pos s.some_rows-read.result.count size) at c.store.ensures)
+    keys_more _ _ _ _ _ _ _ _ _ _ a.requires.0 s.some_rows-read.ensures.0 _ f.if-over.false f.if-count-n.false (rw (bits_pos a.args.count first, bits_pos s.some_rows-read.result.count size) at c.store.ensures)
 
 pub channel_keys_spec : {M : Type 1} → statement M
 channel_keys_spec = tie.close (tie.spec mul-some-rows some-rows-requires same_length returns same-length-2 returns-2 sub-if3 same-length-3 returns-3 mul-store cast-t24 cast-t25 slice-aggregate-store store-requires add-t18 same-length-4 same-length-5 returns-4)

@@ -91,7 +91,7 @@ step c more =
 
 returns : tie.Need-returns-in-Refused invariant-loop decreases-loop
 unfolding Walked
-returns c more = let b = c.before.before.before in step b more ∙ or-fault _ (refused_by refl c.in-Refused.is)
+returns c more = let b = c.before in step b more ∙ or-fault _ (refused_by refl c.in-Refused.is)
 
 enum_told : tie.Need-enum_told-1 invariant-loop decreases-loop
 enum_told c = search rules
@@ -101,7 +101,7 @@ loop-less c = search rules
 
 loop-again : tie.Need-loop-column-preserved invariant-loop decreases-loop
 loop-again c =
-    let b = c.before.before in
+    let b = c.before in
     let r = b.before.before in
     let e = r.rows_within-count.ensures in
     (omega arith, omega arith, λ more. rw (to_z-of_z r.ranges.total) (step b more ∙ or-clear _ (clear_by refl c.in-Clear.is)))

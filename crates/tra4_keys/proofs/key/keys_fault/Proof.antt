@@ -80,7 +80,7 @@ opened c =
 
 returns-2 : tie.Need-returns-in-Refused invariant-loop decreases-loop
 unfolding refusal
-returns-2 c = let b = c.before.before.before in sym (opened b ∙ walked_fault _ _ _ _ (told b) c.in-Refused.is _)
+returns-2 c = let b = c.before in sym (opened b ∙ walked_fault _ _ _ _ (told b) c.in-Refused.is _)
 
 enum-known-next : tie.Need-enum_known-next invariant-loop decreases-loop
 enum-known-next c = search rules
@@ -90,7 +90,7 @@ loop-less c = search rules
 
 loop-again : tie.Need-loop-i-preserved invariant-loop decreases-loop
 loop-again c =
-    let b = c.before.before.before in
+    let b = c.before in
     let l = b.before.before.before.before in
     let e = c.in-At.is in
     let f = c.if-bones-base-lt-MOVEMENT_BONE_WIDTH.false in

@@ -37,7 +37,7 @@ unfolding bytes form_named
 returns c =
     let o = c.before.before.before.before.before.before.before.before in
     let n = c.before.before.before.before.before.before.before.before.before.before.before in
-    pattern-read _ _ _ _ _ _ _ _ _ _ _ _ n.keyword.ensures n.numbers-d.ensures.meaning o.one_of-n.ensures c.advance.ensures (rw (to_z-of_z {w = w64} {z = o.one_of-n.result.value} (record { sfits = c.struct_told-1.given.1.0.1 })) at c.store.ensures) c.closing.ensures
+    pattern-read _ _ _ _ _ _ _ _ _ _ _ _ n.keyword.ensures n.numbers-d.ensures.0 o.one_of-n.ensures c.advance.ensures (rw (to_z-of_z {w = w64} {z = o.one_of-n.result.value} (record { sfits = c.struct_told-1.given.1.0.1 })) at c.store.ensures) c.closing.ensures
 
 pub pattern_tail_spec : {M : Type 1} → statement M
 pattern_tail_spec = tie.close (tie.spec keyword-requires numbers-requires one-of-requires advance-requires slice-aggregate-store store-requires closing-requires same_length returns)

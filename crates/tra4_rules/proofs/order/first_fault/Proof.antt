@@ -25,7 +25,7 @@ no-counts : (c : tie.In-Clear) → let a = c.args in too_many 0 (a.bone_count �
 no-counts c = clear_by c.counts_fault.ensures c.in-Clear.is
 
 no-total : (c : tie.In-Clear-total_fault) → total_fault c.args.total ≡ clear
-no-total c = clear_by (total-told c.before.before) c.in-Clear-total_fault.is
+no-total c = clear_by (total-told c.before) c.in-Clear-total_fault.is
 
 counts-fault-requires : tie.Need-counts_fault-requires
 counts-fault-requires c κs = search rules
@@ -64,23 +64,23 @@ returns c = sym (or-fault _ (refused_by c.counts_fault.ensures c.in-Refused.is))
 returns-2 : tie.Need-returns-in-Refused-total_fault
 unfolding refusal tables_fault
 returns-2 c =
-    let t = c.before.before.before in
+    let t = c.before in
     sym (or-clear _ (no-counts t.before) ∙ or-fault _ (refused_by (total-told t) c.in-Refused-total_fault.is))
 
 returns-3 : tie.Need-returns-in-Refused-keys_fault
 unfolding refusal tables_fault
 returns-3 c =
-    let k = c.before.before.before in
-    sym (or-clear _ (no-counts k.before.before.before.before) ∙ or-clear _ (no-total k.before) ∙ or-fault _ (refused_by (keys-told k) c.in-Refused-keys_fault.is))
+    let k = c.before in
+    sym (or-clear _ (no-counts k.before.before.before) ∙ or-clear _ (no-total k.before) ∙ or-fault _ (refused_by (keys-told k) c.in-Refused-keys_fault.is))
 
 returns-4 : tie.Need-returns-in-Clear-keys_fault
 unfolding refusal tables_fault
 returns-4 c =
     let e = c.before in
-    let k = e.before.before in
-    let s = k.before.before.before.before.before.before.before in
+    let k = e.before in
+    let s = k.before.before.before.before.before in
     rw (to_z-of_z s.ranges.total) at c.patterns_fault.ensures
-    ∙ sym (or-clear _ (no-counts k.before.before.before.before) ∙ or-clear _ (no-total k.before) ∙ or-clear _ (clear_by (keys-told k) e.in-Clear-keys_fault.is))
+    ∙ sym (or-clear _ (no-counts k.before.before.before) ∙ or-clear _ (no-total k.before) ∙ or-clear _ (clear_by (keys-told k) e.in-Clear-keys_fault.is))
 
 pub first_fault_spec : {M : Type 1} → statement M
 first_fault_spec = tie.close (tie.spec counts-fault-requires enum-known-number enum_told total-fault-requires enum-known-number-2 enum-told-2 keys-fault-requires enum-known-number-3 enum-told-3 patterns-fault-requires returns returns-2 returns-3 returns-4)

@@ -11,37 +11,28 @@ use borrow.Author.Rules.{rules}
 use Rattle.why_listing.proofs.reasons.append_head.Statement.{statement}
 use Rattle.why_listing.proofs.reasons.append_head.Tie as tie
 
-slice-aggregate-append : tie.Need-slice-aggregate-append
-slice-aggregate-append c = search rules
-
-append-requires : tie.Need-append-requires
+append-requires : tie.Need-append-word-requires
 append-requires c κs = search rules
 
-slice-aggregate-append-2 : tie.Need-slice-aggregate-append-2
-slice-aggregate-append-2 c = search rules
-
-append-requires-2 : tie.Need-append-requires-2
+append-requires-2 : tie.Need-append-first-requires
 append-requires-2 c κs = search rules
 
 shown-requires : tie.Need-shown-requires
 shown-requires c κs = search rules
 
-append-number-requires : tie.Need-append-number-requires
+append-number-requires : tie.Need-append_number-row-requires
 append-number-requires c κs = search rules
 
-slice-aggregate-append-3 : tie.Need-slice-aggregate-append-3
-slice-aggregate-append-3 c = search rules
-
-append-requires-3 : tie.Need-append-requires-3
+append-requires-3 : tie.Need-append-second-requires
 append-requires-3 c κs = search rules
 
 shown-requires-2 : tie.Need-shown-requires-2
 shown-requires-2 c κs = search rules
 
-append-number-requires-2 : tie.Need-append-number-requires-2
+append-number-requires-2 : tie.Need-append_number-requires
 append-number-requires-2 c κs = search rules
 
-same_length : tie.Need-same-length
+same_length : tie.Need-shape_of-buf
 same_length c = search rules
 
 returns : tie.Need-returns
@@ -54,24 +45,10 @@ returns c =
     let s1 = k3.before in
     let k2 = s1.before.before.before.before in
     let k1 = k2.before.before.before.before.before in
-    let a = k1.before.before.before.before.args in
-    let row : output k3.append-number.result k3.append-number.new.0 ≡ appended (output k2.append2.result k2.append2.new.0) (numeral (to_z w64 (of_z w64 s1.shown.result))) = k3.append-number.ensures in
-    let frame : output k5.append-number2.result k5.append-number2.new.0 ≡ appended (output k4.append3.result k4.append3.new.0) (numeral (to_z w64 (of_z w64 s2.shown2.result))) = k5.append-number2.ensures in
-    head-put a.face a.at a.n _ a.buf.now _ _ _ _ _ k1.append.ensures k2.append2.ensures (rw (held a.face _ s1.shown.ensures) at row) k4.append3.ensures (rw (held a.at _ s2.shown2.ensures) at frame)
+    let a = k1.args in
+    let row : output k3.append_number-row.result k3.append_number-row.new.0 ≡ appended (output k2.append-first.result k2.append-first.new.0) (numeral (to_z w64 (of_z w64 s1.shown.result))) = k3.append_number-row.ensures in
+    let frame : output k5.append_number.result k5.append_number.new.0 ≡ appended (output k4.append-second.result k4.append-second.new.0) (numeral (to_z w64 (of_z w64 s2.shown-2.result))) = k5.append_number.ensures in
+    head-put a.face a.at a.n _ a.buf.now _ _ _ _ _ k1.append-word.ensures k2.append-first.ensures (rw (held a.face _ s1.shown.ensures) at row) k4.append-second.ensures (rw (held a.at _ s2.shown-2.ensures) at frame)
 
-pub append-head-spec : {M : Type 1} → statement M
-append-head-spec =
-    tie.close
-    (tie.spec
-    slice-aggregate-append
-    append-requires
-    slice-aggregate-append-2
-    append-requires-2
-    shown-requires
-    append-number-requires
-    slice-aggregate-append-3
-    append-requires-3
-    shown-requires-2
-    append-number-requires-2
-    same_length
-    returns)
+pub append_head_spec : {M : Type 1} → statement M
+append_head_spec = tie.close (tie.spec append-requires append-requires-2 shown-requires append-number-requires append-requires-3 shown-requires-2 append-number-requires-2 same_length returns)

@@ -25,64 +25,52 @@ use Rattle.why_listing.proofs.reasons.list_why.Tie as tie
 abbrev Frame : FigureCounts → List ℤ → MovementCounts → List ℤ → ℕ → ℕ → List (List ℕ)
 Frame n table m moves face at = why_parts face at (numbered (why_in n table m moves face at))
 
-abbrev invariant-loop : tie.invariant-loop
+abbrev invariant-loop : tie.invariant-loop-at
 invariant-loop buf₀ table n moves m face first end filled₀ at₀ buf filled at =
     (length buf ≡ length buf₀)
     × (appended_each (output 0 buf₀) (lines_from (Frame n table m moves face) first (end - first)) ≡ appended_each (output filled buf) (lines_from (Frame n table m moves face) at (end - at)))
     × Short (Frame n table m moves face) 74 first at end
 
-abbrev decreases-loop : tie.decreases-loop
+abbrev decreases-loop : tie.decreases-loop-at
 decreases-loop buf₀ table n moves m face first end filled₀ at₀ buf filled at = end - at
 
-loop-holds : tie.Need-loop-init invariant-loop decreases-loop
+loop-holds : tie.Need-loop-at-init invariant-loop decreases-loop
 loop-holds c = (refl, refl, omega arith)
 
-why-requires : tie.Need-why-requires invariant-loop decreases-loop
+why-requires : tie.Need-why-answer-requires invariant-loop decreases-loop
 why-requires c κs = search rules
 
-append-why-requires : tie.Need-append-why-requires invariant-loop decreases-loop
+append-why-requires : tie.Need-append_why-filled-requires invariant-loop decreases-loop
 append-why-requires c κs = search rules
 
-add_at : tie.Need-overflow-add-at invariant-loop decreases-loop
+add_at : tie.Need-overflow_add-at invariant-loop decreases-loop
 add_at c = search rules
 
-loop-less : tie.Need-loop-smaller invariant-loop decreases-loop
+loop-less : tie.Need-loop-at-smaller invariant-loop decreases-loop
 loop-less c = search rules
 
-loop-again : tie.Need-loop-preserved invariant-loop decreases-loop
+loop-again : tie.Need-loop-at-preserved invariant-loop decreases-loop
 loop-again c =
     let k = c.before.before in
     let s = k.before.before in
-    let l = s.before.before.loop in
-    let a = s.before.before.before.before.args in
-    let h = s.before.loop-test.true in
+    let l = s.loop-at in
+    let a = s.args in
+    let h = s.loop-at-test.true in
     let f = Frame a.n a.table.now a.m a.moves.now a.face in
-    let put = frame_put l.filled a.face l.at _ l.buf _ (explained s.why.result) (numbered (why_in a.n a.table.now a.m a.moves.now a.face l.at)) s.why.ensures k.append-why.ensures in
-    (k.append-why.auto.0 ∙ l.invariant.0, rw add-one (l.invariant.1 ∙ turn_put f 74 l.at a.end l.filled _ l.buf _ h put.0), rw add-one (turn_short f 74 a.first l.at a.end h put.1 l.invariant.2))
+    let put = frame_put l.filled a.face l.at _ l.buf _ (explained s.why-answer.result) (numbered (why_in a.n a.table.now a.m a.moves.now a.face l.at)) s.why-answer.ensures k.append_why-filled.ensures in
+    (k.append_why-filled.auto.0 ∙ l.invariant.0, rw add-one (l.invariant.1 ∙ turn_put f 74 l.at a.end l.filled _ l.buf _ h put.0), rw add-one (turn_short f 74 a.first l.at a.end h put.1 l.invariant.2))
 
-same_length : tie.Need-same-length invariant-loop decreases-loop
-same_length c = c.before.loop.invariant.0
+same_length : tie.Need-shape_of-buf invariant-loop decreases-loop
+same_length c = c.loop-at.invariant.0
 
 returns : tie.Need-returns invariant-loop decreases-loop
 unfolding why_lines why_text
 returns c =
-    let l = c.before.loop in
-    let a = c.before.before.before.args in
+    let l = c.loop-at in
+    let a = c.args in
     let f = Frame a.n a.table.now a.m a.moves.now a.face in
-    let h = c.loop-test.false in
+    let h = c.loop-at-test.false in
     all_put f 74 a.first a.end l.filled a.buf.now l.buf (all_lines f 74 a.first l.at a.end 0 _ _ l.buf h l.invariant.1) (all_short f 74 a.first l.at a.end h l.invariant.2)
 
-pub list-why-spec : {M : Type 1} → statement M
-list-why-spec =
-    tie.close
-    (tie.spec
-    invariant-loop
-    decreases-loop
-    loop-holds
-    why-requires
-    append-why-requires
-    add_at
-    loop-less
-    loop-again
-    same_length
-    returns)
+pub list_why_spec : {M : Type 1} → statement M
+list_why_spec = tie.close (tie.spec invariant-loop decreases-loop loop-holds why-requires append-why-requires add_at loop-less loop-again same_length returns)
