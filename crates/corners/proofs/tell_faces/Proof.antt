@@ -6,7 +6,7 @@ use lib.ListN.{length}
 use lib.Seq.{length-take-le}
 use borrow.Author.Rules.{rules}
 use Rattle.corners.proofs.tell_faces.Statement.{statement}
-use Rattle.corners.proofs.tell_faces.Goals.{then-faces-face-gt32, else-faces-face-gt32}
+use Rattle.corners.proofs.tell_faces.Lts.{then-faces-face-gt32, else-faces-face-gt32}
 use Rattle.corners.proofs.tell_faces.Tie as tie
 
 abbrev invariant-loop : tie.invariant-loop-face

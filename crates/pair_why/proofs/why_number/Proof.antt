@@ -17,7 +17,7 @@ unfolding explained
 returns c = rw c.in-Refused.is
 
 returns-2 : tie.Need-returns
-returns-2 c = sym (ap (λ (t : ℕ × ℕ × ℕ × Option Reason). t.0) (answered c.args.value c.in_default.keys2).1)
+returns-2 c = sym (ap (λ (t : ℕ × ℕ × ℕ × Option Reason). t.0) (answered c.args.value c.in_default.in_default-own.keys2).1)
 
 pub why_number_spec : {M : Type 1} → statement M
 why_number_spec = tie.close (tie.spec enum_told returns returns-2)

@@ -6,7 +6,7 @@ use lib.ListN.{length}
 use lib.Seq.{length-take-le}
 use borrow.Author.Rules.{rules}
 use Rattle.samples.proofs.tell_channel.Statement.{statement}
-use Rattle.samples.proofs.tell_channel.Goals.{then-total-at-gt256, else-total-at-gt256}
+use Rattle.samples.proofs.tell_channel.Lts.{then-total-at-gt256, else-total-at-gt256}
 use Rattle.samples.proofs.tell_channel.Tie as tie
 
 abbrev invariant-loop : tie.invariant-loop-at

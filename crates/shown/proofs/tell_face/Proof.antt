@@ -6,7 +6,7 @@ use lib.ListN.{length}
 use lib.Seq.{length-take-le}
 use borrow.Author.Rules.{rules}
 use Rattle.shown.proofs.tell_face.Statement.{statement}
-use Rattle.shown.proofs.tell_face.Goals.{then-total-at-gt256, else-total-at-gt256}
+use Rattle.shown.proofs.tell_face.Lts.{then-total-at-gt256, else-total-at-gt256}
 use Rattle.shown.proofs.tell_face.Tie as tie
 
 abbrev invariant-loop : tie.invariant-loop-at

@@ -64,7 +64,7 @@ returns-4 c =
     let t = k.before in
     let e = t.before.before in
     let f = v.value-1.given in
-    let fits : SFits w64 f.0.0 = record { sfits = v.known_told-1.given.0.1 } in
+    let fits : SFits w64 f.0.0 = record { sfits = v.in-Value.known_told-1-own.given.0.1 } in
     sym (head-value e.args.bytes.now e.if1.false _ t.run_end.ensures k.if-run_end-lt8.false i.int.result f.0.0 _ i.if-bytes-ne10.false i.int.ensures f.1 (c.magnitude.ensures ∙ ap nat_abs (to_z-of_z fits)))
 
 returns-5 : tie.Need-returns-in-Beyond

@@ -8,7 +8,7 @@ use lib.ListN.{length, drop}
 use Rattle.parse_spec.specs.Internal.Fields.{covers_all}
 use Rattle.parse_chunks.proofs.Stored.{covers_end, covers_past, covers_missing, covers_set, covers_free}
 use Rattle.parse_chunks.proofs.chunk.covers.Statement.{statement}
-use Rattle.parse_chunks.proofs.chunk.covers.Goals.{then-needed-i, else-needed-i}
+use Rattle.parse_chunks.proofs.chunk.covers.Lts.{then-needed-i, else-needed-i}
 use Rattle.parse_chunks.proofs.chunk.covers.Tie as tie
 
 abbrev invariant-loop : tie.invariant-loop-i

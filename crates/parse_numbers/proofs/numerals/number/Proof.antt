@@ -32,7 +32,7 @@ returns-2 : tie.Need-returns-in-Value
 unfolding number_named
 returns-2 c =
     let b = c.before in
-    rw (to_z-of_z {w = w64} {z = c.in-Value.value} (record { sfits = c.known_told-1.given.0.1 }))
+    rw (to_z-of_z {w = w64} {z = c.in-Value.value} (record { sfits = c.in-Value.known_told-1-own.given.0.1 }))
     (number-value _ _ _ b.next-t.ensures b.if-c-ne0.false _ _ (sym b.token_number.ensures ∙ ap number_named c.in-Value.is))
 
 returns-3 : tie.Need-returns-in-Beyond

@@ -55,7 +55,7 @@ returns-3 c = rw c.in-All.is (owned-with _)
 
 returns-4 : tie.Need-returns-in-Without
 unfolding reason_told corner_told
-returns-4 c = rw c.in-Without.is (corner-with _ c.args.group c.in_default.keys2)
+returns-4 c = rw c.in-Without.is (corner-with _ c.args.group c.in_default.in_default-own.keys2)
 
 pub first_reason_spec : {M : Type 1} → statement M
 first_reason_spec = tie.close (tie.spec enum_told returns enum-told-2 enum-told-3 enum-known-corners returns-2 returns-3 returns-4)

@@ -10,7 +10,7 @@ use lib.ListN.{length}
 use Rattle.table_rows.proofs.Tables.{overlay_at_past}
 use Rattle.table_rows.proofs.Chains.{middle}
 use Rattle.table_rows.proofs.rows.put.Statement.{statement}
-use Rattle.table_rows.proofs.rows.put.Goals.{then-rows-end, else-rows-end}
+use Rattle.table_rows.proofs.rows.put.Lts.{then-rows-end, else-rows-end}
 use Rattle.table_rows.proofs.rows.put.Tie as tie
 
 -- where the part begins and ends

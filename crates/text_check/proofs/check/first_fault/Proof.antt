@@ -132,7 +132,7 @@ loop-less-3 c = search rules
 loop-again-3 : tie.Need-loop-i-preserved invariant-loop decreases-loop
 loop-again-3 c =
     let k = c.before in
-    rw add-one (k.loop-i.invariant ∙ fault_pass _ _ (inside k) (ap passes (sym k.class_of.ensures) ∙ ordinary _ c.in-Blank.keys4))
+    rw add-one (k.loop-i.invariant ∙ fault_pass _ _ (inside k) (ap passes (sym k.class_of.ensures) ∙ ordinary _ c.in-Blank.in-Blank-own.keys4))
 
 returns-3 : tie.Need-returns invariant-loop decreases-loop
 unfolding refusal

@@ -29,7 +29,7 @@ returns-6 c = rw c.in-5.is
 
 returns-7 : tie.Need-returns-in_default
 returns-7 c =
-    let r = c.in_default.rest in
+    let r = c.in_default.in_default-own.rest in
     let d = c.args.d in
     rw (le_antisymm c.requires (past d 5 (past d 4 (past d 3 (past d 2 (past d 1 (past d 0 zero-le r.0.0.0.0.0.1) r.0.0.0.0.1) r.0.0.0.1) r.0.0.1) r.0.1) r.1))
 

@@ -23,10 +23,10 @@ bounded n most z e h = leb-true _ _ (sym (ap (λ (n : Parsed). within most (numb
 
 -- the number and the exponent fit their bits
 number_fits : (c : tie.In-Value) → SFits w64 c.in-Value.z
-number_fits c = record { sfits = c.known_told-1.given.0.1 }
+number_fits c = record { sfits = c.in-Value.known_told-1-own.given.0.1 }
 
 exponent-fits : (c : tie.In-Value-exponent-2) → SFits w64 c.in-Value-exponent-2.e
-exponent-fits c = record { sfits = c.known_told-in-Value-1.given.0.1 }
+exponent-fits c = record { sfits = c.in-Value-exponent-2.known_told-in-Value-1-own.given.0.1 }
 
 enum_told : tie.Need-enum_told-1
 enum_told c = search rules

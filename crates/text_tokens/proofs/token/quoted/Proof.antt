@@ -13,7 +13,7 @@ use Rattle.text_runs.specs.Internal.Answers.{test_named}
 use Rattle.text_runs.proofs.Runs.{run-within}
 use Rattle.text_tokens.proofs.Spans.{spanned, next_quoted}
 use Rattle.text_tokens.proofs.token.quoted.Statement.{statement}
-use Rattle.text_tokens.proofs.token.quoted.Goals.{then-last-text, else-last-text}
+use Rattle.text_tokens.proofs.token.quoted.Lts.{then-last-text, else-last-text}
 use Rattle.text_tokens.proofs.token.quoted.Tie as tie
 
 add-run-end : tie.Need-overflow_add-at

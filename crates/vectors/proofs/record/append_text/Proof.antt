@@ -4,7 +4,7 @@ use lib.ListN.{length}
 use native.Mathlib.Omega.{arith}
 use borrow.Author.Rules.{rules}
 use Rattle.vectors.proofs.record.append_text.Statement.{statement}
-use Rattle.vectors.proofs.record.append_text.Goals.{then-b-eq92, else-b-eq92}
+use Rattle.vectors.proofs.record.append_text.Lts.{then-b-eq92, else-b-eq92}
 use Rattle.vectors.proofs.record.append_text.Tie as tie
 
 abbrev invariant-loop : tie.invariant-loop-i

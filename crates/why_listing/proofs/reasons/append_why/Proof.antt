@@ -36,7 +36,7 @@ returns-2 c =
     let h = k.before.before.before.before in
     let m = h.before.before in
     let a = m.args in
-    let r = answered a.answer m.in_default.keys2 in
+    let r = answered a.answer m.in_default.in_default-own.keys2 in
     reason_put a.n a.face a.at _ a.buf.now _ a.answer _ r.0 r.1 h.append_head-head.ensures k.append_reason-2.ensures
 
 pub append_why_spec : {M : Type 1} → statement M
