@@ -73,7 +73,7 @@ unfolding list_at
 loop-again c =
     let k = c.before.before in
     let l = k.loop-i in
-    (omega arith, k.append_list-p.auto.0 ∙ l.invariant.1, next_row _ l.i _ _ (omega arith) k.append_list-p.ensures ∙ l.invariant.2)
+    (omega arith, k.append_list-p.auto.buf ∙ l.invariant.1, next_row _ l.i _ _ (omega arith) k.append_list-p.ensures ∙ l.invariant.2)
 
 same_length : tie.Need-shape_of-buf invariant-loop decreases-loop
 same_length c = c.loop-i.invariant.1

@@ -45,7 +45,7 @@ loop-less c = elim c.if-faces-face-gt32.branch [ then-faces-face-gt32 w ↦ omeg
 loop-again : tie.Need-loop-face-preserved invariant-loop decreases-loop
 loop-again c =
     let l = c.before.before.before in
-    (elim c.if-faces-face-gt32.branch [ then-faces-face-gt32 w ↦ omega arith | else-faces-face-gt32 w ↦ omega arith ], l.list_corners-filled.auto.0 ∙ c.loop-face.invariant.1)
+    (elim c.if-faces-face-gt32.branch [ then-faces-face-gt32 w ↦ omega arith | else-faces-face-gt32 w ↦ omega arith ], l.list_corners-filled.auto.buf ∙ c.loop-face.invariant.1)
 
 returns : tie.Need-returns invariant-loop decreases-loop
 returns c = search rules

@@ -16,8 +16,8 @@ first-line-requires : tie.Need-first_line-filled-requires
 first-line-requires c κs = search rules
 
 -- what is filled lies within the buffer
-filled : (c : tie.After-first_line-filled) → c.first_line-filled.result ≤ length c.first_line-filled.new.0
-filled c = (within 0 c.first_line-filled.result _ c.first_line-filled.new.0 _ c.first_line-filled.ensures (omega arith)).0
+filled : (c : tie.After-first_line-filled) → c.first_line-filled.result ≤ length c.first_line-filled.new.buf
+filled c = (within 0 c.first_line-filled.result _ c.first_line-filled.new.buf _ c.first_line-filled.ensures (omega arith)).0
 
 array-share-prefix-out : tie.Need-slice_bounds-out-end
 array-share-prefix-out c = filled c.before

@@ -46,7 +46,7 @@ returns c =
     let k2 = s.before.before.before.before in
     let k1 = k2.before.before.before.before.before in
     let a = k1.args in
-    let row : output k3.append_number-row.result k3.append_number-row.new.0 ≡ appended (output k2.append-first.result k2.append-first.new.0) (numeral (to_z w64 (of_z w64 s.shown.result))) = k3.append_number-row.ensures in
+    let row : output k3.append_number-row.result k3.append_number-row.new.buf ≡ appended (output k2.append-first.result k2.append-first.new.buf) (numeral (to_z w64 (of_z w64 s.shown.result))) = k3.append_number-row.ensures in
     label-put a.bone a.name.now a.n _ a.buf.now _ _ _ _ _ _ k1.append-word.ensures k2.append-first.ensures (rw (held a.bone _ s.shown.ensures) at row) k4.append-second.ensures k5.append-end.ensures k6.append.ensures
 
 pub append_label_spec : {M : Type 1} → statement M

@@ -56,7 +56,7 @@ loop-again c =
     let h = s.loop-bone-test.true in
     let f = Label a.figure.now a.n a.table.now a.movement.now a.m a.moves.now in
     let put = label-put l.at l.bone _ l.buf _ _ _ s.label-name.ensures (label-most a.figure.now a.n a.table.now a.movement.now a.m a.moves.now l.bone) k.append_label-at.ensures in
-    (k.append_label-at.auto.0 ∙ l.invariant.0, rw add-one (l.invariant.1 ∙ turn_put f 283 l.bone a.n.bones l.at _ l.buf _ h put.0), rw add-one (turn_short f 283 0 l.bone a.n.bones h put.1 l.invariant.2))
+    (k.append_label-at.auto.buf ∙ l.invariant.0, rw add-one (l.invariant.1 ∙ turn_put f 283 l.bone a.n.bones l.at _ l.buf _ h put.0), rw add-one (turn_short f 283 0 l.bone a.n.bones h put.1 l.invariant.2))
 
 same_length : tie.Need-shape_of-buf invariant-loop decreases-loop
 same_length c = c.loop-bone.invariant.0

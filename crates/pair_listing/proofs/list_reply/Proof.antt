@@ -42,7 +42,7 @@ returns c =
     let s1 = s2.before in
     let t = s1.before.before.before in
     let a = t.args in
-    let e : output k.append_row.result k.append_row.new.0 ≡ appended (output 0 a.buf.now) (line (bytes "refused") (to_z w64 (of_z w64 s1.shown.result) ∷ to_z w64 (of_z w64 s2.shown-then-refusal-ne0.result) ∷ to_z w64 (of_z w64 s3.shown-then-refusal-ne0-2.result) ∷ [])) = k.append_row.ensures in
+    let e : output k.append_row.result k.append_row.new.buf ≡ appended (output 0 a.buf.now) (line (bytes "refused") (to_z w64 (of_z w64 s1.shown.result) ∷ to_z w64 (of_z w64 s2.shown-then-refusal-ne0.result) ∷ to_z w64 (of_z w64 s3.shown-then-refusal-ne0-2.result) ∷ [])) = k.append_row.ensures in
     refused_put a.refusal a.place a.file a.figure-total a.movement-total _ a.buf.now _ t.if-refusal-ne0.true
     (rw (held a.refusal _ s1.shown.ensures, held a.place _ s2.shown-then-refusal-ne0.ensures, held a.file _ s3.shown-then-refusal-ne0-2.ensures) at e)
 
@@ -66,7 +66,7 @@ returns-2 c =
     let s1 = s2.before in
     let t = s1.before.before.before in
     let a = t.args in
-    let e : output k.append_row-2.result k.append_row-2.new.0 ≡ appended (output 0 a.buf.now) (line (bytes "pair") (to_z w64 (of_z w64 s1.shown-2.result) ∷ to_z w64 (of_z w64 s2.shown-3.result) ∷ [])) = k.append_row-2.ensures in
+    let e : output k.append_row-2.result k.append_row-2.new.buf ≡ appended (output 0 a.buf.now) (line (bytes "pair") (to_z w64 (of_z w64 s1.shown-2.result) ∷ to_z w64 (of_z w64 s2.shown-3.result) ∷ [])) = k.append_row-2.ensures in
     taken_put a.refusal a.place a.file a.figure-total a.movement-total _ a.buf.now _ t.if-refusal-ne0.false
     (rw (held a.figure-total _ s1.shown-2.ensures, held a.movement-total _ s2.shown-3.ensures) at e)
 

@@ -36,7 +36,7 @@ returns c =
     let l = r.before.before.before.before in
     let a = l.args in
     rw (start_lines a.figure.now a.movement.now) at
-    (texts-put a.figure.now start_table a.movement.now start_moves l.load-answer.result l.load-answer.new.1.1.0 l.load-answer.new.1.1.1.0 l.load-answer.ensures.0 l.load-answer.ensures.1.0 l.load-answer.ensures.1.1 _ _ a.buf.now _ _ r.list_reply-filled.ensures.0 g.append_labels.ensures.0 g.append_labels.ensures.1)
+    (texts-put a.figure.now start_table a.movement.now start_moves l.load-answer.result l.load-answer.new.table l.load-answer.new.moves l.load-answer.ensures.0 l.load-answer.ensures.1.0 l.load-answer.ensures.1.1 _ _ a.buf.now _ _ r.list_reply-filled.ensures.0 g.append_labels.ensures.0 g.append_labels.ensures.1)
 
 pub list_texts_spec : {M : Type 1} → statement M
 list_texts_spec = tie.close (tie.spec slice-aggregate-load slice-aggregate-load-2 load-requires list-reply-requires slice-aggregate-append-labels slice-aggregate-append-labels-2 append-labels-requires same_length returns)

@@ -45,7 +45,7 @@ loop-less c = elim c.if-total-at-gt256.branch [ then-total-at-gt256 w ↦ omega 
 loop-again : tie.Need-loop-at-preserved invariant-loop decreases-loop
 loop-again c =
     let l = c.before.before.before in
-    (elim c.if-total-at-gt256.branch [ then-total-at-gt256 w ↦ omega arith | else-total-at-gt256 w ↦ omega arith ], l.list_shown-filled.auto.0 ∙ c.loop-at.invariant.1)
+    (elim c.if-total-at-gt256.branch [ then-total-at-gt256 w ↦ omega arith | else-total-at-gt256 w ↦ omega arith ], l.list_shown-filled.auto.buf ∙ c.loop-at.invariant.1)
 
 returns : tie.Need-returns invariant-loop decreases-loop
 returns c = search rules

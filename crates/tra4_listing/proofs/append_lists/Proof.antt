@@ -31,7 +31,7 @@ same_length c =
     let k3 = k4.before.before.before.before.before in
     let k2 = k3.before.before.before.before.before in
     let k1 = k2.before.before.before.before.before in
-    k5.append_list-patterns.auto.0 ∙ k4.append_list-keys.auto.0 ∙ k3.append_list-bones.auto.0 ∙ k2.append_list-names.auto.0 ∙ k1.append_list-frames.auto.0
+    k5.append_list-patterns.auto.buf ∙ k4.append_list-keys.auto.buf ∙ k3.append_list-bones.auto.buf ∙ k2.append_list-names.auto.buf ∙ k1.append_list-frames.auto.buf
 
 returns : tie.Need-returns
 unfolding put_of reached all_listed movement_lists bytes

@@ -56,13 +56,13 @@ returns-2 c =
     outcome_answered a.text.now (text-clear _ _ _ a.text.now (clear_by b.check_text.ensures t.in_default.is)) (refused_answered (shape-refused a.text.now _ _ _ _ _ _ _ k.parse-p.ensures c.if-d-ne0.true) c.refused-then-d-ne0.ensures a.table.now)
 
 slice-aggregate-read-rows : tie.Need-slice_bounds-read_rows-end
-slice-aggregate-read-rows c = sym (c.parse-p.auto.1.0 ∙ length-replicate 34912 (pos 0))
+slice-aggregate-read-rows c = sym (c.parse-p.auto.rows ∙ length-replicate 34912 (pos 0))
 
 slice-aggregate-read-rows-2 : tie.Need-slice_bounds-read_rows-end-2
-slice-aggregate-read-rows-2 c = sym (c.parse-p.auto.1.1.0 ∙ length-replicate 2048 (negsuc 0))
+slice-aggregate-read-rows-2 c = sym (c.parse-p.auto.owners ∙ length-replicate 2048 (negsuc 0))
 
 slice-aggregate-read-rows-3 : tie.Need-slice_bounds-read_rows-end-3
-slice-aggregate-read-rows-3 c = sym (c.parse-p.auto.1.1.1.0 ∙ length-replicate 64 (pos 0))
+slice-aggregate-read-rows-3 c = sym (c.parse-p.auto.names ∙ length-replicate 64 (pos 0))
 
 read-rows-requires : tie.Need-read_rows-requires
 unfolding format_named
@@ -73,7 +73,7 @@ read-rows-requires c κs =
     (shape-held b.args.text.now _ _ _ _ _ _ _ k.parse-p.ensures c.if-d-ne0.false (text-short _ _ (clear_by b.check_text.ensures t.in_default.is)) (length-replicate 34912 (pos 0)) refl (length-replicate 64 (pos 0))).held
 
 same_length : tie.Need-shape_of-table
-same_length c = c.read_rows.auto.0
+same_length c = c.read_rows.auto.table
 
 returns-3 : tie.Need-returns
 unfolding format_named figure_outcome

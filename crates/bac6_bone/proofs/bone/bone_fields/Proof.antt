@@ -65,8 +65,8 @@ loop-again c =
     let h = e.before.before.before in
     let l = h.before.before.before.before in (
       field_on _ _ _ _ _ _ _ _ _ l.loop-seen.invariant.0 _ _ h.next_chunk-h.ensures.0 e.if-k-ge7.false h.next_chunk-h.ensures.1.1 _ _ y.bone_value-m.ensures _ h.next_chunk-h.ensures.1.0,
-      h.next_chunk-h.auto.1.1.1.1.0 ∙ l.loop-seen.invariant.1,
-      y.bone_value-m.auto.1.1.1.1.1.1.0 ∙ l.loop-seen.invariant.2,
+      h.next_chunk-h.auto.seen ∙ l.loop-seen.invariant.1,
+      y.bone_value-m.auto.owners ∙ l.loop-seen.invariant.2,
     )
 
 pub bone_fields_spec : {M : Type 1} → statement M

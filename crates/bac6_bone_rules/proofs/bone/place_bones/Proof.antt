@@ -11,7 +11,7 @@ use Rattle.bac6_bone_rules.proofs.bone.place_bones.Statement.{statement}
 use Rattle.bac6_bone_rules.proofs.bone.place_bones.Tie as tie
 
 -- what the walk says
-walk : (c : tie.After-bones) {r : Walk} → c.bones.result ≡ r → Walked c.whole_rows-rows.result 0 c.args.table.now c.bones.new.0 (whole_list (flags_in c.args.count c.args.table.now)) r
+walk : (c : tie.After-bones) {r : Walk} → c.bones.result ≡ r → Walked c.whole_rows-rows.result 0 c.args.table.now c.bones.new.table (whole_list (flags_in c.args.count c.args.table.now)) r
 walk c e = whole_walk _ _ _ c.whole_rows-rows.ensures _ _ (walked_as _ _ _ _ c.bones.ensures refl e)
 
 whole-rows-requires : tie.Need-whole_rows-rows-requires

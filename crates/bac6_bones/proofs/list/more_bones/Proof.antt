@@ -33,7 +33,7 @@ rows_on : (r i n k len len' : ℕ) → len' ≡ len → k ≡ n + 1 → min i le
 rows_on r i n k len len' e f h g = omega arith
 
 -- a turn: the bones left are one fewer
-turn : (m : tie.After-next_bone-b invariant-loop decreases-loop) → from m.args.text.now m.loop-start.d (folded (bone_step m.args.points) bone (m.loop-start.count, m.loop-start.table, (fault_of m.loop-start.faulty m.loop-start.fault, m.loop-start.owners))) ≡ from m.args.text.now m.next_bone-b.result.cursor (folded (bone_step m.args.points) bone (m.next_bone-b.result.count, m.next_bone-b.new.1.1.1.1.0, (fault_of m.next_bone-b.result.faulty m.next_bone-b.result.fault, m.next_bone-b.new.1.1.1.1.1.1.0)))
+turn : (m : tie.After-next_bone-b invariant-loop decreases-loop) → from m.args.text.now m.loop-start.d (folded (bone_step m.args.points) bone (m.loop-start.count, m.loop-start.table, (fault_of m.loop-start.faulty m.loop-start.fault, m.loop-start.owners))) ≡ from m.args.text.now m.next_bone-b.result.cursor (folded (bone_step m.args.points) bone (m.next_bone-b.result.count, m.next_bone-b.new.table, (fault_of m.next_bone-b.result.faulty m.next_bone-b.result.fault, m.next_bone-b.new.owners)))
 turn m = folded_more _ bone bone_tail bone_takes bone_keeps bone_opens _ _ _ _ m.next_item-item.ensures _ _ _ m.next_bone-b.ensures.0 m.if-item.false
 
 falling : (m : tie.After-next_bone-b invariant-loop decreases-loop) → m.next_bone-b.result.cursor.refusal ≡ 0 → length (lex_at m.args.text.now m.next_bone-b.result.cursor.at) < length (lex_at m.args.text.now m.loop-start.d.at)
@@ -101,9 +101,9 @@ loop-again c =
     let fewer = falling m c.if-d-ne0.false in
     let one = m.next_bone-b.ensures.1 in (
       l.invariant.0 ∙ turn m,
-      m.next_bone-b.auto.1.1.1.1.0 ∙ l.invariant.1,
-      m.next_bone-b.auto.1.1.1.1.1.1.0 ∙ l.invariant.2,
-      rows_on c.advance-i.result l.i l.count _ _ _ m.next_bone-b.auto.1.1.1.1.0 one l.invariant.3 c.advance-i.ensures,
+      m.next_bone-b.auto.table ∙ l.invariant.1,
+      m.next_bone-b.auto.owners ∙ l.invariant.2,
+      rows_on c.advance-i.result l.i l.count _ _ _ m.next_bone-b.auto.table one l.invariant.3 c.advance-i.ensures,
       omega arith,
     )
 

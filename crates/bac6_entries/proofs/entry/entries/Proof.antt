@@ -72,7 +72,7 @@ loop-again : tie.Need-loop-t-preserved invariant-loop decreases-loop
 loop-again c =
     let m = c.before.before.before.before.before.before.before in
     let l = m.before.before.before.before in
-    (l.loop-t.invariant.0 ∙ read m ∙ from_on _ _ _ c.if-d-ne0.false ∙ entries_tried _ _ m.number-n.result.value _ _ _ (record { sfits = c.struct_told-1.given.1.0.1 }) c.tried-free.ensures, c.tried-free.auto.0 ∙ l.loop-t.invariant.1)
+    (l.loop-t.invariant.0 ∙ read m ∙ from_on _ _ _ c.if-d-ne0.false ∙ entries_tried _ _ m.number-n.result.value _ _ _ (record { sfits = c.struct_told-1.given.1.0.1 }) c.tried-free.ensures, c.tried-free.auto.owners ∙ l.loop-t.invariant.1)
 
 pub entries_spec : {M : Type 1} → statement M
 entries_spec = tie.close (tie.spec invariant-loop decreases-loop loop-holds next-requires is-closing-requires same_length returns number-requires same-length-2 returns-2 tried-requires loop-less loop-again)

@@ -32,7 +32,7 @@ abbrev decreases-loop : tie.decreases-loop-start
 decreases-loop text faces₀ count names₀ d₀ n₀ i₀ faces names d n i = length (lex_at text d.at)
 
 -- a turn: the groups left are one fewer
-turn : (m : tie.After-group_tail-g invariant-loop decreases-loop) → from m.args.text.now m.loop-start.d (folded group_step group ((m.loop-start.i, m.loop-start.names), (m.loop-start.n, m.loop-start.faces))) ≡ from m.args.text.now m.group_tail-g.result.cursor (folded group_step group ((m.loop-start.i + 1, m.group_tail-g.new.1.1.1.1.1.0), (m.group_tail-g.result.count, m.group_tail-g.new.1.1.1.0)))
+turn : (m : tie.After-group_tail-g invariant-loop decreases-loop) → from m.args.text.now m.loop-start.d (folded group_step group ((m.loop-start.i, m.loop-start.names), (m.loop-start.n, m.loop-start.faces))) ≡ from m.args.text.now m.group_tail-g.result.cursor (folded group_step group ((m.loop-start.i + 1, m.group_tail-g.new.names), (m.group_tail-g.result.count, m.group_tail-g.new.faces)))
 turn m = folded_more group_step group group_tail group_takes group_keeps group_opens _ _ _ _ m.next_item-item.ensures _ _ _ m.group_tail-g.ensures.0 m.if-item.false
 
 falling : (m : tie.After-group_tail-g invariant-loop decreases-loop) → m.group_tail-g.result.cursor.refusal ≡ 0 → length (lex_at m.args.text.now m.group_tail-g.result.cursor.at) < length (lex_at m.args.text.now m.loop-start.d.at)
@@ -96,7 +96,7 @@ loop-again c =
     let h = l.invariant.3 (alive _ _ _ _ _ b.next_item-item.ensures o) in
     let t = falls _ _ _ item_of _ item_takes b.next_item-item.ensures o in
     let e = m.group_tail-g.ensures.1 c.if-d-ne0.false in
-    (l.invariant.0 ∙ turn m, m.group_tail-g.auto.1.1.1.0 ∙ l.invariant.1, m.group_tail-g.auto.1.1.1.1.1.0 ∙ l.invariant.2, (λ _. omega arith), omega arith)
+    (l.invariant.0 ∙ turn m, m.group_tail-g.auto.faces ∙ l.invariant.1, m.group_tail-g.auto.names ∙ l.invariant.2, (λ _. omega arith), omega arith)
 
 pub group_list_spec : {M : Type 1} → statement M
 group_list_spec = tie.close (tie.spec invariant-loop decreases-loop loop-holds next-item-requires same_length same-length-2 returns group-tail-requires same-length-3 same-length-4 returns-2 add-i loop-less loop-again)

@@ -35,12 +35,12 @@ abbrev decreases-loop : tie.decreases-loop-start
 decreases-loop text group out₀ count d₀ n₀ out d n = length (lex_at text d.at)
 
 -- a turn: the faces left are one fewer
-stepping : (m : tie.After-face_tail-d invariant-loop decreases-loop) → reads m.args.text.now m.face_tail-d.result (m.loop-start.n + 1, m.face_tail-d.new.1.1.1.0) ≡ from m.args.text.now m.next_item-item.result.cursor (stepped (face_step (to_z w64 (of_z w64 m.args.group))) face_tail (m.loop-start.n, m.loop-start.out))
+stepping : (m : tie.After-face_tail-d invariant-loop decreases-loop) → reads m.args.text.now m.face_tail-d.result (m.loop-start.n + 1, m.face_tail-d.new.out) ≡ from m.args.text.now m.next_item-item.result.cursor (stepped (face_step (to_z w64 (of_z w64 m.args.group))) face_tail (m.loop-start.n, m.loop-start.out))
 stepping m =
     let l = m.loop-start in
     face-stepped _ l.n _ l.out m.row_index-to.ensures _ _ _ _ m.face_tail-d.ensures
 
-turn : (m : tie.After-face_tail-d invariant-loop decreases-loop) → from m.args.text.now m.loop-start.d (folded (face_step (to_z w64 (of_z w64 m.args.group))) face (m.loop-start.n, m.loop-start.out)) ≡ from m.args.text.now m.face_tail-d.result (folded (face_step (to_z w64 (of_z w64 m.args.group))) face (m.loop-start.n + 1, m.face_tail-d.new.1.1.1.0))
+turn : (m : tie.After-face_tail-d invariant-loop decreases-loop) → from m.args.text.now m.loop-start.d (folded (face_step (to_z w64 (of_z w64 m.args.group))) face (m.loop-start.n, m.loop-start.out)) ≡ from m.args.text.now m.face_tail-d.result (folded (face_step (to_z w64 (of_z w64 m.args.group))) face (m.loop-start.n + 1, m.face_tail-d.new.out))
 turn m = folded_more (face_step _) face face_tail face_takes face_keeps face_opens _ _ _ _ m.next_item-item.ensures _ _ _ (stepping m) m.if-item.false
 
 falling : (m : tie.After-face_tail-d invariant-loop decreases-loop) → m.face_tail-d.result.refusal ≡ 0 → length (lex_at m.args.text.now m.face_tail-d.result.at) < length (lex_at m.args.text.now m.loop-start.d.at)
@@ -97,7 +97,7 @@ loop-again c =
     let f = falling m c.if-d-ne0.false in
     let h = l.invariant.2 o in
     let k = l.invariant.3 o in
-    (l.invariant.0 ∙ turn m, m.face_tail-d.auto.1.1.1.0 ∙ l.invariant.1, (λ _. omega arith), (λ _. omega arith))
+    (l.invariant.0 ∙ turn m, m.face_tail-d.auto.out ∙ l.invariant.1, (λ _. omega arith), (λ _. omega arith))
 
 pub face_list_spec : {M : Type 1} → statement M
 face_list_spec = tie.close (tie.spec invariant-loop decreases-loop loop-holds next-item-requires same_length returns row-index-requires face-tail-requires same-length-2 returns-2 add-n loop-less loop-again)

@@ -40,7 +40,7 @@ normals-requires : tie.Need-normals-v-requires
 normals-requires c κs = search rules
 
 same_length : tie.Need-shape_of-rows
-same_length c = c.normals-v.auto.1.1.0 ∙ c.points-p.auto.1.1.0 ∙ c.materials-m.auto.1.1.0 ∙ c.section-k.auto.1.1.1.1.1.1.0 ∙ c.section-t.auto.1.1.1.1.1.1.0
+same_length c = c.normals-v.auto.rows ∙ c.points-p.auto.rows ∙ c.materials-m.auto.rows ∙ c.section-k.auto.out ∙ c.section-t.auto.out
 
 returns : tie.Need-returns
 unfolding front_into front_value name_into name_section optional_name texture_section colour_section reads head opened bytes form_named

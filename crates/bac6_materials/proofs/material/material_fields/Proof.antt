@@ -74,7 +74,7 @@ loop-again c =
     let z = v.material_value-v.result.value in
     rw (to_z-of_z {w = w64} {z = z} (record { sfits = c.struct_told-1.given.1.0.1 })) (
       field_on _ _ _ _ _ _ l.loop-seen.invariant.0 _ _ h.next_chunk-h.ensures.0 v.if-k-ge9.false h.next_chunk-h.ensures.1.1 _ _ v.material_value-v.ensures _ h.next_chunk-h.ensures.1.0,
-      h.next_chunk-h.auto.1.1.1.1.0 ∙ l.loop-seen.invariant.1,
+      h.next_chunk-h.auto.seen ∙ l.loop-seen.invariant.1,
       length-set l.loop-seen.row h.next_chunk-h.result.kind z ∙ l.loop-seen.invariant.2,
     )
 

@@ -28,7 +28,7 @@ read-end-requires : tie.Need-read_end-q-requires
 read-end-requires c κs = search rules
 
 same_length : tie.Need-shape_of-rows
-same_length c = c.read_end-q.auto.1.1.0 ∙ c.section-u.auto.1.1.1.1.1.1.0 ∙ c.read_bones-b.auto.1.1.1.0 ∙ c.read_front-f.auto.1.1.0
+same_length c = c.read_end-q.auto.rows ∙ c.section-u.auto.out ∙ c.read_bones-b.auto.rows ∙ c.read_front-f.auto.rows
 
 same-length-2 : tie.Need-shape_of-owners
 same-length-2 c = search rules

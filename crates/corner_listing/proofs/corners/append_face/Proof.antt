@@ -57,7 +57,7 @@ loop-again c =
     let h = s.loop-k-test.true in
     let f = Corner a.counts a.table.now a.face in
     let put = corner_put l.filled a.face l.k _ l.buf _ s.corner-answer.result _ s.corner-answer.ensures p.append_corner-filled.ensures in
-    (p.append_corner-filled.auto.0 ∙ l.invariant.0, omega arith, rw add-one (l.invariant.2 ∙ turn_put f 196 l.k 4 l.filled _ l.buf _ h put.0), rw add-one (turn_short f 196 0 l.k 4 h put.1 l.invariant.3))
+    (p.append_corner-filled.auto.buf ∙ l.invariant.0, omega arith, rw add-one (l.invariant.2 ∙ turn_put f 196 l.k 4 l.filled _ l.buf _ h put.0), rw add-one (turn_short f 196 0 l.k 4 h put.1 l.invariant.3))
 
 same_length : tie.Need-shape_of-buf invariant-loop decreases-loop
 same_length c = c.loop-k.invariant.0

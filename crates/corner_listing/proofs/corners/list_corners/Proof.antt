@@ -41,7 +41,7 @@ loop-again c =
     let a = p.args in
     let h = p.loop-face-test.true in
     let f = face_lines a.n a.table.now in
-    (p.append_face-filled.auto.0 ∙ l.invariant.0, rw add-one (l.invariant.1 ∙ turn_put f 784 l.face a.end l.filled _ l.buf _ h p.append_face-filled.ensures.0), rw add-one (turn_short f 784 a.first l.face a.end h p.append_face-filled.ensures.1 l.invariant.2))
+    (p.append_face-filled.auto.buf ∙ l.invariant.0, rw add-one (l.invariant.1 ∙ turn_put f 784 l.face a.end l.filled _ l.buf _ h p.append_face-filled.ensures.0), rw add-one (turn_short f 784 a.first l.face a.end h p.append_face-filled.ensures.1 l.invariant.2))
 
 same_length : tie.Need-shape_of-buf invariant-loop decreases-loop
 same_length c = c.loop-face.invariant.0

@@ -50,7 +50,7 @@ returns-2 c =
     let b = e.before.before in (
       passed _ _ _ _ c.if-d-ne0.true
           ∙ sym (b.loop-form.invariant.0 ∙ rows_more _ _ _ _ _ _ _ _ b.next_item-item.ensures _ _ _ _ _ m.row_tail-d.ensures.0 e.if-item.false _ refl),
-      earlier _ b.loop-form.i _ _ m.row_tail-d.auto.1.1.1.1.1.1.0 b.loop-form.invariant.4 m.row_tail-d.ensures.1 ∙ b.loop-form.invariant.3,
+      earlier _ b.loop-form.i _ _ m.row_tail-d.auto.out b.loop-form.invariant.4 m.row_tail-d.ensures.1 ∙ b.loop-form.invariant.3,
     )
 
 add-count : tie.Need-overflow_add-count invariant-loop decreases-loop
@@ -74,7 +74,7 @@ loop-again c =
     let e = m.before.before in
     let b = e.before.before in
     let l = b.loop-form in
-    let long = m.row_tail-d.auto.1.1.1.1.1.1.0 in
+    let long = m.row_tail-d.auto.out in
     let fewer = rows_fall _ _ _ _ _ _ _ _ b.next_item-item.ensures 0 _ _ _ _ m.row_tail-d.ensures.0 c.if-d-ne0.false in (
       l.invariant.0 ∙ rows_more _ _ _ _ _ _ _ _ b.next_item-item.ensures _ _ _ _ _ m.row_tail-d.ensures.0 e.if-item.false _ (row_past l.i _ _ _ _ _ c.advance.ensures c.advance-i.ensures),
       long ∙ l.invariant.1,

@@ -34,7 +34,7 @@ returns c =
     let f = a.before.before.before in
     let next = row_past _ _ _ _ _ _ a.advance.ensures a.advance-i.ensures in (
       reads_same _ _ _ _ (λ o. absurd (c.if-d-ne0.true o)) ∙ some_join _ _ _ _ _ _ _ _ _ _ _ _ _ _ f.row-first.ensures.0 next r.rows-more.ensures.0,
-      before_step _ _ _ _ _ r.rows-more.auto.1.1.1.1.1.1.0 next r.rows-more.ensures.1 ∙ f.row-first.ensures.1,
+      before_step _ _ _ _ _ r.rows-more.auto.out next r.rows-more.ensures.1 ∙ f.row-first.ensures.1,
     )
 
 add-t16 : tie.Need-overflow_add-result
@@ -43,7 +43,7 @@ add-t16 c =
     let s = c.before.before.before.before.before.before.before.before.before.before.before.before.before.before in
     let text = s.args.text.now in
     let few : r.rows-more.result.count ≤ suc (length text) = rows-counted _ _ _ _ _ _ _ _ _ _ _ r.rows-more.ensures.0 c.if-d-ne0.false in
-    omega (arith, few, s.well-formed.0)
+    omega (arith, few, s.well_formed.0)
 
 same-length-2 : tie.Need-shape_of-out
 same-length-2 c = search rules
@@ -55,7 +55,7 @@ returns-2 c =
     let f = a.before.before.before in
     let next = row_past _ _ _ _ _ _ a.advance.ensures a.advance-i.ensures in (
       some_join _ _ _ _ _ _ _ _ _ _ _ _ _ _ f.row-first.ensures.0 next r.rows-more.ensures.0,
-      before_step _ _ _ _ _ r.rows-more.auto.1.1.1.1.1.1.0 next r.rows-more.ensures.1 ∙ f.row-first.ensures.1,
+      before_step _ _ _ _ _ r.rows-more.auto.out next r.rows-more.ensures.1 ∙ f.row-first.ensures.1,
     )
 
 pub some_rows_spec : {M : Type 1} → statement M

@@ -35,7 +35,7 @@ returns c =
     let n = v.before.before in (
       seq _ _ _ _ _ _ _ _ n.keyword.ensures
           (closed_at _ _ _ _ _ _ (cells-joined _ _ _ _ _ _ _ _ _ _ _ _ n.numbers-d.ensures.0 v.advance-i.ensures m.numbers.ensures.0) c.closing.ensures),
-      before_step _ _ _ _ _ m.numbers.auto.1.1.1.1.0 v.advance-i.ensures m.numbers.ensures.1 ∙ n.numbers-d.ensures.1,
+      before_step _ _ _ _ _ m.numbers.auto.out v.advance-i.ensures m.numbers.ensures.1 ∙ n.numbers-d.ensures.1,
     )
 
 pub row_tail_spec : {M : Type 1} → statement M

@@ -57,7 +57,7 @@ returns c =
     omega (arith, l.invariant.2, zero-here)
 
 add_row : tie.Need-overflow_add-row invariant-loop decreases-loop
-add_row c = let l = c.loop-t in omega (arith, l.invariant.0, l.invariant.1, c.well-formed)
+add_row c = let l = c.loop-t in omega (arith, l.invariant.0, l.invariant.1, c.well_formed)
 
 returns-2 : tie.Need-returns-then-list-end invariant-loop decreases-loop
 returns-2 c =

@@ -39,7 +39,7 @@ returns c =
     let s1 = s2.before in
     let t = s1.before.before.before in
     let a = t.args in
-    let e : output k.append_row.result k.append_row.new.0 ≡ appended (output 0 a.buf.now) (line (bytes "refused") (to_z w64 (of_z w64 s1.shown.result) ∷ to_z w64 (of_z w64 s2.shown-then-refusal-ne0.result) ∷ [])) = k.append_row.ensures in
+    let e : output k.append_row.result k.append_row.new.buf ≡ appended (output 0 a.buf.now) (line (bytes "refused") (to_z w64 (of_z w64 s1.shown.result) ∷ to_z w64 (of_z w64 s2.shown-then-refusal-ne0.result) ∷ [])) = k.append_row.ensures in
     rw (held a.refusal s1.shown.result s1.shown.ensures, held a.place s2.shown-then-refusal-ne0.result s2.shown-then-refusal-ne0.ensures) at e
     ∙ ap (appended (output 0 a.buf.now)) (sym (first-refused a.word.now a.refusal a.place a.total (ne_eqb a.refusal 0 t.if-refusal-ne0.true)))
 
@@ -58,7 +58,7 @@ returns-2 c =
     let s = k.before.before in
     let t = s.before.before in
     let a = t.args in
-    let e : output k.append_row-2.result k.append_row-2.new.0 ≡ appended (output 0 a.buf.now) (line a.word.now (to_z w64 (of_z w64 s.shown-2.result) ∷ [])) = k.append_row-2.ensures in
+    let e : output k.append_row-2.result k.append_row-2.new.buf ≡ appended (output 0 a.buf.now) (line a.word.now (to_z w64 (of_z w64 s.shown-2.result) ∷ [])) = k.append_row-2.ensures in
     rw (held a.total s.shown-2.result s.shown-2.ensures) at e
     ∙ ap (appended (output 0 a.buf.now)) (sym (first_taken a.word.now a.refusal a.place a.total (eq-eqb a.refusal 0 t.if-refusal-ne0.false)))
 

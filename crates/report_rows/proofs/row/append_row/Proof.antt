@@ -45,7 +45,7 @@ loop-holds : tie.Need-loop-i-init invariant-loop decreases-loop
 loop-holds c =
     let p = c.before.before in
     let a = p.args in
-    (search rules, refl, fits_on a.n p.append-at.result a.buf.now p.append-at.new.0 a.word.now (rest a.numbers.now 0) (line-fits p.before.before) p.append-at.ensures, refl)
+    (search rules, refl, fits_on a.n p.append-at.result a.buf.now p.append-at.new.buf a.word.now (rest a.numbers.now 0) (line-fits p.before.before) p.append-at.ensures, refl)
 
 append-requires-2 : tie.Need-append-at-requires-in-loop-i invariant-loop decreases-loop
 append-requires-2 c κs = search rules
@@ -71,12 +71,12 @@ loop-again c =
     let t = w.before.before.before.before.before in
     let l = t.loop-i in
     let zs = t.args.numbers.now in
-    let o = output t.append-at-in-loop-i.result t.append-at-in-loop-i.new.0 in
+    let o = output t.append-at-in-loop-i.result t.append-at-in-loop-i.new.buf in
     let q = w.append_number-at.ensures ∙ ap (appended o) (from_bits (get_or zs l.i (pos 0)) (record { sfits = w.append_number-arg-in-loop-i-1.given })) in
     let h = t.loop-i-test.true in
-    let fits = field_fits zs l.i l.at t.append-at-in-loop-i.result _ l.buf t.append-at-in-loop-i.new.0 _ h l.invariant.2 t.append-at-in-loop-i.ensures q in
-    let goes = field_goes_on zs l.i l.at t.append-at-in-loop-i.result _ l.buf t.append-at-in-loop-i.new.0 _ h l.invariant.2 t.append-at-in-loop-i.ensures q in
-    (search rules, w.append_number-at.auto.0 ∙ t.append-at-in-loop-i.auto.0 ∙ l.invariant.1, rw add-one fits, rw add-one (l.invariant.3 ∙ goes))
+    let fits = field_fits zs l.i l.at t.append-at-in-loop-i.result _ l.buf t.append-at-in-loop-i.new.buf _ h l.invariant.2 t.append-at-in-loop-i.ensures q in
+    let goes = field_goes_on zs l.i l.at t.append-at-in-loop-i.result _ l.buf t.append-at-in-loop-i.new.buf _ h l.invariant.2 t.append-at-in-loop-i.ensures q in
+    (search rules, w.append_number-at.auto.buf ∙ t.append-at-in-loop-i.auto.buf ∙ l.invariant.1, rw add-one fits, rw add-one (l.invariant.3 ∙ goes))
 
 append-requires-3 : tie.Need-append-requires invariant-loop decreases-loop
 append-requires-3 c κs = search rules
@@ -85,7 +85,7 @@ same_length : tie.Need-shape_of-buf invariant-loop decreases-loop
 same_length c =
     let l = c.loop-i in
     let p = c.before.before.before.before.before.before.before.before.before in
-    c.append.auto.0 ∙ l.invariant.1 ∙ p.append-at.auto.0
+    c.append.auto.buf ∙ l.invariant.1 ∙ p.append-at.auto.buf
 
 returns-2 : tie.Need-returns invariant-loop decreases-loop
 returns-2 c =
@@ -96,7 +96,7 @@ returns-2 c =
     c.append.ensures
     ∙ ap (appended (output l.at l.buf)) (sym (rest_end zs l.i c.loop-i-test.false))
     ∙ sym l.invariant.3
-    ∙ sym (goes_on a.n p.append-at.result a.buf.now p.append-at.new.0 a.word.now (rest zs 0) (line-fits p.before.before) p.append-at.ensures)
+    ∙ sym (goes_on a.n p.append-at.result a.buf.now p.append-at.new.buf a.word.now (rest zs 0) (line-fits p.before.before) p.append-at.ensures)
     ∙ ap (appended (output a.n a.buf.now)) (sym (line-rest a.word.now zs))
 
 pub append_row_spec : {M : Type 1} → statement M

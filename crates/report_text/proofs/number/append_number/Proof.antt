@@ -28,12 +28,12 @@ has-room-requires : tie.Need-has_room-requires
 has-room-requires c κs = search rules
 
 -- the number's text and its length, at each sign
-from : (c : tie.Else-z-lt0) → numeral c.args.z ≡ take c.decimal-k.result c.decimal-k.new.1.0
+from : (c : tie.Else-z-lt0) → numeral c.args.z ≡ take c.decimal-k.result c.decimal-k.new.out
 from c =
     let d = c.decimal-k in
     text-from _ _ _ _ c.ranges.z c.magnitude.ensures d.ensures.1.0 d.ensures.1.1 c.if-z-lt0.false
 
-below : (c : tie.Then-z-lt0) → numeral c.args.z ≡ 45 ∷ take c.decimal-k.result c.decimal-k.new.1.0
+below : (c : tie.Then-z-lt0) → numeral c.args.z ≡ 45 ∷ take c.decimal-k.result c.decimal-k.new.out
 below c =
     let d = c.decimal-k in
     text-below _ _ _ _ c.ranges.z c.magnitude.ensures d.ensures.1.0 d.ensures.1.1 c.if-z-lt0.true

@@ -56,7 +56,7 @@ loop-again c =
     let h = s.loop-at-test.true in
     let f = Frame a.n a.table.now a.bone a.channel in
     let put = frame_put l.filled a.bone a.channel l.at _ l.buf _ s.sample-answer.result (numbered (sample_in a.n a.table.now a.bone a.channel l.at)) s.sample-answer.ensures k.append_sample-filled.ensures in
-    (k.append_sample-filled.auto.0 ∙ l.invariant.0, rw add-one (l.invariant.1 ∙ turn_put f 112 l.at a.end l.filled _ l.buf _ h put.0), rw add-one (turn_short f 112 a.first l.at a.end h put.1 l.invariant.2))
+    (k.append_sample-filled.auto.buf ∙ l.invariant.0, rw add-one (l.invariant.1 ∙ turn_put f 112 l.at a.end l.filled _ l.buf _ h put.0), rw add-one (turn_short f 112 a.first l.at a.end h put.1 l.invariant.2))
 
 same_length : tie.Need-shape_of-buf invariant-loop decreases-loop
 same_length c = c.loop-at.invariant.0

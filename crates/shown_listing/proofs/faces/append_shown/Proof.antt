@@ -64,7 +64,7 @@ returns-2 c =
     let s2 = t.before.before in
     let s1 = s2.before in
     let a = s1.args in
-    let e : output k.append_row-in-Shown.result k.append_row-in-Shown.new.0 ≡ appended (output a.n a.buf.now) (line (bytes "shown") (to_z w64 (of_z w64 s1.shown-f.result) ∷ to_z w64 (of_z w64 s2.shown-t.result) ∷ pos 1 ∷ [])) = k.append_row-in-Shown.ensures in
+    let e : output k.append_row-in-Shown.result k.append_row-in-Shown.new.buf ≡ appended (output a.n a.buf.now) (line (bytes "shown") (to_z w64 (of_z w64 s1.shown-f.result) ∷ to_z w64 (of_z w64 s2.shown-t.result) ∷ pos 1 ∷ [])) = k.append_row-in-Shown.ensures in
     shown_put a.n a.face a.at _ a.buf.now _ a.answer t.in-Shown.is (rw (held a.face _ s1.shown-f.ensures, held a.at _ s2.shown-t.ensures) at e)
 
 same-length-3 : tie.Need-shape_of-buf-in-Hidden
@@ -78,7 +78,7 @@ returns-3 c =
     let s2 = t.before.before in
     let s1 = s2.before in
     let a = s1.args in
-    let e : output k.append_row-in-Hidden.result k.append_row-in-Hidden.new.0 ≡ appended (output a.n a.buf.now) (line (bytes "shown") (to_z w64 (of_z w64 s1.shown-f.result) ∷ to_z w64 (of_z w64 s2.shown-t.result) ∷ pos 0 ∷ [])) = k.append_row-in-Hidden.ensures in
+    let e : output k.append_row-in-Hidden.result k.append_row-in-Hidden.new.buf ≡ appended (output a.n a.buf.now) (line (bytes "shown") (to_z w64 (of_z w64 s1.shown-f.result) ∷ to_z w64 (of_z w64 s2.shown-t.result) ∷ pos 0 ∷ [])) = k.append_row-in-Hidden.ensures in
     hidden_put a.n a.face a.at _ a.buf.now _ a.answer t.in-Hidden.is (rw (held a.face _ s1.shown-f.ensures, held a.at _ s2.shown-t.ensures) at e)
 
 pub append_shown_spec : {M : Type 1} → statement M

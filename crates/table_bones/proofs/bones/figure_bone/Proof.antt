@@ -43,7 +43,7 @@ slice-aggregate-result-2 : tie.Need-slice_bounds-result-end-then-n-bone
 slice-aggregate-result-2 c = search rules
 
 returns-2 : tie.Need-returns-then-n-bone
-returns-2 c = no_figure-row _ _ _ (held c.before.before.before) c.if-n-bone.true
+returns-2 c = no_figure-row _ _ _ (held c.before.before) c.if-n-bone.true
 
 mul-base : tie.Need-overflow_mul-base
 mul-base c = (let h = place c in small_fits _ (c.args.bone * 14) refl (omega arith))

@@ -11,7 +11,7 @@ put-requires : tie.Need-put-requires
 put-requires c κs = search rules
 
 same_length : tie.Need-shape_of-table
-same_length c = c.put.auto.0
+same_length c = c.put.auto.table
 
 returns : tie.Need-returns
 returns c = c.put.ensures

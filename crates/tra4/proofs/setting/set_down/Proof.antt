@@ -68,7 +68,7 @@ same_length c =
     let k2 = k3.before.before.before in
     let k1 = k2.before.before.before in
     let k0 = k1.before.before.before in
-    k3.put_part.auto.0 ∙ k2.put_part-keyed.auto.0 ∙ k1.put_part-boned.auto.0 ∙ k0.put-named.auto.0
+    k3.put_part.auto.table ∙ k2.put_part-keyed.auto.table ∙ k1.put_part-boned.auto.table ∙ k0.put-named.auto.table
 
 returns-2 : tie.Need-returns
 unfolding total_of counts_answer parts_of

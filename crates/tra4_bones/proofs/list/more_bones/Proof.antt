@@ -116,9 +116,9 @@ loop-again c =
     let fewer = falling m c.if-d-ne0.false in
     let one = m.next_bone-b.ensures.1 in (
       l.invariant.0 ∙ turn m,
-      m.next_bone-b.auto.1.1.0 ∙ l.invariant.1,
-      m.next_bone-b.auto.1.1.1.1.0 ∙ l.invariant.2,
-      rows_on c.advance-i.result l.i l.count _ _ _ m.next_bone-b.auto.1.1.0 one l.invariant.3 c.advance-i.ensures,
+      m.next_bone-b.auto.bone_rows ∙ l.invariant.1,
+      m.next_bone-b.auto.key_rows ∙ l.invariant.2,
+      rows_on c.advance-i.result l.i l.count _ _ _ m.next_bone-b.auto.bone_rows one l.invariant.3 c.advance-i.ensures,
       omega arith,
     )
 

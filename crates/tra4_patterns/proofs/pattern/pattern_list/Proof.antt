@@ -30,13 +30,13 @@ rows_on : (r i n len len' : ℕ) → len' ≡ len → min i len ≡ min (n * 3) 
 rows_on r i n len len' e h k = omega arith
 
 -- a turn: the lines left are one fewer
-stepping : (m : tie.After-pattern_tail-d invariant-loop decreases-loop) → reads m.args.text.now m.pattern_tail-d.result (m.loop-start.count + 1, m.pattern_tail-d.new.1.1.0) ≡ from m.args.text.now m.next_item-item.result.cursor (stepped (row_step 3) pattern_tail (m.loop-start.count, m.loop-start.out))
+stepping : (m : tie.After-pattern_tail-d invariant-loop decreases-loop) → reads m.args.text.now m.pattern_tail-d.result (m.loop-start.count + 1, m.pattern_tail-d.new.out) ≡ from m.args.text.now m.next_item-item.result.cursor (stepped (row_step 3) pattern_tail (m.loop-start.count, m.loop-start.out))
 unfolding pattern_into
 stepping m =
     let l = m.loop-start in
     row-stepped pattern_tail 3 l.count l.i l.out _ _ _ _ l.invariant.2 m.pattern_tail-d.ensures
 
-turn : (m : tie.After-pattern_tail-d invariant-loop decreases-loop) → from m.args.text.now m.loop-start.d (folded (row_step 3) pattern (m.loop-start.count, m.loop-start.out)) ≡ from m.args.text.now m.pattern_tail-d.result (folded (row_step 3) pattern (m.loop-start.count + 1, m.pattern_tail-d.new.1.1.0))
+turn : (m : tie.After-pattern_tail-d invariant-loop decreases-loop) → from m.args.text.now m.loop-start.d (folded (row_step 3) pattern (m.loop-start.count, m.loop-start.out)) ≡ from m.args.text.now m.pattern_tail-d.result (folded (row_step 3) pattern (m.loop-start.count + 1, m.pattern_tail-d.new.out))
 turn m = folded_more (row_step 3) pattern pattern_tail pattern_takes pattern_keeps pattern_opens _ _ _ _ m.next_item-item.ensures _ _ _ (stepping m) m.if-item.false
 
 falling : (m : tie.After-pattern_tail-d invariant-loop decreases-loop) → m.pattern_tail-d.result.refusal ≡ 0 → length (lex_at m.args.text.now m.pattern_tail-d.result.at) < length (lex_at m.args.text.now m.loop-start.d.at)
@@ -83,7 +83,7 @@ loop-again c =
     let m = c.before.before.before.before in
     let l = m.loop-start in
     let fewer = falling m c.if-d-ne0.false in
-    (l.invariant.0 ∙ turn m, m.pattern_tail-d.auto.1.1.0 ∙ l.invariant.1, rows_on c.advance-i.result l.i l.count _ _ m.pattern_tail-d.auto.1.1.0 l.invariant.2 c.advance-i.ensures, omega arith)
+    (l.invariant.0 ∙ turn m, m.pattern_tail-d.auto.out ∙ l.invariant.1, rows_on c.advance-i.result l.i l.count _ _ m.pattern_tail-d.auto.out l.invariant.2 c.advance-i.ensures, omega arith)
 
 pub pattern_list_spec : {M : Type 1} → statement M
 pattern_list_spec = tie.close (tie.spec invariant-loop decreases-loop loop-holds next-item-requires same_length returns pattern-tail-requires same-length-2 returns-2 add-count advance-requires loop-less loop-again)

@@ -46,8 +46,8 @@ returns c =
     let k2 = s1.before.before.before.before in
     let k1 = k2.before.before.before.before.before in
     let a = k1.args in
-    let row : output k3.append_number-row.result k3.append_number-row.new.0 ≡ appended (output k2.append-first.result k2.append-first.new.0) (numeral (to_z w64 (of_z w64 s1.shown.result))) = k3.append_number-row.ensures in
-    let frame : output k5.append_number.result k5.append_number.new.0 ≡ appended (output k4.append-second.result k4.append-second.new.0) (numeral (to_z w64 (of_z w64 s2.shown-2.result))) = k5.append_number.ensures in
+    let row : output k3.append_number-row.result k3.append_number-row.new.buf ≡ appended (output k2.append-first.result k2.append-first.new.buf) (numeral (to_z w64 (of_z w64 s1.shown.result))) = k3.append_number-row.ensures in
+    let frame : output k5.append_number.result k5.append_number.new.buf ≡ appended (output k4.append-second.result k4.append-second.new.buf) (numeral (to_z w64 (of_z w64 s2.shown-2.result))) = k5.append_number.ensures in
     head-put a.face a.at a.n _ a.buf.now _ _ _ _ _ k1.append-word.ensures k2.append-first.ensures (rw (held a.face _ s1.shown.ensures) at row) k4.append-second.ensures (rw (held a.at _ s2.shown-2.ensures) at frame)
 
 pub append_head_spec : {M : Type 1} → statement M

@@ -85,7 +85,7 @@ returns-3 c =
     let s = k.before.before in
     let w = s.before.before.before.before in
     let a = w.args in
-    let e : output k.append_row-in-Corner.result k.append_row-in-Corner.new.0 ≡ appended (output a.n a.buf.now) (line (9 ∷ bytes "corner") (to_z w64 (of_z w64 s.shown.result) ∷ [])) = k.append_row-in-Corner.ensures in
+    let e : output k.append_row-in-Corner.result k.append_row-in-Corner.new.buf ≡ appended (output a.n a.buf.now) (line (9 ∷ bytes "corner") (to_z w64 (of_z w64 s.shown.result) ∷ [])) = k.append_row-in-Corner.ensures in
     rw w.in-Corner.is (rw (held _ _ s.shown.ensures) at e)
 
 same-length-4 : tie.Need-shape_of-buf-in-Unset
@@ -107,7 +107,7 @@ returns-5 c =
     let s = k.before.before in
     let w = s.before.before.before.before in
     let a = w.args in
-    let e : output k.append_row-in-Line.result k.append_row-in-Line.new.0 ≡ appended (output a.n a.buf.now) (line (9 ∷ bytes "line") (to_z w64 (of_z w64 s.shown-in-Line.result) ∷ [])) = k.append_row-in-Line.ensures in
+    let e : output k.append_row-in-Line.result k.append_row-in-Line.new.buf ≡ appended (output a.n a.buf.now) (line (9 ∷ bytes "line") (to_z w64 (of_z w64 s.shown-in-Line.result) ∷ [])) = k.append_row-in-Line.ensures in
     rw w.in-Line.is (rw (held _ _ s.shown-in-Line.ensures) at e)
 
 pub append_reason_spec : {M : Type 1} → statement M

@@ -58,7 +58,7 @@ loop-again c =
     let h = s.loop-at-test.true in
     let f = Frame a.n a.table.now a.m a.moves.now a.face in
     let put = frame_put l.filled a.face l.at _ l.buf _ (explained s.why-answer.result) (numbered (why_in a.n a.table.now a.m a.moves.now a.face l.at)) s.why-answer.ensures k.append_why-filled.ensures in
-    (k.append_why-filled.auto.0 ∙ l.invariant.0, rw add-one (l.invariant.1 ∙ turn_put f 74 l.at a.end l.filled _ l.buf _ h put.0), rw add-one (turn_short f 74 a.first l.at a.end h put.1 l.invariant.2))
+    (k.append_why-filled.auto.buf ∙ l.invariant.0, rw add-one (l.invariant.1 ∙ turn_put f 74 l.at a.end l.filled _ l.buf _ h put.0), rw add-one (turn_short f 74 a.first l.at a.end h put.1 l.invariant.2))
 
 same_length : tie.Need-shape_of-buf invariant-loop decreases-loop
 same_length c = c.loop-at.invariant.0
