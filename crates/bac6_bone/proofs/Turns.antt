@@ -67,7 +67,7 @@ module _ (text : List ℕ) (c : Cursor) (left : ℕ) (d : Cursor) (n : ℕ) (b :
 
 -- a bone's number from its bits
 pub state_bits : (text : List ℕ) (r : Cursor) (g : Got (List (Option BoneField))) (n : ℕ) (b : ℤ) (s : Bool × List ℤ) (state : List ℤ × (Bool × List ℤ)) → SFits w64 b → Yields text r g (bone_state n (to_z w64 (of_z w64 b)) s) state → Yields text r g (bone_state n b s) state
-state_bits text r g n b s state f y = record { value = y.value; read = y.read; kept = λ o. ap (λ (z : ℤ). bone_state n z s y.value) (sym (to_z-of_z f)) ∙ y.kept o }
+state_bits text r g n b s state f y = record { value = y.value; read = y.read; kept = λ o. ap (λ (z : ℤ). bone_state n z s y.value) (sym (to_z-of_z {w = w64} f)) ∙ y.kept o }
 
 -- ---- the row of a bone that has been read whole
 
@@ -102,7 +102,7 @@ bone_on text c d r n b i table s row s' o f y =
   where
     same : r.refusal ≡ 0 → ◌≡◌ {A = List ℤ × (Bool × List ℤ)} (overlay_at i row table, s') (overlay_at i (bone_row (bone_of y.value) (pos 0)) table, claimed n b s (bone_of y.value).vertices)
     same q =
-        let k : bone_state n b s y.value ≡ (row, s') = ap (λ (z : ℤ). bone_state n z s y.value) (sym (to_z-of_z f)) ∙ y.kept q in
+        let k : bone_state n b s y.value ≡ (row, s') = ap (λ (z : ℤ). bone_state n z s y.value) (sym (to_z-of_z {w = w64} f)) ∙ y.kept q in
         let u : bone_numbers y.value ≡ row = ap (λ (p : List ℤ × (Bool × List ℤ)). p.0) k in
         let v : claimed n b s (numbers_in (get_or y.value 6 none)) ≡ s' = ap (λ (p : List ℤ × (Bool × List ℤ)). p.1) k in
         let on = from_on text d (fields bone_kinds) (alive text d r (fields bone_kinds) y.value y.read q) in

@@ -1,8 +1,10 @@
 #![tactic(auto)]
 // Prints the corners of the figure that stands on standard input: a line for each face and corner.
 use bac6::FigureAnswer;
-use libc::{STDIN_FILENO, STDOUT_FILENO};
 use table_counts::FigureCounts;
+
+const STDIN_FILENO: i32 = 0;
+const STDOUT_FILENO: i32 = 1;
 
 // 32 faces at a time, for which 25,088 bytes are enough. What is written to a file no contract can say.
 fn tell_faces(table: &[i64], n: FigureCounts) {

@@ -5,8 +5,10 @@ ghost use Rattle.report_text.specs.Output.{output};
 ghost use Rattle.report_lists.specs.Lists.{appended_each};
 ghost use Rattle.movement_listing.specs.Listing.{text_lines, text_listing};
 
-use libc::{STDIN_FILENO, STDOUT_FILENO};
 use text_parts::part;
+
+const STDIN_FILENO: i32 = 0;
+const STDOUT_FILENO: i32 = 1;
 
 // Puts the listing of a text at the start of buf, and answers how many bytes are filled.
 fn list_text(text: &[u8], buf: &mut [u8]) -> usize

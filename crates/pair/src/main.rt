@@ -1,8 +1,10 @@
 #![tactic(auto)]
 // Loads the pair on standard input and prints the two totals and each bone's label, or why it is refused. The pair is eight
 // decimal digits giving the figure's length, a line feed, the figure, and then the movement.
-use libc::{STDIN_FILENO, STDOUT_FILENO};
 use text_parts::part;
+
+const STDIN_FILENO: i32 = 0;
+const STDOUT_FILENO: i32 = 1;
 
 // What is written to a file no contract can say.
 fn list_pair(text: &mut [u8; 131082], out: &mut [u8; 36295]) {

@@ -4,10 +4,12 @@
 // line feed.
 ghost use Rattle.std.specs.Prelude.{◌<◌, ◌≤◌, length};
 
-use libc::{STDIN_FILENO, STDOUT_FILENO};
 use pair_head::Head;
 use text_parts::part;
 use text_runs::Run;
+
+const STDIN_FILENO: i32 = 0;
+const STDOUT_FILENO: i32 = 1;
 
 fn tell(label: &[u8], input: &[u8], more: usize) {
     let mut out = [0u8; 36295];

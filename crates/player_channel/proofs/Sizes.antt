@@ -25,4 +25,4 @@ module _ (v w : ℤ) (x y : ℕ) (hv : nat_abs v ≤ 9999999999999) (hw : nat_ab
 
   -- by the bits of the values and of the sum
   pub sum_bits : (r : ℤ) → SFits w64 v → SFits w64 w → r ≡ to_z w64 (of_z w64 v) *ℤ pos x +ℤ to_z w64 (of_z w64 w) *ℤ pos y → to_z w64 (of_z w64 r) ≡ v *ℤ pos x +ℤ w *ℤ pos y
-  sum_bits r fv fw e = ap (λ (s : ℤ). to_z w64 (of_z w64 s)) (e ∙ ap (λ (s : ℤ). s *ℤ pos x +ℤ to_z w64 (of_z w64 w) *ℤ pos y) (to_z-of_z fv) ∙ ap (λ (s : ℤ). v *ℤ pos x +ℤ s *ℤ pos y) (to_z-of_z fw)) ∙ to_z-of_z sum_fits
+  sum_bits r fv fw e = ap (λ (s : ℤ). to_z w64 (of_z w64 s)) (e ∙ ap (λ (s : ℤ). s *ℤ pos x +ℤ to_z w64 (of_z w64 w) *ℤ pos y) (to_z-of_z {w = w64} fv) ∙ ap (λ (s : ℤ). v *ℤ pos x +ℤ s *ℤ pos y) (to_z-of_z {w = w64} fw)) ∙ to_z-of_z {w = w64} sum_fits

@@ -14,7 +14,7 @@ use Rattle.player_spec.specs.Fractions.{Fraction, factor, signed_as, lowest}
 
 module _ (z : ℤ) (d s n u : ℕ) (f : SFits w64 z) (hz : nat_abs z < 2 ^ 59) (es : s ≡ nat_abs (to_z w64 (of_z w64 z))) (en : n ≡ s / factor s d) (eu : u ≡ d / factor s d) where
   size : s ≡ nat_abs z
-  size = es ∙ ap nat_abs (to_z-of_z f)
+  size = es ∙ ap nat_abs (to_z-of_z {w = w64} f)
 
   small : n < 2 ^ 63
   small = let l = div-le_self s (factor s d) in omega (arith, size, hz, en, l)
@@ -30,13 +30,13 @@ module _ (z : ℤ) (d s n u : ℕ) (f : SFits w64 z) (hz : nat_abs z < 2 ^ 59) (
   by_sign a e = rw (e, en, eu, size)
 
   pub negative_terms : lt_z (to_z w64 (of_z w64 z)) (pos 0) ≡ true → ◌≡◌ {A = Fraction} (record { numerator = to_z w64 (of_z w64 (pos 0 -ℤ to_z w64 n)); denominator = u }) (lowest z d)
-  negative_terms e = by_sign _ (bits_neg n small ∙ sym (signed_below z n (below-zero z (rw (to_z-of_z f) at e))))
+  negative_terms e = by_sign _ (bits_neg n small ∙ sym (signed_below z n (below-zero z (rw (to_z-of_z {w = w64} f) at e))))
     where
       signed_below : (y : ℤ) (m : ℕ) → y ≡ negsuc (mag y) → signed_as y m ≡ neg_ℤ (pos m)
       signed_below y m e = unfold signed_as in (rw e)
 
   pub natural_terms : lt_z (to_z w64 (of_z w64 z)) (pos 0) ≡ false → ◌≡◌ {A = Fraction} (record { numerator = to_z w64 n; denominator = u }) (lowest z d)
-  natural_terms e = by_sign _ (bits_pos n small ∙ sym (signed-from z n (from_zero z (rw (to_z-of_z f) at e))))
+  natural_terms e = by_sign _ (bits_pos n small ∙ sym (signed-from z n (from_zero z (rw (to_z-of_z {w = w64} f) at e))))
     where
       signed-from : (y : ℤ) (m : ℕ) → y ≡ pos (nat_abs y) → signed_as y m ≡ pos m
       signed-from y m e = unfold signed_as in (rw e)

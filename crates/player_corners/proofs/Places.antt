@@ -28,11 +28,11 @@ module _ (n : FigureCounts) (table : List ℤ) (s : FigureSections) (f : Found n
 
   pub point_index : s.points + at * 3 ≡ points_begin n + nat_abs z * 3
   unfolding figure_sections
-  point_index = ap (λ (x : FigureSections). x.points + at * 3) f.sections ∙ ap (λ (x : ℤ). points_begin n + nat_abs x * 3) (to_z-of_z k)
+  point_index = ap (λ (x : FigureSections). x.points + at * 3) f.sections ∙ ap (λ (x : ℤ). points_begin n + nat_abs x * 3) (to_z-of_z {w = w64} k)
 
   pub uv_index : s.uvs + at * 2 ≡ uvs_begin n + nat_abs z * 2
   unfolding figure_sections
-  uv_index = ap (λ (x : FigureSections). x.uvs + at * 2) f.sections ∙ ap (λ (x : ℤ). uvs_begin n + nat_abs x * 2) (to_z-of_z k)
+  uv_index = ap (λ (x : FigureSections). x.uvs + at * 2) f.sections ∙ ap (λ (x : ℤ). uvs_begin n + nat_abs x * 2) (to_z-of_z {w = w64} k)
 
   pub point_room : is_row n.points z ≡ true → (s.points + at * 3 + 2 < length table) × (s.points + at * 3 + 2 ≤ 40000)
   point_room r = rw point_index (point_place n table f.held (nat_abs z) (row_is n.points z r).1)

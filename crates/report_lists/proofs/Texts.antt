@@ -138,7 +138,7 @@ shown-fits n = go (leb n 9223372036854775807) refl
 
 -- a count comes back from its bits
 pub held : (n : ℕ) (z : ℤ) → z ≡ shown n → to_z w64 (of_z w64 z) ≡ shown n
-held n z e = rw e (to_z-of_z (shown-fits n))
+held n z e = rw e (to_z-of_z {w = w64} (shown-fits n))
 
 -- a line of counts, which all fit
 counts_fit : (ns : List ℕ) → AllFit (map shown ns)

@@ -99,12 +99,12 @@ numeral-most (negsuc n) h = omega (arith, digits-most (negsuc n) h)
 
 -- the test of a number's bits is a test of the number
 test : (z : ℤ) (v : Bool) → SFits w64 z → lt_z (to_z w64 (of_z w64 z)) (pos 0) ≡ v → lt_z z (pos 0) ≡ v
-test z v h e = ap (λ (x : ℤ). lt_z x (pos 0)) (sym (to_z-of_z h)) ∙ e
+test z v h e = ap (λ (x : ℤ). lt_z x (pos 0)) (sym (to_z-of_z {w = w64} h)) ∙ e
 
 -- m is the magnitude of z, and ds are its fewest digits, k of them
 module _ (z : ℤ) (m k : ℕ) (ds : List ℕ) (h : SFits w64 z) (e : m ≡ nat_abs (to_z w64 (of_z w64 z))) (f : IsDigitCount 10 1 m k) (d : ds ≡ lastDigits 10 k m) where
   whole : m ≡ nat_abs z
-  whole = e ∙ ap nat_abs (to_z-of_z h)
+  whole = e ∙ ap nat_abs (to_z-of_z {w = w64} h)
 
   spelled : digits (nat_abs z) ≡ ds
   spelled = ap digits (sym whole) ∙ fewest k m f ∙ sym d
@@ -159,4 +159,4 @@ module _ (z : ℤ) (m : ℕ) (e : m ≡ nat_abs z) where
   count_from t = let l = ap length (numeral-from z t) in rw e (omega (arith, l))
 
 pub from_bits : (z : ℤ) → SFits w64 z → numeral (to_z w64 (of_z w64 z)) ≡ numeral z
-from_bits z h = ap numeral (to_z-of_z h)
+from_bits z h = ap numeral (to_z-of_z {w = w64} h)

@@ -1,8 +1,10 @@
 #![tactic(auto)]
 // Prints the movement that stands on standard input at every frame: a line for each bone, channel and frame.
-use libc::{STDIN_FILENO, STDOUT_FILENO};
 use table_counts::MovementCounts;
 use tra4::MovementAnswer;
+
+const STDIN_FILENO: i32 = 0;
+const STDOUT_FILENO: i32 = 1;
 
 // 256 frames at a time, for which 28,672 bytes are enough. What is written to a file no contract can say.
 fn tell_channel(table: &[i64], n: MovementCounts, bone: usize, channel: usize, total: usize) {

@@ -1,9 +1,11 @@
 #![tactic(auto)]
 // Loads the pair on standard input and prints whether each face is shown at each frame, or why the pair is refused. The pair
 // is eight decimal digits giving the figure's length, a line feed, the figure, and then the movement.
-use libc::{STDIN_FILENO, STDOUT_FILENO};
 use pair_head::Division;
 use table_counts::{FigureCounts, MovementCounts};
+
+const STDIN_FILENO: i32 = 0;
+const STDOUT_FILENO: i32 = 1;
 
 // 256 frames at a time, for which 17,664 bytes are enough. What is written to a file no contract can say.
 fn tell_face(

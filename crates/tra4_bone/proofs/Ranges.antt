@@ -21,10 +21,10 @@ pub natural_is : (z : ℤ) (n : ℕ) → z ≡ pos n → nat_abs z ≡ n
 natural_is z n e = rw e refl
 
 pub cast_is : (z : ℤ) → SFits w64 z → z ≡ pos (nat_abs z) → nat_abs (to_z w64 (of_z w64 z)) ≡ nat_abs z
-cast_is z f e = ap nat_abs (to_z-of_z f ∙ e)
+cast_is z f e = ap nat_abs (to_z-of_z {w = w64} f ∙ e)
 
 pub cast_fits : (z : ℤ) → SFits w64 z → z ≡ pos (nat_abs z) → T (non_neg (to_z w64 (of_z w64 z))) × Fits w64 (nat_abs (to_z w64 (of_z w64 z)))
-cast_fits z f e = rw (to_z-of_z f) (rw e tt, Fits-nat_abs tt f)
+cast_fits z f e = rw (to_z-of_z {w = w64} f) (rw e tt, Fits-nat_abs tt f)
 
 -- a range's rows are as many numbers as it says
 pub rows-length : (n : ℕ) (f c : ℤ) (keys : List ℤ) → RangeIn n f c → length keys ≡ n * 2 → length (range_rows f c keys) ≡ nat_abs c * 2

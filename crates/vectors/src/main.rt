@@ -10,10 +10,12 @@ mod texts;
 
 use kept::{Kept, keep};
 use kind::{BAC, FIGURE, MOVEMENT, SAMPLE, TOKENS, kind_of};
-use libc::{STDIN_FILENO, STDOUT_FILENO};
 use record::text_of;
 use text_runs::Run;
 use texts::{append_line, line_of, tell_figure, tell_movement, tell_tokens};
+
+const STDIN_FILENO: i32 = 0;
+const STDOUT_FILENO: i32 = 1;
 
 // Puts the answer to a question at the start of out, and tells its length.
 fn answer(

@@ -43,7 +43,7 @@ returns c =
     let t = s1.before.before.before in
     let a = t.args in
     let e : output k.append_row.result k.append_row.new.buf ≡ appended (output 0 a.buf.now) (line (bytes "refused") (to_z w64 (of_z w64 s1.shown.result) ∷ to_z w64 (of_z w64 s2.shown-then-refusal-ne0.result) ∷ to_z w64 (of_z w64 s3.shown-then-refusal-ne0-2.result) ∷ [])) = k.append_row.ensures in
-    refused_put a.refusal a.place a.file a.figure-total a.movement-total _ a.buf.now _ t.if-refusal-ne0.true
+    refused_put a.refusal a.place a.file a.figure_total a.movement_total _ a.buf.now _ t.if-refusal-ne0.true
     (rw (held a.refusal _ s1.shown.ensures, held a.place _ s2.shown-then-refusal-ne0.ensures, held a.file _ s3.shown-then-refusal-ne0-2.ensures) at e)
 
 shown-requires-4 : tie.Need-shown-requires-2
@@ -67,8 +67,8 @@ returns-2 c =
     let t = s1.before.before.before in
     let a = t.args in
     let e : output k.append_row-2.result k.append_row-2.new.buf ≡ appended (output 0 a.buf.now) (line (bytes "pair") (to_z w64 (of_z w64 s1.shown-2.result) ∷ to_z w64 (of_z w64 s2.shown-3.result) ∷ [])) = k.append_row-2.ensures in
-    taken_put a.refusal a.place a.file a.figure-total a.movement-total _ a.buf.now _ t.if-refusal-ne0.false
-    (rw (held a.figure-total _ s1.shown-2.ensures, held a.movement-total _ s2.shown-3.ensures) at e)
+    taken_put a.refusal a.place a.file a.figure_total a.movement_total _ a.buf.now _ t.if-refusal-ne0.false
+    (rw (held a.figure_total _ s1.shown-2.ensures, held a.movement_total _ s2.shown-3.ensures) at e)
 
 pub list_reply_spec : {M : Type 1} → statement M
 list_reply_spec = tie.close (tie.spec shown-requires shown-requires-2 shown-requires-3 slice-aggregate-append-row append-row-requires same_length returns shown-requires-4 shown-requires-5 slice-aggregate-append-row-2 append-row-requires-2 same-length-2 returns-2)

@@ -88,7 +88,7 @@ returns-3 c =
     let a = f.args in
     let z = name-fits f.requires in
     let n = named_by a.p _ _ _ a.owners.now a.names.now a.table.now _ (bits_pos a.p.place (omega (arith, z.0))) (bits_pos a.p.length (omega (arith, z.1))) c.lay.ensures in
-    record { outcome = λ h. long_rows h (clean e) _ f.first-fault.ensures.1 _ t.total_of.ensures a.table.now _ l.if1.false n }
+    record { outcome = λ h. long_rows h (clean e) _ f.first_fault.ensures.1 _ t.total_of.ensures a.table.now _ l.if1.false n }
 
 the_overflow_cast_name_2 : tie.Need-overflow_cast-name-2
 the_overflow_cast_name_2 = search rules

@@ -11,13 +11,13 @@ use Rattle.bac6_bone.proofs.bone.bone_fields.Statement.{statement}
 use Rattle.bac6_bone.proofs.bone.bone_fields.Tie as tie
 
 abbrev invariant-loop : tie.invariant-loop-seen
-invariant-loop text points bone row₀ owners₀ fine seen₀ d₀ left₀ free₀ t16 t17 row owners seen d left free =
+invariant-loop text points bone row₀ owners₀ fine seen₀ d₀ left₀ free₀ row owners seen d left free =
     Between text d₀ left d points (to_z w64 bone) (fine, owners₀) seen (row, (free, owners))
     × (length seen ≡ 7)
     × (length owners ≡ length owners₀)
 
 abbrev decreases-loop : tie.decreases-loop-seen
-decreases-loop text points bone row₀ owners₀ fine seen₀ d₀ left₀ free₀ t16 t17 row owners seen d left free =
+decreases-loop text points bone row₀ owners₀ fine seen₀ d₀ left₀ free₀ row owners seen d left free =
     left
 
 loop-holds : tie.Need-loop-seen-init invariant-loop decreases-loop

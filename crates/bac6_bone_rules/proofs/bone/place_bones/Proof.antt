@@ -32,7 +32,7 @@ same_length c = search rules
 returns : tie.Need-returns-then-next-rows
 unfolding refusal bones_fault
 returns c =
-    let n = c.before.before in
+    let n = c.before in
     let b = n.before.before in
     let e = b.whole_rows-rows.ensures in
     let t = b.args.table.now in
@@ -57,7 +57,7 @@ same-length-3 c = search rules
 returns-3 : tie.Need-returns-else-next-rows
 unfolding refusal bones_fault
 returns-3 c =
-    let n = c.before.before in
+    let n = c.before in
     let b = n.before.before in
     let e = b.whole_rows-rows.ensures in
     let t = b.args.table.now in

@@ -11,13 +11,13 @@ use Rattle.bac6_materials.proofs.material.material_fields.Statement.{statement}
 use Rattle.bac6_materials.proofs.material.material_fields.Tie as tie
 
 abbrev invariant-loop : tie.invariant-loop-seen
-invariant-loop text row₀ seen₀ d₀ left₀ t12 t13 row seen d left =
+invariant-loop text row₀ seen₀ d₀ left₀ row seen d left =
     Between text d₀ left d seen row
     × (length seen ≡ 9)
     × (length row ≡ length row₀)
 
 abbrev decreases-loop : tie.decreases-loop-seen
-decreases-loop text row₀ seen₀ d₀ left₀ t12 t13 row seen d left = left
+decreases-loop text row₀ seen₀ d₀ left₀ row seen d left = left
 
 loop-holds : tie.Need-loop-seen-init invariant-loop decreases-loop
 loop-holds c = (between_start _ _ _ _ c.requires refl, refl, refl)

@@ -64,7 +64,7 @@ returns-2 c =
     let m : SFits w64 f.0.1.1.1.1.0 = record { sfits = t.in-Plain.known_told-1-own.given.1.1.1.1.0.1 } in
     let e : output k.append_row.result k.append_row.new.buf ≡ appended (output a.n a.buf.now) (line (bytes "corner") (to_z w64 (of_z w64 s1.shown-f.result) ∷ to_z w64 (of_z w64 s2.shown-c.result) ∷ to_z w64 (of_z w64 f.0.0) ∷ to_z w64 (of_z w64 f.0.1.0) ∷ to_z w64 (of_z w64 f.0.1.1.0) ∷ to_z w64 (of_z w64 f.0.1.1.1.0) ∷ to_z w64 (of_z w64 f.0.1.1.1.1.0) ∷ [])) = k.append_row.ensures in
     plain_put a.n a.face a.k _ a.buf.now _ a.answer f.0.0 f.0.1.0 f.0.1.1.0 f.0.1.1.1.0 f.0.1.1.1.1.0 f.1 (x, (y, (z, (o, (m, tt)))))
-    (rw (held a.face _ s1.shown-f.ensures, held a.k _ s2.shown-c.ensures, to_z-of_z x, to_z-of_z y, to_z-of_z z, to_z-of_z o, to_z-of_z m) at e)
+    (rw (held a.face _ s1.shown-f.ensures, held a.k _ s2.shown-c.ensures, to_z-of_z {w = w64} x, to_z-of_z {w = w64} y, to_z-of_z {w = w64} z, to_z-of_z {w = w64} o, to_z-of_z {w = w64} m) at e)
 
 same-length-2 : tie.Need-shape_of-buf-in-Textured
 same-length-2 c = search rules
@@ -87,7 +87,7 @@ returns-3 c =
     let v : SFits w64 f.0.1.1.1.1.1.1.0 = record { sfits = t.in-Textured.known_told-in-Textured-1-own.given.1.1.1.1.1.1.0.1 } in
     let e : output k.append_row-in-Textured.result k.append_row-in-Textured.new.buf ≡ appended (output a.n a.buf.now) (line (bytes "corner") (to_z w64 (of_z w64 s1.shown-f.result) ∷ to_z w64 (of_z w64 s2.shown-c.result) ∷ to_z w64 (of_z w64 f.0.0) ∷ to_z w64 (of_z w64 f.0.1.0) ∷ to_z w64 (of_z w64 f.0.1.1.0) ∷ to_z w64 (of_z w64 f.0.1.1.1.0) ∷ to_z w64 (of_z w64 f.0.1.1.1.1.0) ∷ to_z w64 (of_z w64 f.0.1.1.1.1.1.0) ∷ to_z w64 (of_z w64 f.0.1.1.1.1.1.1.0) ∷ [])) = k.append_row-in-Textured.ensures in
     textured_put a.n a.face a.k _ a.buf.now _ a.answer f.0.0 f.0.1.0 f.0.1.1.0 f.0.1.1.1.0 f.0.1.1.1.1.0 f.0.1.1.1.1.1.0 f.0.1.1.1.1.1.1.0 f.1 (x, (y, (z, (o, (m, (u, (v, tt)))))))
-    (rw (held a.face _ s1.shown-f.ensures, held a.k _ s2.shown-c.ensures, to_z-of_z x, to_z-of_z y, to_z-of_z z, to_z-of_z o, to_z-of_z m, to_z-of_z u, to_z-of_z v) at e)
+    (rw (held a.face _ s1.shown-f.ensures, held a.k _ s2.shown-c.ensures, to_z-of_z {w = w64} x, to_z-of_z {w = w64} y, to_z-of_z {w = w64} z, to_z-of_z {w = w64} o, to_z-of_z {w = w64} m, to_z-of_z {w = w64} u, to_z-of_z {w = w64} v) at e)
 
 pub append_corner_spec : {M : Type 1} → statement M
 append_corner_spec = tie.close (tie.spec shown-requires shown-requires-2 enum_told enum-known-answer slice-aggregate-append-row append-row-requires enum-known-answer-2 slice-aggregate-append-row-2 append-row-requires-2 returns same_length returns-2 same-length-2 returns-3)

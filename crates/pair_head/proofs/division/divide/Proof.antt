@@ -33,10 +33,9 @@ enum_told c = search rules
 returns-2 : tie.Need-returns-in-Length
 returns-2 c =
     let v = c.before in
-    let f = v.length-1.given in
     let p = v.before in
     let a = p.args in
-    c.divide_at.ensures ∙ sym (by_length a.text.now a.more p.parse_head.result p.parse_head.ensures f.0.0 f.1)
+    c.divide_at.ensures ∙ sym (by_length a.text.now a.more p.parse_head.result p.parse_head.ensures v.in-Length.length v.in-Length.is)
 
 returns-3 : tie.Need-returns-in-Wrong
 unfolding division_named

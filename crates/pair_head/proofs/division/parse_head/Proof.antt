@@ -26,8 +26,8 @@ returns-2 : tie.Need-returns-then-run_end-lt8
 unfolding length_named
 returns-2 c =
     let t = c.before in
-    let e = t.before.before in
-    sym (too_few e.args.bytes.now e.if1.false _ t.run_end.ensures c.if-run_end-lt8.true)
+    let e = t.before in
+    sym (too_few e.args.bytes.now e.if-bytes-ne9.false _ t.run_end.ensures c.if-run_end-lt8.true)
 
 shared-slice-read-if3 : tie.Need-bounds-bytes-8
 shared-slice-read-if3 c = search rules
@@ -37,8 +37,8 @@ unfolding length_named
 returns-3 c =
     let k = c.before.before in
     let t = k.before in
-    let e = t.before.before in
-    sym (no_feed e.args.bytes.now e.if1.false _ t.run_end.ensures k.if-run_end-lt8.false c.if-bytes-ne10.true)
+    let e = t.before in
+    sym (no_feed e.args.bytes.now e.if-bytes-ne9.false _ t.run_end.ensures k.if-run_end-lt8.false c.if-bytes-ne10.true)
 
 int-requires : tie.Need-int-requires
 int-requires c κs = search rules
@@ -62,10 +62,9 @@ returns-4 c =
     let i = v.before in
     let k = i.before.before.before in
     let t = k.before in
-    let e = t.before.before in
-    let f = v.value-1.given in
-    let fits : SFits w64 f.0.0 = record { sfits = v.in-Value.known_told-1-own.given.0.1 } in
-    sym (head-value e.args.bytes.now e.if1.false _ t.run_end.ensures k.if-run_end-lt8.false i.int.result f.0.0 _ i.if-bytes-ne10.false i.int.ensures f.1 (c.magnitude.ensures ∙ ap nat_abs (to_z-of_z fits)))
+    let e = t.before in
+    let fits : SFits w64 v.in-Value.value = record { sfits = v.in-Value.known_told-1-own.given.0.1 } in
+    sym (head-value e.args.bytes.now e.if-bytes-ne9.false _ t.run_end.ensures k.if-run_end-lt8.false i.int.result v.in-Value.value _ i.if-bytes-ne10.false i.int.ensures v.in-Value.is (c.magnitude.ensures ∙ ap nat_abs (to_z-of_z {w = w64} fits)))
 
 returns-5 : tie.Need-returns-in-Beyond
 unfolding length_named
@@ -73,8 +72,8 @@ returns-5 c =
     let i = c.before in
     let k = i.before.before.before in
     let t = k.before in
-    let e = t.before.before in
-    absurd (never_beyond e.args.bytes.now e.if1.false _ t.run_end.ensures k.if-run_end-lt8.false i.int.result i.int.ensures c.in-Beyond.is)
+    let e = t.before in
+    absurd (never_beyond e.args.bytes.now e.if-bytes-ne9.false _ t.run_end.ensures k.if-run_end-lt8.false i.int.result i.int.ensures c.in-Beyond.is)
 
 returns-6 : tie.Need-returns-in-Malformed
 unfolding length_named
@@ -82,8 +81,8 @@ returns-6 c =
     let i = c.before in
     let k = i.before.before.before in
     let t = k.before in
-    let e = t.before.before in
-    absurd (never_wrong e.args.bytes.now e.if1.false _ t.run_end.ensures k.if-run_end-lt8.false i.int.result i.int.ensures c.in-Malformed.is)
+    let e = t.before in
+    absurd (never_wrong e.args.bytes.now e.if-bytes-ne9.false _ t.run_end.ensures k.if-run_end-lt8.false i.int.result i.int.ensures c.in-Malformed.is)
 
 pub parse_head_spec : {M : Type 1} → statement M
 parse_head_spec = tie.close (tie.spec returns slice-aggregate-digits run-end-requires returns-2 shared-slice-read-if3 returns-3 int-requires enum-known-value magnitude-requires enum_told enum-told-2 returns-4 returns-5 returns-6)

@@ -31,28 +31,28 @@ read_is e = e.read-answer.ensures.0 ∙ ap (λ (n : ℕ). answer_of (fitted layo
 
 module _ (e : tie.Else-total-eq0) where
   abbrev text : List ℕ
-  text = e.before.before.before.before.before.before.args.figure.now
+  text = e.args.figure.now
 
   abbrev zeros : List ℤ
   zeros = replicate 37026 (pos 0)
 
   abbrev last : List ℤ
-  last = e.before.before.read.last.1.0
+  last = e.read-answer.last.1.0
 
-  took : Read figure-held 37026 (figure_outcome text) e.before.before.read.result
-  took = read_taken figure-held 37026 _ (figure_small _) _ (read_is e.before.before) e.if1.left
+  took : Read figure-held 37026 (figure_outcome text) e.read-answer.result
+  took = read_taken figure-held 37026 _ (figure_small _) _ (read_is e.before.before) e.if-total-eq0.false
 
   taken : figure_answer text (length zeros) ≡ accepted took.value
   unfolding figure_answer
   taken = ap (λ (n : ℕ). fitted layout_of n (figure_outcome text)) (length-replicate 37026 (pos 0)) ∙ read_whole figure-held 37026 _ _ took (figure_small _)
 
   left : last ≡ table_after text zeros
-  left = e.before.before.read.ensures.1
+  left = e.read-answer.ensures.1
 
   laid-down : last ≡ layout_of took.value ++ drop (length (layout_of took.value)) zeros
   laid-down = left ∙ figure-table text zeros took.value taken
 
-  long : e.before.before.read.result.total ≤ length last
+  long : e.read-answer.result.total ≤ length last
   long = let a = ap length laid-down ∙ length-append (layout_of took.value) _ in let b = total-is figure-held 37026 _ _ took in omega arith
 
 -- the pair as the movement's half with the figure's own table
@@ -75,7 +75,7 @@ module _ (l : tie.After-load_movement-moved) where
   paired : whole ≡ with_figure (took before-it).value half
   unfolding figure_answer answer_of
   paired =
-      pair_is _ _ _ _ (replicate 37026 (pos 0)) (took before-it).value (taken before-it) (figure_stands _ _ (took before-it).alone) (room_enough figure-held 37026 _ _ (took before-it) _ l.before.before.before.before.if2.left)
+      pair_is _ _ _ _ (replicate 37026 (pos 0)) (took before-it).value (taken before-it) (figure_stands _ _ (took before-it).alone) (room_enough figure-held 37026 _ _ (took before-it) _ l.if-table-total.false)
       ∙ ap (with_figure (took before-it).value) (sym (ap₂ (λ (n : FigureCounts) (t : List ℤ). moved_answer (text before-it) n t movement space) (ap (λ (a : FigureAnswer). a.counts) (took before-it).answer) (left before-it)))
 
   halved : half ≡ movement_of whole

@@ -39,38 +39,38 @@ read_is e = e.read-answer.ensures.0 ∙ ap (λ (n : ℕ). answer_of (fitted layo
 
 module _ (e : tie.Else-total-eq0) where
   abbrev text : List ℕ
-  text = e.before.before.before.before.before.before.before.before.args.movement.now
+  text = e.args.movement.now
 
   abbrev zeros : List ℤ
   zeros = replicate 11779 (pos 0)
 
   abbrev last : List ℤ
-  last = e.before.before.read.last.1.0
+  last = e.read-answer.last.1.0
 
-  took : Read movement-held 11779 (movement_outcome text) e.before.before.read.result
-  took = read_taken movement-held 11779 _ (movement_small _) _ (read_is e.before.before) e.if2.left
+  took : Read movement-held 11779 (movement_outcome text) e.read-answer.result
+  took = read_taken movement-held 11779 _ (movement_small _) _ (read_is e.before.before) e.if-total-eq0.false
 
   taken : movement_answer text (length zeros) ≡ accepted took.value
   unfolding movement_answer
   taken = ap (λ (n : ℕ). fitted layout_of n (movement_outcome text)) (length-replicate 11779 (pos 0)) ∙ read_whole movement-held 11779 _ _ took (movement_small _)
 
   left : last ≡ movement_table text zeros
-  left = e.before.before.read.ensures.1
+  left = e.read-answer.ensures.1
 
   laid-down : last ≡ layout_of took.value ++ drop (length (layout_of took.value)) zeros
   laid-down = left ∙ table-read text zeros took.value taken
 
-  counted : e.before.before.read.result.counts ≡ counts_read took.value
+  counted : e.read-answer.result.counts ≡ counts_read took.value
   unfolding answer_of
   counted = ap (λ (a : MovementAnswer). a.counts) took.answer
 
-  holds : holds_movement e.before.before.read.result.counts last ≡ true
+  holds : holds_movement e.read-answer.result.counts last ≡ true
   holds = ap₂ holds_movement counted left ∙ movement_holds text zeros took.value taken
 
-  long : e.before.before.read.result.total ≤ length last
+  long : e.read-answer.result.total ≤ length last
   long = let a = ap length laid-down ∙ length-append (layout_of took.value) _ in let b = total-is movement-held 11779 _ _ took in omega arith
 
-  ruled : tables_fault e.before.before.before.before.before.before.before.before.args.figure.now e.before.before.before.before.before.before.before.before.args.n e.before.before.before.before.before.before.before.before.args.table.now text e.before.before.read.result.counts last ≡ pair_fault (names e.before.before.before.before.before.before.before.before.args.figure.now e.before.before.before.before.before.before.before.before.args.n e.before.before.before.before.before.before.before.before.args.table.now) e.before.before.before.before.before.before.before.before.args.n.groups took.value
+  ruled : tables_fault e.args.figure.now e.args.n e.args.table.now text e.read-answer.result.counts last ≡ pair_fault (names e.args.figure.now e.args.n e.args.table.now) e.args.n.groups took.value
   ruled = held_tables _ _ _ _ _ _ (names_some _ _ _ (named e.before.before.before.before)).1 holds ∙ ap₂ (rows_fault _ _ _ text) counted left ∙ (tables_are text zeros took.value taken (movement_stands text took.value took.alone) _ _ _)
 
 has-names-requires : tie.Need-has_names-requires

@@ -8,7 +8,7 @@ use lib.ListN.{length, drop}
 use Rattle.parse_spec.specs.Internal.Fields.{covers_all}
 use Rattle.parse_chunks.proofs.Stored.{covers_end, covers_past, covers_missing, covers_set, covers_free}
 use Rattle.parse_chunks.proofs.chunk.covers.Statement.{statement}
-use Rattle.parse_chunks.proofs.chunk.covers.Lts.{then-needed-i, else-needed-i}
+use Rattle.parse_chunks.proofs.chunk.covers.Lts.{then-needed-i+else-not-seen-i, else-needed-i}
 use Rattle.parse_chunks.proofs.chunk.covers.Tie as tie
 
 abbrev invariant-loop : tie.invariant-loop-i
@@ -45,7 +45,7 @@ loop-again c =
     let l = c.loop-i in
     let n = c.loop-i-test.true in
     let s = c.if-seen-i.false in
-    rw add-one (elim c.if-needed-i.branch [ then-needed-i w ↦ l.invariant ∙ covers_set _ _ _ n s (not-false _ w.2.left) | else-needed-i w ↦ l.invariant ∙ covers_free _ _ _ n s w.left ])
+    rw add-one (elim c.if-needed-i.branch [ then-needed-i+else-not-seen-i w ↦ l.invariant ∙ covers_set _ _ _ n s w.if-not-seen-i.false | else-needed-i w ↦ l.invariant ∙ covers_free _ _ _ n s w.if-needed-i.false ])
 
 returns-3 : tie.Need-returns invariant-loop decreases-loop
 returns-3 c = sym (c.loop-i.invariant ∙ covers_end _ _ _ c.loop-i-test.false)

@@ -30,9 +30,9 @@ returns-2 : tie.Need-returns-then-not-covers
 unfolding lexeme_of lexeme
 returns-2 c =
     let v = c.before in
-    let k = v.before.before.before in
+    let k = v.before.before in
     let n = k.before in
-    (next_early _ _ _ n.next.ensures n.if-c-ne0.false _ _ _ _ _ (sym (k.is-closing.ensures _) ∙ v.if-is_closing.true) (sym v.covers.ensures ∙ not-true _ c.if-not-covers.true-raw), (sym (set_out _ _ _ (omega arith)), λ _. refl))
+    (next_early _ _ _ n.next-t.ensures n.if-c-ne0.false _ _ _ _ _ (sym (k.is_closing.ensures _) ∙ v.if-is_closing.true) (sym v.covers.ensures ∙ not-true _ c.if-not-covers.true-raw), (sym (set_out _ _ _ (omega arith)), λ _. refl))
 
 same-length-2 : tie.Need-shape_of-seen-then-is_closing
 same-length-2 c = search rules
@@ -41,9 +41,9 @@ returns-3 : tie.Need-returns-then-is_closing
 unfolding lexeme_of lexeme
 returns-3 c =
     let v = c.before in
-    let k = v.before.before.before in
+    let k = v.before.before in
     let n = k.before in
-    (next_close _ _ _ n.next.ensures n.if-c-ne0.false _ _ _ _ (sym (k.is-closing.ensures _) ∙ v.if-is_closing.true) (sym v.covers.ensures ∙ not-false _ c.if-not-covers.false-raw), (sym (set_out _ _ _ (omega arith)), λ _. refl))
+    (next_close _ _ _ n.next-t.ensures n.if-c-ne0.false _ _ _ _ (sym (k.is_closing.ensures _) ∙ v.if-is_closing.true) (sym v.covers.ensures ∙ not-false _ c.if-not-covers.false-raw), (sym (set_out _ _ _ (omega arith)), λ _. refl))
 
 returns-4 : tie.Need-returns-then-left-eq0
 unfolding lexeme_of lexeme

@@ -1,4 +1,5 @@
 -- `lowest` is the definition, by the number's sign.
+use mir.Syntax.{w64}
 use mathlib.Core.Path.{◌≡◌, ap, sym, ◌∙◌}
 use mathlib.Core.Option.{some}
 use Prim.Native.Nat.{ℕ}
@@ -16,7 +17,7 @@ magnitude-requires : tie.Need-magnitude-size-requires
 magnitude-requires c κs = search rules
 
 sized : (m : tie.After-magnitude-size) → m.magnitude-size.result ≡ nat_abs m.args.z
-sized m = m.magnitude-size.ensures ∙ ap nat_abs (to_z-of_z m.ranges.z)
+sized m = m.magnitude-size.ensures ∙ ap nat_abs (to_z-of_z {w = w64} m.ranges.z)
 
 terms-requires : tie.Need-terms-t-requires
 terms-requires c κs = let s = c.before in (s.requires.1, enough_200 _ _ (rw (sized c) s.requires.0) s.requires.1 s.requires.2)

@@ -21,11 +21,11 @@ loop-holds c = (refl, c.requires.0, refl)
 
 -- in a turn a step is left
 module _ (e : tie.In-loop-x invariant-loop decreases-loop) where
-  enough : let l = e.before.loop in Enough (odd_left l.left l.x l.odd)
-  enough = enough_by _ _ e.before.loop.invariant.2 e.before.before.requires.1
+  enough : let l = e.loop-x in Enough (odd_left l.left l.x l.odd)
+  enough = enough_by _ _ e.loop-x.invariant.2 e.requires.1
 
-  one_left : 0 < e.before.loop.left
-  one_left = odd_some _ _ _ e.loop-test.taken enough
+  one_left : 0 < e.loop-x.left
+  one_left = odd_some _ _ _ e.loop-x-test.true enough
 
 sub-left : tie.Need-overflow_sub-left invariant-loop decreases-loop
 sub-left c = one_left c

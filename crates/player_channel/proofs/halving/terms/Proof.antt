@@ -32,10 +32,10 @@ enough e = enough_by _ _ e.loop-left.invariant.3 e.requires.1
 
 -- in a turn both are even, and two steps are left
 module _ (c : tie.In-loop-left invariant-loop decreases-loop) where
-  both : let l = c.before.before.loop in both_even l.numerator l.denominator ≡ true
-  both = sym c.before.both-even.ensures ∙ c.if1.true
+  both : let l = c.loop-left in both_even l.numerator l.denominator ≡ true
+  both = sym c.both_even.ensures ∙ c.loop-left-test.true
 
-  two-left : 2 ≤ c.before.before.loop.left
+  two-left : 2 ≤ c.loop-left.left
   two-left = terms_some _ _ _ both (enough c.before.before)
 
 sub-left : tie.Need-overflow_sub-left invariant-loop decreases-loop

@@ -41,7 +41,7 @@ begun-requires c κs = search rules
 returns : tie.Need-returns-then-count-eq0 invariant-loop decreases-loop
 returns c =
     let s = c.before in
-    let z = to_z-of_z {w = w64} (record { sfits = s.standing.type-inv }) ∙ s.standing.ensures in
+    let z = to_z-of_z {w = w64} (record { sfits = s.standing.type_inv }) ∙ s.standing.ensures in
     at_rest _ _ _ _ s.requires _ _ s.if-count-eq0.true (rw z at c.begun.ensures)
 
 shared-slice-copy-out-first : tie.Need-bounds-keys-1 invariant-loop decreases-loop
@@ -69,7 +69,7 @@ loop-holds : tie.Need-loop-i-init invariant-loop decreases-loop
 loop-holds c =
     let o = c.before.before.before.before.before.before in
     let s = o.before in
-    let t = to_z-of_z s.ranges.total in
+    let t = to_z-of_z {w = w64} s.ranges.total in
     let v = to_z-of_z {w = w64} {z = get_or s.args.keys.now (1) (pos 0)} (record { sfits = c.first-1.given }) in
     let float = sym (c.is_float.ensures ∙ ap is_float v) ∙ not-false _ c.if-not-is_float.false-raw in
     let b = rw v at c.begun-p.ensures in (
@@ -109,7 +109,7 @@ stepped m =
     let s = m.before.before.before.before.before.before.before.before.before.before.before.before in
     let a = s.args in
     let l = m.loop-i in
-    let t = to_z-of_z s.ranges.total in
+    let t = to_z-of_z {w = w64} s.ranges.total in
     let rest = rows_at 2 a.keys.now ((l.i + 1) * 2) (a.count - (l.i + 1)) in
     (rw t at l.invariant.0)
     ∙ ap (λ (ks : List Key). pass_from a.total a.at (key_of l.p) (state_of l.p) ks) (left_more a.keys.now a.count a.total a.at s.requires l.i m.loop-i-test.true)
@@ -128,7 +128,7 @@ loop-again : tie.Need-loop-i-preserved invariant-loop decreases-loop
 loop-again c =
     let m = c.before.before in
     let s = m.before.before.before.before.before.before.before.before.before.before.before.before in
-    let t = to_z-of_z s.ranges.total in
+    let t = to_z-of_z {w = w64} s.ranges.total in
     let fine = not-false _ c.if-not-p.false in
     (rw t (stepped m ∙ goes_on _ _ _ _ fine), fine, rw t (rw t at (m.step-p.ensures.1 fine)), let h = m.loop-i-test.true in omega arith)
 
@@ -136,7 +136,7 @@ returns-5 : tie.Need-returns invariant-loop decreases-loop
 returns-5 c =
     let s = c.before.before.before.before.before.before.before.before.before in
     let l = c.loop-i in
-    let t = to_z-of_z s.ranges.total in
+    let t = to_z-of_z {w = w64} s.ranges.total in
     ended _ _ _ _ s.requires l.p l.i l.invariant.1 (let h = c.loop-i-test.false in omega arith) ∙ sym (rw t at l.invariant.0)
 
 pub pass_over_spec : {M : Type 1} → statement M

@@ -29,10 +29,10 @@ ratio_of n d = record { numerator = n; denominator = d }
 
 -- the two tests
 told : (c : tie.After-follows) → let a = c.args in c.follows.result ≡ key_fine a.total (some (pos a.p.before)) (a.f ∷ a.v ∷ [])
-told c = let s = c.before.before.before in rw (to_z-of_z s.ranges.total, to_z-of_z s.ranges.f) at (c.follows.ensures s.args.v)
+told c = let s = c.before.before.before in rw (to_z-of_z {w = w64} s.ranges.total, to_z-of_z {w = w64} s.ranges.f) at (c.follows.ensures s.args.v)
 
 sized : (c : tie.After-is_float) → c.is_float.result ≡ is_float c.args.v
-sized c = c.is_float.ensures ∙ ap is_float (to_z-of_z c.ranges.v)
+sized c = c.is_float.ensures ∙ ap is_float (to_z-of_z {w = w64} c.ranges.v)
 
 -- both passed
 sound : (c : tie.Else-not-is_float) → let a = c.args in key_fine a.total (some (pos a.p.before)) (a.f ∷ a.v ∷ []) ≡ true
@@ -64,18 +64,18 @@ returns-3 c =
     let e = c.before in
     let s = e.before.before.before.before.before.before in
     let a = s.args in
-    let b = ap nat_abs (to_z-of_z s.ranges.f) in
-    let i = to_z-of_z s.ranges.v in
-    (known_on a.p a.f a.v a.total a.at (sound e) (float e) _ refl b i c.if-p.true refl (to_z-of_z (record { sfits = c.struct_told-2-1.given.1.1.1.1.0.1 })) refl, λ q. ready_on a.p a.f a.v a.total a.at (sound e) (float e) s.requires _ b i (λ k. refute (sym k ∙ c.if-p.true)))
+    let b = ap nat_abs (to_z-of_z {w = w64} s.ranges.f) in
+    let i = to_z-of_z {w = w64} s.ranges.v in
+    (known_on a.p a.f a.v a.total a.at (sound e) (float e) _ refl b i c.if-p.true refl (to_z-of_z {w = w64} (record { sfits = c.struct_told-2-1.given.1.1.1.1.0.1 })) refl, λ q. ready_on a.p a.f a.v a.total a.at (sound e) (float e) s.requires _ b i (λ k. refute (sym k ∙ c.if-p.true)))
 
 returns-4 : tie.Need-returns-then-g-at
 returns-4 c =
     let e = c.before.before in
     let s = e.before.before.before.before.before.before in
     let a = s.args in
-    let f = to_z-of_z s.ranges.f in
+    let f = to_z-of_z {w = w64} s.ranges.f in
     let b = ap nat_abs f in
-    let i = to_z-of_z s.ranges.v in
+    let i = to_z-of_z {w = w64} s.ranges.v in
     (open_on a.p a.f a.v a.total a.at (sound e) (float e) _ refl b i c.if-p.false refl (rw f at c.if-g-at.true), λ q. ready_on a.p a.f a.v a.total a.at (sound e) (float e) s.requires _ b i (λ k. rw f at c.if-g-at.true))
 
 line-requires : tie.Need-line-r-requires
@@ -83,10 +83,10 @@ line-requires c κs =
     let e = c.before.before in
     let s = e.before.before.before.before.before.before in
     let a = s.args in
-    let f = to_z-of_z s.ranges.f in
+    let f = to_z-of_z {w = w64} s.ranges.f in
     let w = to_z-of_z {w = w64} {z = a.p.value} (record { sfits = c.struct_told-1.given.1.1.0.1 }) in
     let m = (frame_facts a.total a.f a.v a.p.before (sound e)).1 in
-    (rw w s.requires.value, rw (to_z-of_z s.ranges.v) (float_most a.v (float e)), s.requires.open_yet c.if-p.false, c.if-g-at.false, rw f (let t = s.requires.frames in omega arith))
+    (rw w s.requires.value, rw (to_z-of_z {w = w64} s.ranges.v) (float_most a.v (float e)), s.requires.open_yet c.if-p.false, c.if-g-at.false, rw f (let t = s.requires.frames in omega arith))
 
 returns-5 : tie.Need-returns
 unfolding ratio key_of
@@ -94,9 +94,9 @@ returns-5 c =
     let e = c.before.before.before.before in
     let s = e.before.before.before.before.before.before in
     let a = s.args in
-    let f = to_z-of_z s.ranges.f in
+    let f = to_z-of_z {w = w64} s.ranges.f in
     let b = ap nat_abs f in
-    let i = to_z-of_z s.ranges.v in
+    let i = to_z-of_z {w = w64} s.ranges.v in
     let w = to_z-of_z {w = w64} {z = a.p.value} (record { sfits = c.struct_told-1.given.1.1.0.1 }) in
     let n = ap (λ (z : ℤ). ratio_of z c.line-r.result.denominator) (to_z-of_z {w = w64} {z = c.line-r.result.numerator} (record { sfits = c.struct_told-3-1.given.0.1 })) in
     (passed_on a.p a.f a.v a.total a.at (sound e) (float e) _ refl b i c.if-p.false refl (rw f at c.if-g-at.false) (n ∙ (rw (w, f, i) at c.line-r.ensures.0)), λ q. ready_on a.p a.f a.v a.total a.at (sound e) (float e) s.requires _ b i (λ k. refute (sym k)))

@@ -35,7 +35,7 @@ size_fits : (m : tie.After-t19-1) → SFits w64 (face_size m.args.row.now)
 size_fits m = record { sfits = m.t19-1.given }
 
 used : (e : tie.Else-row-k) → e.args.k < nat_abs (face_size e.args.row.now)
-used e = (let h = rw (to_z-of_z (size_fits e.before)) at e.if-row-k.false in omega arith)
+used e = (let h = rw (to_z-of_z {w = w64} (size_fits e.before)) at e.if-row-k.false in omega arith)
 
 below : (e : tie.Else-row-k) → e.args.k < 4
 below e =
@@ -92,7 +92,7 @@ cast-if2 c = natural_cast _ (size_fits c) (face-size _ _ (fine c.before)).0
 
 returns-2 : tie.Need-returns-then-row-k
 unfolding numbered cornered
-returns-2 c = ap numbered (no_corner _ _ _ _ (fine c.before.before) (rw (to_z-of_z (size_fits c.before)) at c.if-row-k.true))
+returns-2 c = ap numbered (no_corner _ _ _ _ (fine c.before.before) (rw (to_z-of_z {w = w64} (size_fits c.before)) at c.if-row-k.true))
 
 shared-slice-copy-out-material : tie.Need-bounds-row-0
 shared-slice-copy-out-material c = search rules
@@ -115,7 +115,7 @@ is-none-requires c κs = search rules
 
 returns-4 : tie.Need-returns-then-is_none
 unfolding numbered cornered
-returns-4 c = ap numbered (ap some (corner-same none (three-same (to_z-of_z (record { sfits = c.struct_told-1.given.1.0.1 })) (to_z-of_z (record { sfits = c.struct_told-2-1.given.1.1.0.1 })) (to_z-of_z (record { sfits = c.struct_told-3-1.given.1.1.1.0.1 })) ∙ position c.before.before.before.before.before.before.before.before.before.before) (to_z-of_z (record { sfits = c.struct_told-4-1.given.1.1.1.1.0.1 }) ∙ owner c.before.before.before.before.before.before.before.before.before.before) (to_z-of_z {w = w64} {z = face_material c.args.row.now} (record { sfits = c.material-1.given }))) ∙ plain _ _ _ _ (fine c.before.before.before.before.before.before.before.before.before.before.before.before.before.before.before) (used c.before.before.before.before.before.before.before.before.before.before.before.before.before) (point-sound c.before.before.before.before) (sym (none_told c.before) ∙ c.if-is_none.true))
+returns-4 c = ap numbered (ap some (corner-same none (three-same (to_z-of_z {w = w64} (record { sfits = c.struct_told-1.given.1.0.1 })) (to_z-of_z {w = w64} (record { sfits = c.struct_told-2-1.given.1.1.0.1 })) (to_z-of_z {w = w64} (record { sfits = c.struct_told-3-1.given.1.1.1.0.1 })) ∙ position c.before.before.before.before.before.before.before.before.before.before) (to_z-of_z {w = w64} (record { sfits = c.struct_told-4-1.given.1.1.1.1.0.1 }) ∙ owner c.before.before.before.before.before.before.before.before.before.before) (to_z-of_z {w = w64} {z = face_material c.args.row.now} (record { sfits = c.material-1.given }))) ∙ plain _ _ _ _ (fine c.before.before.before.before.before.before.before.before.before.before.before.before.before.before.before) (used c.before.before.before.before.before.before.before.before.before.before.before.before.before) (point-sound c.before.before.before.before) (sym (none_told c.before) ∙ c.if-is_none.true))
 
 uv-at-requires : tie.Need-uv_at-c-requires
 uv-at-requires c κs = (c.requires.0, ap (is_row c.args.n.uvs) (uv c.before.before.before) ∙ face-uv _ _ (fine c.before.before.before.before.before.before.before.before.before.before.before.before.before.before.before) c.requires.1 _ (used c.before.before.before.before.before.before.before.before.before.before.before.before.before) (some_uv c))
@@ -126,7 +126,7 @@ returns-5 c = ap numbered (uv_broken _ _ _ _ (fine c.before.before.before.before
 
 returns-6 : tie.Need-returns
 unfolding numbered cornered
-returns-6 c = ap numbered (ap some (corner-same _ (three-same (to_z-of_z (record { sfits = c.struct_told-1.given.1.0.1 })) (to_z-of_z (record { sfits = c.struct_told-2-1.given.1.1.0.1 })) (to_z-of_z (record { sfits = c.struct_told-3-1.given.1.1.1.0.1 })) ∙ position c.before.before.before.before.before.before.before.before.before.before.before.before.before.before.before) (to_z-of_z (record { sfits = c.struct_told-4-1.given.1.1.1.1.0.1 }) ∙ owner c.before.before.before.before.before.before.before.before.before.before.before.before.before.before.before) (to_z-of_z {w = w64} {z = face_material c.args.row.now} (record { sfits = c.material-1.given })) ∙ ap (textured_with _ _ _) (two_same (to_z-of_z (record { sfits = c.struct_told-6-1.given.1.0.1 })) (to_z-of_z (record { sfits = c.struct_told-7-1.given.1.1.0.1 })) ∙ uv-numbers c.before.before.before.before)) ∙ textured _ _ _ _ (fine c.before.before.before.before.before.before.before.before.before.before.before.before.before.before.before.before.before.before.before.before) (used c.before.before.before.before.before.before.before.before.before.before.before.before.before.before.before.before.before.before) (point-sound c.before.before.before.before.before.before.before.before.before) (some_uv c.before.before.before.before.before) (sym (uv-sound c.before.before.before.before) ∙ not-false _ c.if-not-c.false))
+returns-6 c = ap numbered (ap some (corner-same _ (three-same (to_z-of_z {w = w64} (record { sfits = c.struct_told-1.given.1.0.1 })) (to_z-of_z {w = w64} (record { sfits = c.struct_told-2-1.given.1.1.0.1 })) (to_z-of_z {w = w64} (record { sfits = c.struct_told-3-1.given.1.1.1.0.1 })) ∙ position c.before.before.before.before.before.before.before.before.before.before.before.before.before.before.before) (to_z-of_z {w = w64} (record { sfits = c.struct_told-4-1.given.1.1.1.1.0.1 }) ∙ owner c.before.before.before.before.before.before.before.before.before.before.before.before.before.before.before) (to_z-of_z {w = w64} {z = face_material c.args.row.now} (record { sfits = c.material-1.given })) ∙ ap (textured_with _ _ _) (two_same (to_z-of_z {w = w64} (record { sfits = c.struct_told-6-1.given.1.0.1 })) (to_z-of_z {w = w64} (record { sfits = c.struct_told-7-1.given.1.1.0.1 })) ∙ uv-numbers c.before.before.before.before)) ∙ textured _ _ _ _ (fine c.before.before.before.before.before.before.before.before.before.before.before.before.before.before.before.before.before.before.before.before) (used c.before.before.before.before.before.before.before.before.before.before.before.before.before.before.before.before.before.before) (point-sound c.before.before.before.before.before.before.before.before.before) (some_uv c.before.before.before.before.before) (sym (uv-sound c.before.before.before.before) ∙ not-false _ c.if-not-c.false))
 
 pub row_corner_spec : {M : Type 1} → statement M
 row_corner_spec = tie.close (tie.spec face-sound-requires returns shared-slice-copy-out-if2 cast-if2 returns-2 shared-slice-copy-out-material face-vertex-requires point-at-requires returns-3 face-uv-requires is-none-requires returns-4 uv-at-requires returns-5 returns-6)

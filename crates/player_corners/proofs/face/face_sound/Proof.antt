@@ -30,10 +30,10 @@ size-told : (m : tie.After-size_fine) → m.size_fine.result ≡ size_fine (get_
 size-told m = tested size_fine _ (fits m.before) m.size_fine.ensures
 
 vertices-told : (m : tie.After-corners_fine) → m.corners_fine.result ≡ corners_fine m.args.n.points (nat_abs (get_or m.args.row.now 1 (pos 0))) (take 4 (drop 2 m.args.row.now))
-vertices-told m = m.corners_fine.ensures ∙ ap (λ (z : ℤ). corners_fine m.args.n.points (nat_abs z) (take 4 (drop 2 m.args.row.now))) (to_z-of_z (fits m.before.before.before.before))
+vertices-told m = m.corners_fine.ensures ∙ ap (λ (z : ℤ). corners_fine m.args.n.points (nat_abs z) (take 4 (drop 2 m.args.row.now))) (to_z-of_z {w = w64} (fits m.before.before.before.before))
 
 uvs-told : (m : tie.After-uvs_fine) → m.uvs_fine.result ≡ (all_none (take 4 (drop 6 m.args.row.now)) || corners_fine m.args.n.uvs (nat_abs (get_or m.args.row.now 1 (pos 0))) (take 4 (drop 6 m.args.row.now)))
-uvs-told m = m.uvs_fine.ensures ∙ ap (λ (z : ℤ). all_none (take 4 (drop 6 m.args.row.now)) || corners_fine m.args.n.uvs (nat_abs z) (take 4 (drop 6 m.args.row.now))) (to_z-of_z (fits m.before.before.before.before.before.before.before))
+uvs-told m = m.uvs_fine.ensures ∙ ap (λ (z : ℤ). all_none (take 4 (drop 6 m.args.row.now)) || corners_fine m.args.n.uvs (nat_abs z) (take 4 (drop 6 m.args.row.now))) (to_z-of_z {w = w64} (fits m.before.before.before.before.before.before.before))
 
 material : (e : tie.Else-not-is_row) → is_row e.args.n.materials (get_or e.args.row.now 0 (pos 0)) ≡ true
 material e = sym (row_told e.before) ∙ not-false _ e.if-not-is_row.false-raw

@@ -90,7 +90,7 @@ returns c =
     let t = a.table.now in
     let f = e.requires.0 in
     let r = three-same (to_z-of_z {w = w64} {z = get_or t (base e) (pos 0)} (record { sfits = c.x-1.given })) (to_z-of_z {w = w64} {z = get_or t (base e + 1) (pos 0)} (record { sfits = c.y-1.given })) (to_z-of_z {w = w64} {z = get_or t (base e + 2) (pos 0)} (record { sfits = c.z-1.given })) in
-    (r ∙ sym (three-at t (base e) (room e).0) ∙ ap (λ (x : ℕ). numbers_at t x 3) (point_index _ _ _ f a.v.0 (fits e)), (to_z-of_z (record { sfits = c.owner_at-owner.type-inv }) ∙ c.owner_at-owner.ensures ∙ owner-part _ _ _ f a.v.0, c.point_fine-fine.ensures))
+    (r ∙ sym (three-at t (base e) (room e).0) ∙ ap (λ (x : ℕ). numbers_at t x 3) (point_index _ _ _ f a.v.0 (fits e)), (to_z-of_z {w = w64} (record { sfits = c.owner_at-owner.type_inv }) ∙ c.owner_at-owner.ensures ∙ owner-part _ _ _ f a.v.0, c.point_fine-fine.ensures))
 
 pub point_at_spec : {M : Type 1} → statement M
 point_at_spec = tie.close (tie.spec cast-at mul-base add-base mul-x shared-slice-copy-out-x add-y mul-y shared-slice-copy-out-y add-z mul-z shared-slice-copy-out-z mul-owner-at sub-owner-at part-owner-at-start part-owner-at-end owner-at-requires point-fine-requires returns)

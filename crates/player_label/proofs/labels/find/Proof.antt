@@ -36,16 +36,12 @@ returns-2 c = no_movement-name _ _ _ _ _ _ _ (sym (ap found c.in_default-movemen
 returns-3 : tie.Need-returns-then-from-to
 unfolding found named
 returns-3 c =
-    let k = c.before.before in
-    let j = k.before.before.before.before in
-    by_movement _ _ _ _ _ _ _ _ _ _ _ (sym (ap found j.in-At.is) ∙ j.figure_name.ensures) (sym (ap found k.in-At-movement_name.is) ∙ k.movement_name.ensures) c.if-from-to.true
+    by_movement _ _ _ _ _ _ _ _ _ _ _ (sym (ap found c.in-At.is) ∙ c.figure_name.ensures) (sym (ap found c.in-At-movement_name.is) ∙ c.movement_name.ensures) c.if-from-to.true
 
 returns-4 : tie.Need-returns
 unfolding found named
 returns-4 c =
-    let k = c.before.before in
-    let j = k.before.before.before.before in
-    by_figure _ _ _ _ _ _ _ _ _ _ _ (sym (ap found j.in-At.is) ∙ j.figure_name.ensures) (sym (ap found k.in-At-movement_name.is) ∙ k.movement_name.ensures) c.if-from-to.false
+    by_figure _ _ _ _ _ _ _ _ _ _ _ (sym (ap found c.in-At.is) ∙ c.figure_name.ensures) (sym (ap found c.in-At-movement_name.is) ∙ c.movement_name.ensures) c.if-from-to.false
 
 pub find_spec : {M : Type 1} → statement M
 find_spec = tie.close (tie.spec figure-name-requires enum-known-start enum_told returns movement-name-requires enum-known-from enum-told-2 returns-2 returns-3 returns-4)

@@ -37,7 +37,7 @@ decreases-loop rows total groups group at count started₀ best₀ frame₀ i₀
 
 -- the invariant, with the total as it was passed
 found : (c : tie.At-loop-i invariant-loop decreases-loop) → let a = c.args in let n = length a.rows.now / 3 in decided_in a.total a.groups a.group a.at (rows_at 3 a.rows.now 0 n) ≡ answer_by (from a.rows.now n a.total a.groups a.group a.at c.loop-i.i c.loop-i.started (best_in a.rows.now n c.loop-i.best))
-found c = rw (to_z-of_z c.ranges.total) at c.loop-i.invariant.0
+found c = rw (to_z-of_z {w = w64} c.ranges.total) at c.loop-i.invariant.0
 
 loop-holds : tie.Need-loop-i-init invariant-loop decreases-loop
 loop-holds c = (begun _ _ _ _ _ _, best_frame_lem _ _, omega arith, omega arith)
@@ -76,18 +76,18 @@ abbrev Called : Type 0
 Called = tie.After-line_fine invariant-loop decreases-loop
 
 -- the line's three numbers from their bits
-frame : (m : Called) → let b = m.before.before.before.before.before in let z = get_or b.before.args.rows.now (b.loop.i * 3) (pos 0) in to_z w64 (of_z w64 z) ≡ z
-frame m = to_z-of_z (record { sfits = m.before.before.before.f.given })
+frame : (m : Called) → let b = m.before.before.before.before.before in let z = get_or b.args.rows.now (b.loop-i.i * 3) (pos 0) in to_z w64 (of_z w64 z) ≡ z
+frame m = to_z-of_z {w = w64} (record { sfits = m.f-1.given })
 
-group : (m : Called) → let b = m.before.before.before.before.before in let z = get_or b.before.args.rows.now (b.loop.i * 3 + 1) (pos 0) in to_z w64 (of_z w64 z) ≡ z
-group m = to_z-of_z (record { sfits = m.before.before.g.given })
+group : (m : Called) → let b = m.before.before.before.before.before in let z = get_or b.args.rows.now (b.loop-i.i * 3 + 1) (pos 0) in to_z w64 (of_z w64 z) ≡ z
+group m = to_z-of_z {w = w64} (record { sfits = m.g-1.given })
 
-flag : (m : Called) → let b = m.before.before.before.before.before in let z = get_or b.before.args.rows.now (b.loop.i * 3 + 2) (pos 0) in to_z w64 (of_z w64 z) ≡ z
-flag m = to_z-of_z (record { sfits = m.before.line-fine-arg.given })
+flag : (m : Called) → let b = m.before.before.before.before.before in let z = get_or b.args.rows.now (b.loop-i.i * 3 + 2) (pos 0) in to_z w64 (of_z w64 z) ≡ z
+flag m = to_z-of_z {w = w64} (record { sfits = m.line_fine-arg-1.given })
 
 -- the test of a line
-fine : (m : Called) → let b = m.before.before.before.before.before in let a = b.before.args in m.line-fine.result ≡ line_fine a.total a.groups (line_at a.rows.now (b.loop.i * 3))
-fine m = rw (to_z-of_z m.before.before.before.before.before.before.fits.total, frame m, group m, flag m) at m.line-fine.ensures
+fine : (m : Called) → let b = m.before.before.before.before.before in let a = b.args in m.line_fine.result ≡ line_fine a.total a.groups (line_at a.rows.now (b.loop-i.i * 3))
+fine m = rw (to_z-of_z {w = w64} m.ranges.total, frame m, group m, flag m) at m.line_fine.ensures
 
 returns : tie.Need-returns-then-not-line_fine invariant-loop decreases-loop
 unfolding decided answer_by
@@ -133,7 +133,7 @@ loop-again c =
     let e = c.before.before.before in
     let b = e.before.before.before.before.before.before in
     let h = e.loop-i-test.true in
-    let t = to_z-of_z b.ranges.total in
+    let t = to_z-of_z {w = w64} b.ranges.total in
     (rw (t, begins c.before.before) (found b ∙ ap answer_by (turn_taken _ _ _ _ _ _ (omega arith) _ _ _ h (sound e) (sym (told c.before) ∙ c.if-replaces.true))), rw (frame e.before) (here_frame _ _ _ h), omega arith, omega arith)
 
 loop-less-2 : tie.Need-loop-i-smaller invariant-loop decreases-loop
@@ -144,7 +144,7 @@ loop-again-2 c =
     let e = c.before.before.before in
     let b = e.before.before.before.before.before.before in
     let h = e.loop-i-test.true in
-    let t = to_z-of_z b.ranges.total in
+    let t = to_z-of_z {w = w64} b.ranges.total in
     (rw (t, begins c.before.before) (found b ∙ ap answer_by (turn_kept _ _ _ _ _ _ (omega arith) _ _ _ h (sound e) (sym (told c.before) ∙ c.if-replaces.false))), b.loop-i.invariant.1, omega arith, b.loop-i.invariant.3)
 
 -- the pass is at its end

@@ -1,4 +1,5 @@
 -- `line_fine` is the definition, by its tests one after the other.
+use mir.Syntax.{w64}
 use mathlib.Core.Path.{◌≡◌, sym, ◌∙◌}
 use mathlib.Core.List.{[], ◌∷◌}
 use borrow.Author.Rules.{rules}
@@ -11,7 +12,7 @@ use Rattle.player_patterns.proofs.line.line_fine.Statement.{statement}
 use Rattle.player_patterns.proofs.line.line_fine.Tie as tie
 
 fits_told : (m : tie.After-pattern_fits) → let a = m.args in m.pattern_fits.result ≡ pattern_fine a.total (a.f ∷ a.g ∷ a.flag ∷ [])
-fits_told m = let f = m.ranges in rw (to_z-of_z f.total, to_z-of_z f.f, to_z-of_z f.g) at (m.pattern_fits.ensures m.args.flag)
+fits_told m = let f = m.ranges in rw (to_z-of_z {w = w64} f.total, to_z-of_z {w = w64} f.f, to_z-of_z {w = w64} f.g) at (m.pattern_fits.ensures m.args.flag)
 
 row_told : (m : tie.After-is_row) → let a = m.args in m.is_row.result ≡ is_row a.groups a.g
 row_told m = let s = m.before.before.before in tested (is_row s.args.groups) s.args.g s.ranges.g m.is_row.ensures

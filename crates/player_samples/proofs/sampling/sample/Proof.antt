@@ -29,17 +29,17 @@ use Rattle.player_samples.proofs.sampling.sample.Tie as tie
 -- ---- the table holds what its counts say, and the bones and the keys begin where they say
 
 module _ (e : tie.Else-s-eq0) where
-  held : holds_movement e.before.before.before.args.n e.before.before.before.args.table.now ≡ true
-  held = movement-held _ _ _ e.before.before.movement-in.ensures e.if1.false
+  held : holds_movement e.args.n e.args.table.now ≡ true
+  held = movement-held _ _ _ e.movement_in-s.ensures e.if-s-eq0.false
 
-  found : e.before.before.movement-in.result ≡ movement_sections e.before.before.before.args.n
-  found = movement-found _ _ _ e.before.before.movement-in.ensures e.if1.left
+  found : e.movement_in-s.result ≡ movement_sections e.args.n
+  found = movement-found _ _ _ e.movement_in-s.ensures e.if-s-eq0.false
 
-  bones_are : e.before.before.movement-in.result.bones ≡ 3
+  bones_are : e.movement_in-s.result.bones ≡ 3
   unfolding movement_sections
   bones_are = ap (λ (s : MovementSections). s.bones) found
 
-  keys-are : e.before.before.movement-in.result.keys ≡ 3 + e.before.before.before.args.n.bones * 22
+  keys-are : e.movement_in-s.result.keys ≡ 3 + e.args.n.bones * 22
   unfolding movement_sections keys_begin
   keys-are = ap (λ (s : MovementSections). s.keys) found
 
@@ -49,26 +49,26 @@ row e = (let h = e.if-n-bone.false in omega arith)
 -- ---- the channel's pair, and the keys that it names
 
 module _ (e : tie.Else-channel-ge-CHANNELS) where
-  known : e.before.before.before.before.before.before.args.channel < 10
-  known = (let h = e.if3.false in omega arith)
+  known : e.args.channel < 10
+  known = (let h = e.if-channel-ge-CHANNELS.false in omega arith)
 
   abbrev T : List ℤ
-  T = e.before.before.before.before.before.before.args.table.now
+  T = e.args.table.now
 
   abbrev n : MovementCounts
-  n = e.before.before.before.before.before.before.args.n
+  n = e.args.n
 
   abbrev bone : ℕ
-  bone = e.before.before.before.before.before.before.args.bone
+  bone = e.args.bone
 
   abbrev channel : ℕ
-  channel = e.before.before.before.before.before.before.args.channel
+  channel = e.args.channel
 
   abbrev begin : ℕ
-  begin = e.before.before.before.before.before.movement-in.result.keys
+  begin = e.movement_in-s.result.keys
 
   abbrev pair : ℕ
-  pair = e.before.before.before.before.before.movement-in.result.bones + bone * 22 + 2 + channel * 2
+  pair = e.movement_in-s.result.bones + bone * 22 + 2 + channel * 2
 
   abbrev first : ℤ
   first = get_or T pair (pos 0)
@@ -101,8 +101,8 @@ module _ (e : tie.Else-channel-ge-CHANNELS) where
         ap (λ (k : ℕ). rows_at 2 T (k + nat_abs first * 2) (nat_abs count)) (keys-are e.before.before.before)
         ∙ ap (λ (i : ℕ). rows_at 2 T (3 + n.bones * 22 + nat_abs (get_or T i (pos 0)) * 2) (nat_abs (get_or T (i + 1) (pos 0)))) pair-at
 
-    answered : sample_by (number_at T 0) channel e.before.before.before.before.before.before.args.at (rows_at 2 T (begin + nat_abs first * 2) (nat_abs count)) ≡ sample_in n T bone channel e.before.before.before.before.before.before.args.at
-    answered = ap (sample_by (number_at T 0) channel e.before.before.before.before.before.before.args.at) same_keys ∙ played n T bone channel _ (held e.before.before.before) (row e.before) known (by-pair true ranged)
+    answered : sample_by (number_at T 0) channel e.args.at (rows_at 2 T (begin + nat_abs first * 2) (nat_abs count)) ≡ sample_in n T bone channel e.args.at
+    answered = ap (sample_by (number_at T 0) channel e.args.at) same_keys ∙ played n T bone channel _ (held e.before.before.before) (row e.before) known (by-pair true ranged)
 
 -- ---- the pair as it was read
 
@@ -113,7 +113,7 @@ count_fits : (m : tie.After-count-1) → SFits w64 (count m.before.before.before
 count_fits m = record { sfits = m.count-1.given }
 
 told : (m : tie.After-is_range) → let e = m.before.before.before.before in m.is_range.result ≡ is_range (n e).keys (first e) (count e)
-told m = rw (to_z-of_z (first_fits m.before.before), to_z-of_z (count_fits m.before)) at m.is_range.ensures
+told m = rw (to_z-of_z {w = w64} (first_fits m.before.before), to_z-of_z {w = w64} (count_fits m.before)) at m.is_range.ensures
 
 abbrev here : tie.Else-not-is_range → tie.Else-channel-ge-CHANNELS
 here c = c.before.before.before.before.before
@@ -123,10 +123,10 @@ ranged c = sym (told c.before) ∙ not-false _ c.if-not-is_range.false-raw
 
 -- the cast numbers
 first-is : (c : tie.Else-not-is_range) → to_z w64 (of_z w64 (first (here c))) ≡ first (here c)
-first-is c = to_z-of_z (first_fits c.before.before.before)
+first-is c = to_z-of_z {w = w64} (first_fits c.before.before.before)
 
 count_is : (c : tie.Else-not-is_range) → to_z w64 (of_z w64 (count (here c))) ≡ count (here c)
-count_is c = to_z-of_z (count_fits c.before.before)
+count_is c = to_z-of_z {w = w64} (count_fits c.before.before)
 
 -- the first index of the keys, and the index behind them
 abbrev from : tie.Else-not-is_range → ℕ

@@ -83,7 +83,7 @@ returns-3 : tie.Need-returns
 returns-3 c =
     let line = c.before.before in
     let e = line.before in
-    let told = rw (to_z-of_z (fits e.before.before.before.before.before), to_z-of_z e.ranges.total) at line.deciding_line-line.ensures in
+    let told = rw (to_z-of_z {w = w64} (fits e.before.before.before.before.before), to_z-of_z {w = w64} e.ranges.total) at line.deciding_line-line.ensures in
     c.first_reason-2.ensures
     ∙ ap₂ first_reason e.row_owned-corners.ensures (c.by_line.ensures ∙ ap line_told told ∙ line-is _ _ _ _ _)
     ∙ in_group_lem _ _ _ _ _ _ (known e.before.before.before) (some-group e)

@@ -166,7 +166,7 @@ returns-5 c =
     (c.row_why.ensures
     ∙ ap (λ (r : List ℤ). row_why a.n t r (rows_at 3 (lent v from a.m.patterns) 0 (length (lent v from a.m.patterns) / 3)) z a.at) (part-numbers _ _ 11 t (begins e))
     ∙ ap (λ (p : List Pattern). row_why a.n t (face_at a.n t a.face) p z a.at) (lent_rows v from a.m.patterns (lines-room e) ∙ ap (λ (i : ℕ). rows_at 3 v i a.m.patterns) (patterns_are e.before.before.before.before.before))
-    ∙ ap (λ (y : ℤ). row_why a.n t (face_at a.n t a.face) (rows_at 3 v (patterns_begin a.m) a.m.patterns) y a.at) (to_z-of_z (total-fits e.before.before))
+    ∙ ap (λ (y : ℤ). row_why a.n t (face_at a.n t a.face) (rows_at 3 v (patterns_begin a.m) a.m.patterns) y a.at) (to_z-of_z {w = w64} (total-fits e.before.before))
     ∙ by_row _ _ _ _ _ _ (there e.before.before.before.before.before.before.before.before).held (moves-held e.before.before.before.before.before) (is-face e.before.before.before) (asked e))
 
 pub why_spec : {M : Type 1} → statement M

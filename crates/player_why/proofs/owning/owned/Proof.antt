@@ -49,18 +49,18 @@ module _ (e : tie.After-is_index invariant-loop decreases-loop) where
   abbrev owner : ℤ
   owner = owner_at start.args.n start.args.table.now (get_or (face_vertices start.args.row.now) (at-loop.loop.i - 1) (pos 0))
 
-  owner-is : e.before.owner_at.result ≡ owner
-  owner-is = e.before.owner_at.ensures ∙ owner-part _ _ _ start.pre.0 e.before.before.face_vertex.result.0 ∙ ap (owner_at start.args.n start.args.table.now) (vertex e.before.before)
+  owner-is : e.owner_at-owner.result ≡ owner
+  owner-is = e.owner_at-owner.ensures ∙ owner-part _ _ _ start.pre.0 e.face_vertex.result.0 ∙ ap (owner_at start.args.n start.args.table.now) (vertex e.before.before)
 
-  index-told : e.is-index.result ≡ is_index start.args.n.bones owner
-  index-told = tested (is_index _) _ (record { sfits = e.before.owner_at.ok }) e.is-index.ensures ∙ ap (is_index start.args.n.bones) owner-is
+  index-told : e.is_index.result ≡ is_index start.args.n.bones owner
+  index-told = tested (is_index _) _ (record { sfits = e.owner_at-owner.ok }) e.is_index.ensures ∙ ap (is_index start.args.n.bones) owner-is
 
   -- the corner before the one that was looked at last
   next : at-loop.loop.i ≡ suc (at-loop.loop.i - 1)
-  next = let h = e.before.before.before.before.loop-test.taken in omega arith
+  next = let h = e.loop-i-test.true in omega arith
 
 none_told : (m : tie.After-is_none invariant-loop decreases-loop) → m.is_none.result ≡ is_none (owner m.before.before)
-none_told m = tested is_none _ (record { sfits = m.owner_at-owner.type-inv }) m.is_none.ensures ∙ ap is_none (owner-is m.before.before)
+none_told m = tested is_none _ (record { sfits = m.owner_at-owner.type_inv }) m.is_none.ensures ∙ ap is_none (owner-is m.before.before)
 
 all_done : (m : tie.After-loop-i invariant-loop decreases-loop) → some (found m.args.used m.loop-i.first) ≡ owned_in m.args.n m.args.table.now (face_vertices m.args.row.now) m.args.used
 all_done m = let z : m.loop-i.i ≡ 0 = (let h = m.loop-i-test.false in omega arith) in ends _ _ _ _ (room m.before.before) _ (rw z at m.loop-i.invariant)

@@ -28,7 +28,7 @@ sized : (e : tie.Else-not-size_fine) → size_fine (get_or e.args.row.now 1 (pos
 sized e = sym (size-told e.before) ∙ not-false _ e.if-not-size_fine.false-raw
 
 vertices-told : (m : tie.After-corners_fine) → m.corners_fine.result ≡ corners_fine m.args.n.points (nat_abs (get_or m.args.row.now 1 (pos 0))) (take 4 (drop 2 m.args.row.now))
-vertices-told m = m.corners_fine.ensures ∙ ap (λ (z : ℤ). corners_fine m.args.n.points (nat_abs z) (take 4 (drop 2 m.args.row.now))) (to_z-of_z (fits m.before.before.before.before))
+vertices-told m = m.corners_fine.ensures ∙ ap (λ (z : ℤ). corners_fine m.args.n.points (nat_abs z) (take 4 (drop 2 m.args.row.now))) (to_z-of_z {w = w64} (fits m.before.before.before.before))
 
 vertices : (e : tie.Else-not-corners_fine) → corners_fine e.args.n.points (nat_abs (get_or e.args.row.now 1 (pos 0))) (take 4 (drop 2 e.args.row.now)) ≡ true
 vertices e = sym (vertices-told e.before) ∙ not-false _ e.if-not-corners_fine.false-raw
@@ -67,10 +67,10 @@ unfolding corner_told
 returns-2 c = no_vertices _ _ _ (sized c.before.before.before) (sym (vertices-told c.before) ∙ not-true _ c.if-not-corners_fine.true-raw)
 
 owned-requires : tie.Need-owned-requires
-owned-requires c κs = (c.requires.0, c.requires.1, rw (to_z-of_z (fits c.before.before.before.before.before)) (within c))
+owned-requires c κs = (c.requires.0, c.requires.1, rw (to_z-of_z {w = w64} (fits c.before.before.before.before.before)) (within c))
 
 returns-3 : tie.Need-returns
-returns-3 c = c.owned.ensures ∙ ap (λ (z : ℤ). owned_in c.args.n c.args.table.now (take 4 (drop 2 c.args.row.now)) (nat_abs z)) (to_z-of_z (fits c.before.before.before.before.before.before)) ∙ by_owners _ _ _ (sized c.before.before.before.before) (vertices c.before)
+returns-3 c = c.owned.ensures ∙ ap (λ (z : ℤ). owned_in c.args.n c.args.table.now (take 4 (drop 2 c.args.row.now)) (nat_abs z)) (to_z-of_z {w = w64} (fits c.before.before.before.before.before.before)) ∙ by_owners _ _ _ (sized c.before.before.before.before) (vertices c.before)
 
 pub row_owned_spec : {M : Type 1} → statement M
 row_owned_spec = tie.close (tie.spec shared-slice-copy-out-size size-fine-requires returns cast-used sub-corners-fine part-corners-fine-start part-corners-fine-end corners-fine-requires returns-2 owned-requires returns-3)

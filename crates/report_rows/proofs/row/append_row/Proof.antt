@@ -15,14 +15,14 @@ use Rattle.report_rows.proofs.row.append_row.Statement.{statement}
 use Rattle.report_rows.proofs.row.append_row.Tie as tie
 
 abbrev invariant-loop : tie.invariant-loop-i
-invariant-loop buf₀ n word numbers at₀ i₀ t7 t8 buf at i =
+invariant-loop buf₀ n word numbers at₀ i₀ buf at i =
     (i ≤ length numbers)
     × (length buf ≡ length buf₀)
     × (at + length (rest numbers i) ≤ length buf)
     × (appended (output at₀ buf₀) (rest numbers 0) ≡ appended (output at buf) (rest numbers i))
 
 abbrev decreases-loop : tie.decreases-loop-i
-decreases-loop buf₀ n word numbers at₀ i₀ t7 t8 buf at i = length numbers - i
+decreases-loop buf₀ n word numbers at₀ i₀ buf at i = length numbers - i
 
 row-fits-requires : tie.Need-row_fits-requires invariant-loop decreases-loop
 row-fits-requires c κs = search rules

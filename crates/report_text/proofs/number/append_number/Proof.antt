@@ -21,7 +21,7 @@ decimal-requires c κs = search rules
 add-has-room : tie.Need-overflow_add-k
 add-has-room c =
     let d = c.decimal-k in
-    let most = count_most _ _ _ _ c.ranges.z c.magnitude.ensures d.ensures.1.0 d.ensures.1.1 in
+    let most = count_most _ _ _ _ c.ranges.z c.magnitude.ensures d.ensures.1.0 d.ensures.1.1.0 in
     omega (arith, most)
 
 has-room-requires : tie.Need-has_room-requires
@@ -31,17 +31,17 @@ has-room-requires c κs = search rules
 from : (c : tie.Else-z-lt0) → numeral c.args.z ≡ take c.decimal-k.result c.decimal-k.new.out
 from c =
     let d = c.decimal-k in
-    text-from _ _ _ _ c.ranges.z c.magnitude.ensures d.ensures.1.0 d.ensures.1.1 c.if-z-lt0.false
+    text-from _ _ _ _ c.ranges.z c.magnitude.ensures d.ensures.1.0 d.ensures.1.1.0 c.if-z-lt0.false
 
 below : (c : tie.Then-z-lt0) → numeral c.args.z ≡ 45 ∷ take c.decimal-k.result c.decimal-k.new.out
 below c =
     let d = c.decimal-k in
-    text-below _ _ _ _ c.ranges.z c.magnitude.ensures d.ensures.1.0 d.ensures.1.1 c.if-z-lt0.true
+    text-below _ _ _ _ c.ranges.z c.magnitude.ensures d.ensures.1.0 d.ensures.1.1.0 c.if-z-lt0.true
 
 wide : (c : tie.Then-z-lt0) → c.decimal-k.result + 1 ≡ length (numeral c.args.z)
 wide c =
     let d = c.decimal-k in
-    width-below _ _ _ _ c.ranges.z c.magnitude.ensures d.ensures.1.0 d.ensures.1.1 c.if-z-lt0.true
+    width-below _ _ _ _ c.ranges.z c.magnitude.ensures d.ensures.1.0 d.ensures.1.1.0 c.if-z-lt0.true
 
 returns : tie.Need-returns-then-not-has_room
 returns c =

@@ -66,7 +66,7 @@ returns-2 c =
     let fits : SFits w64 f.0.0 = record { sfits = t.in-Value.known_told-1-own.given.0.1 } in
     let e : output k.append_row-in-Value.result k.append_row-in-Value.new.buf ≡ appended (output a.n a.buf.now) (line (bytes "sample") (to_z w64 (of_z w64 s1.shown.result) ∷ to_z w64 (of_z w64 s2.shown-in-Value.result) ∷ to_z w64 (of_z w64 s3.shown-in-Value-2.result) ∷ to_z w64 (of_z w64 f.0.0) ∷ to_z w64 (of_z w64 s4.shown-in-Value-3.result) ∷ [])) = k.append_row-in-Value.ensures in
     value_put a.n a.bone a.channel a.at _ a.buf.now _ a.answer f.0.0 f.0.1.0 f.1 fits
-    (rw (held a.bone _ s1.shown.ensures, held a.channel _ s2.shown-in-Value.ensures, held a.at _ s3.shown-in-Value-2.ensures, to_z-of_z fits, held f.0.1.0 _ s4.shown-in-Value-3.ensures) at e)
+    (rw (held a.bone _ s1.shown.ensures, held a.channel _ s2.shown-in-Value.ensures, held a.at _ s3.shown-in-Value-2.ensures, to_z-of_z {w = w64} fits, held f.0.1.0 _ s4.shown-in-Value-3.ensures) at e)
 
 pub append_sample_spec : {M : Type 1} → statement M
 append_sample_spec = tie.close (tie.spec enum_told append-row-requires enum-known-answer shown-requires shown-requires-2 shown-requires-3 shown-requires-4 slice-aggregate-append-row append-row-requires-2 same_length returns same-length-2 returns-2)

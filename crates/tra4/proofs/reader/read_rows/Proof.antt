@@ -11,7 +11,7 @@ use Rattle.tra4.proofs.reader.read_rows.Statement.{statement}
 use Rattle.tra4.proofs.reader.read_rows.Tie as tie
 
 -- the rules' answer is that of the rules over what was parsed
-rules_are : (f : tie.After-first_fault) → refusal f.first_fault.result ≡ rules_fault f.args.p f.args.bone-rows.now f.args.key-rows.now f.args.pattern-rows.now
+rules_are : (f : tie.After-first_fault) → refusal f.first_fault.result ≡ rules_fault f.args.p f.args.bone_rows.now f.args.key_rows.now f.args.pattern_rows.now
 unfolding rules_fault
 rules_are f =
     rw (to_z-of_z {w = w64} {z = f.args.p.total} (record { sfits = f.struct_told-1.given.1.0.1 }), f.key_count-keys.ensures) at f.first_fault.ensures

@@ -19,7 +19,7 @@ use Rattle.tra4_bones.proofs.list.more_bones.Statement.{statement}
 use Rattle.tra4_bones.proofs.list.more_bones.Tie as tie
 
 abbrev invariant-loop : tie.invariant-loop-start
-invariant-loop text bone-rows₀ key-rows₀ scratch₀ d₀ count₀ keys₀ over₀ i₀ t15 bone-rows key-rows scratch d count keys over i =
+invariant-loop text bone-rows₀ key-rows₀ scratch₀ d₀ count₀ keys₀ over₀ i₀ bone-rows key-rows scratch d count keys over i =
     (from text d₀ (more_into (count₀, kept over₀ bone-rows₀ keys₀ key-rows₀)) ≡ from text d (more_into (count, kept over bone-rows keys key-rows)))
     × (length bone-rows ≡ length bone-rows₀)
     × (length key-rows ≡ length key-rows₀)
@@ -27,7 +27,7 @@ invariant-loop text bone-rows₀ key-rows₀ scratch₀ d₀ count₀ keys₀ ov
     × (count + length (lex_at text d.at) ≤ 2 + length text)
 
 abbrev decreases-loop : tie.decreases-loop-start
-decreases-loop text bone-rows₀ key-rows₀ scratch₀ d₀ count₀ keys₀ over₀ i₀ t15 bone-rows key-rows scratch d count keys over i =
+decreases-loop text bone-rows₀ key-rows₀ scratch₀ d₀ count₀ keys₀ over₀ i₀ bone-rows key-rows scratch d count keys over i =
     length (lex_at text d.at)
 
 not-present : (v : Bool) → not v ≡ true → v ≡ false
@@ -45,13 +45,13 @@ abbrev After : Type 0
 After = tie.After-next_bone-b invariant-loop decreases-loop
 
 -- a turn: the bones left are one fewer
-turn : (m : After) → from m.before.before.before.before.before.before.before.before.before.before.before.before.before.before.args.text.now m.before.before.before.before.before.before.before.before.before.before.before.loop.d (more_into (m.before.before.before.before.before.before.before.before.before.before.before.loop.count, kept m.before.before.before.before.before.before.before.before.before.before.before.loop.over m.before.before.before.before.before.before.before.before.before.before.before.loop.bone-rows m.before.before.before.before.before.before.before.before.before.before.before.loop.keys m.before.before.before.before.before.before.before.before.before.before.before.loop.key-rows)) ≡ from m.before.before.before.before.before.before.before.before.before.before.before.before.before.before.args.text.now m.next-bone.result.cursor (more_into (m.next-bone.result.count, kept m.next-bone.result.over m.next-bone.new.1.1.0 m.next-bone.result.keys m.next-bone.new.1.1.1.1.0))
+turn : (m : After) → from m.args.text.now m.loop-start.d (more_into (m.loop-start.count, kept m.loop-start.over m.loop-start.bone_rows m.loop-start.keys m.loop-start.key_rows)) ≡ from m.args.text.now m.next_bone-b.result.cursor (more_into (m.next_bone-b.result.count, kept m.next_bone-b.result.over m.next_bone-b.new.bone_rows m.next_bone-b.result.keys m.next_bone-b.new.key_rows))
 unfolding more_into bytes
-turn m = repeats_more "bone" bone_step bone bone_keeps _ _ _ _ m.before.before.before.before.before.before.before.before.before.optional.ensures _ _ _ m.next-bone.ensures.0 (present _ m.before.before.before.before.before.before.if1.false)
+turn m = repeats_more "bone" bone_step bone bone_keeps _ _ _ _ m.optional-s.ensures _ _ _ m.next_bone-b.ensures.0 (present _ m.if-not-s.false)
 
-falling : (m : After) → m.next-bone.result.cursor.refusal ≡ 0 → length (lex_at m.before.before.before.before.before.before.before.before.before.before.before.before.before.before.args.text.now m.next-bone.result.cursor.at) < length (lex_at m.before.before.before.before.before.before.before.before.before.before.before.before.before.before.args.text.now m.before.before.before.before.before.before.before.before.before.before.before.loop.d.at)
+falling : (m : After) → m.next_bone-b.result.cursor.refusal ≡ 0 → length (lex_at m.args.text.now m.next_bone-b.result.cursor.at) < length (lex_at m.args.text.now m.loop-start.d.at)
 unfolding bytes
-falling m o = repeats_fall "bone" bone_step bone bone_keeps _ _ _ _ m.before.before.before.before.before.before.before.before.before.optional.ensures _ (present _ m.before.before.before.before.before.before.if1.false) _ _ m.next-bone.ensures.0 o
+falling m o = repeats_fall "bone" bone_step bone bone_keeps _ _ _ _ m.optional-s.ensures _ (present _ m.if-not-s.false) _ _ m.next_bone-b.ensures.0 o
 
 loop-holds : tie.Need-loop-start-init invariant-loop decreases-loop
 loop-holds c = let p = c.requires in (refl, refl, refl, rw p, rw p (omega (arith, lex_at_count c.args.text.now c.args.first.cursor.at)))
@@ -88,7 +88,7 @@ unfolding bytes
 next-bone-requires c κs =
     let n = c.before.before.before.before.before.before.before.before in
     let l = n.loop-start in
-    let two = start_falls "bone" bone_step bone bone_keeps n.args.text.now l.d n.optional-s.result.cursor n.optional-s.result.present n.optional-s.ensures (l.count, kept l.over l.bone-rows l.keys l.key-rows) (present _ c.if-not-s.false) c.if-start-ne0.false in
+    let two = start_falls "bone" bone_step bone bone_keeps n.args.text.now l.d n.optional-s.result.cursor n.optional-s.result.present n.optional-s.ensures (l.count, kept l.over l.bone_rows l.keys l.key_rows) (present _ c.if-not-s.false) c.if-start-ne0.false in
     let some = lex_at_some n.args.text.now n.optional-s.result.cursor.at in
     (l.invariant.3, omega arith)
 

@@ -9,14 +9,14 @@ use Rattle.tra4_channels.proofs.channel.channel_chunks.Statement.{statement}
 use Rattle.tra4_channels.proofs.channel.channel_chunks.Tie as tie
 
 abbrev invariant-loop : tie.invariant-loop-seen
-invariant-loop text at ranges₀ keys₀ seen₀ d₀ left₀ count₀ over₀ t14 t15 ranges keys seen d left count over =
+invariant-loop text at ranges₀ keys₀ seen₀ d₀ left₀ count₀ over₀ ranges keys seen d left count over =
     Between text at left d seen ranges keys count over
     × (length seen ≡ 10)
     × (length ranges ≡ length ranges₀)
     × (length keys ≡ length keys₀)
 
 abbrev decreases-loop : tie.decreases-loop-seen
-decreases-loop text at ranges₀ keys₀ seen₀ d₀ left₀ count₀ over₀ t14 t15 ranges keys seen d left count over =
+decreases-loop text at ranges₀ keys₀ seen₀ d₀ left₀ count₀ over₀ ranges keys seen d left count over =
     left
 
 loop-holds : tie.Need-loop-seen-init invariant-loop decreases-loop

@@ -1,4 +1,5 @@
 -- `first_fault` is the first of four faults, by the law of each branch.
+use mir.Syntax.{w64}
 use mathlib.Core.Path.{◌≡◌, sym, ◌∙◌}
 use mathlib.Core.List.{[], ◌∷◌}
 use borrow.Author.Rules.{rules}
@@ -16,12 +17,12 @@ use Rattle.table_counts.specs.Counts.{movement_mosts}
 
 -- what each call says, with the total as it was passed
 total-told : (c : tie.After-total_fault) → refusal c.total_fault.result ≡ total_fault c.args.total
-total-told c = rw (to_z-of_z c.ranges.total) at c.total_fault.ensures
+total-told c = rw (to_z-of_z {w = w64} c.ranges.total) at c.total_fault.ensures
 
 keys-told : (c : tie.After-keys_fault) → let a = c.args in refusal c.keys_fault.result ≡ keys_fault a.total 0 (channels_in a.bone_count a.bones.now a.keys.now)
-keys-told c = rw (to_z-of_z c.ranges.total) at c.keys_fault.ensures
+keys-told c = rw (to_z-of_z {w = w64} c.ranges.total) at c.keys_fault.ensures
 
-no-counts : (c : tie.In-Clear) → let a = c.args in too_many 0 (a.bone_count ∷ a.key-count ∷ a.pattern-count ∷ []) movement_mosts ≡ clear
+no-counts : (c : tie.In-Clear) → let a = c.args in too_many 0 (a.bone_count ∷ a.key_count ∷ a.pattern_count ∷ []) movement_mosts ≡ clear
 no-counts c = clear_by c.counts_fault.ensures c.in-Clear.is
 
 no-total : (c : tie.In-Clear-total_fault) → total_fault c.args.total ≡ clear
@@ -79,7 +80,7 @@ returns-4 c =
     let e = c.before in
     let k = e.before in
     let s = k.before.before.before.before.before in
-    rw (to_z-of_z s.ranges.total) at c.patterns_fault.ensures
+    rw (to_z-of_z {w = w64} s.ranges.total) at c.patterns_fault.ensures
     ∙ sym (or-clear _ (no-counts k.before.before.before) ∙ or-clear _ (no-total k.before) ∙ or-clear _ (clear_by (keys-told k) e.in-Clear-keys_fault.is))
 
 pub first_fault_spec : {M : Type 1} → statement M
