@@ -2,7 +2,7 @@
 ghost use Rattle.std.specs.Prelude.{◌≡◌, ◌+◌, ◌*◌, ◌^◌, ◌<◌, min, length};
 ghost use Rattle.parse_cursor.specs.Internal.Cursors.{reads, from};
 ghost use Rattle.parse_rows.specs.Internal.Folds.{folded, stepped};
-ghost use Rattle.bac6_text.specs.Grammar.{bone as boneRead};
+ghost use Rattle.bac6_text.specs.Grammar.{bone as bone_read};
 ghost use Rattle.bac6_bones.specs.Internal.Into.{fault_of, bone_step, bones_into};
 ghost use Rattle.bac6_bone.specs.Internal.Into.{bone_tail};
 
@@ -64,7 +64,7 @@ fn more_bones(
     owners: &mut [i64],
 ) -> Boned
     requires { first.count ≡ 1 }
-    ensures { reads text.now result.cursor (result.count, table.new, (fault_of result.faulty result.fault, owners.new)) ≡ from text.now first.cursor (folded (bone_step points) boneRead (first.count, table.old, (fault_of first.faulty first.fault, owners.old))) }
+    ensures { reads text.now result.cursor (result.count, table.new, (fault_of result.faulty result.fault, owners.new)) ≡ from text.now first.cursor (folded (bone_step points) bone_read (first.count, table.old, (fault_of first.faulty first.fault, owners.old))) }
 {
     let mut d = first.cursor;
     let mut count = first.count;

@@ -2,7 +2,7 @@
 ghost use Rattle.std.specs.Prelude.{◌≡◌, ◌+◌, ◌≤◌, length};
 ghost use Rattle.parse_cursor.specs.Internal.Cursors.{reads, from};
 ghost use Rattle.parse_rows.specs.Internal.Folds.{stepped, folded};
-ghost use Rattle.bac6_text.specs.Grammar.{group as groupRead};
+ghost use Rattle.bac6_text.specs.Grammar.{group as group_read};
 ghost use Rattle.bac6_faces.specs.Internal.Into.{group_tail, group_step};
 ghost use Rattle.bac6_faces.specs.Internal.Bounds.{Bounded, Fewer};
 
@@ -53,7 +53,7 @@ pub(crate) fn group_list(
     names: &mut [i64],
 ) -> Polygons
     requires { Bounded text.now c count }
-    ensures { reads text.now result.cursor ((result.groups, names.new), (result.faces, faces.new)) ≡ from text.now c (folded group_step groupRead ((0, names.old), (count, faces.old))) }
+    ensures { reads text.now result.cursor ((result.groups, names.new), (result.faces, faces.new)) ≡ from text.now c (folded group_step group_read ((0, names.old), (count, faces.old))) }
 {
     let mut d = c;
     let mut n = count;

@@ -10,7 +10,7 @@ use Rattle.text_numerals.specs.Numbers.{value, beyond, wrong, Form, refusal_of}
 use Rattle.text_tokens.specs.declared.token.Kind.{Kind}
 use Rattle.text_tokens.specs.declared.token.Kind.TheVariants.{Opening, Closing, Quoted, Plain, Ending}
 use Rattle.text_tokens.specs.declared.token.Span.{Span}
-use Rattle.text_tokens.specs.Internal.Answers.{Next, lexeme_of, is_ending, token_of as spanToken}
+use Rattle.text_tokens.specs.Internal.Answers.{Next, lexeme_of, is_ending, token_of as span_token}
 use Rattle.parse_cursor.specs.declared.cursor.Cursor.{Cursor}
 use Rattle.parse_spec.specs.Readers.{got, number, number_in, pure}
 use Rattle.parse_cursor.specs.Internal.Cursors.{reads, from}
@@ -22,8 +22,8 @@ wrong-value : (z : ℤ) → wrong ≡ value z → ⊥
 wrong-value z e = let x : ◌≡◌ {A = ℕ} 0 1 = cc in omega arith
 
 -- the last token is no number
-counts : (f : Form) (k : Kind) (bs : List ℕ) (z : ℤ) → token_number f (spanToken k bs) ≡ value z → is_ending k ≡ false
-unfolding token_number spanToken is_ending
+counts : (f : Form) (k : Kind) (bs : List ℕ) (z : ℤ) → token_number f (span_token k bs) ≡ value z → is_ending k ≡ false
+unfolding token_number span_token is_ending
 counts f Opening bs z e = refl
 counts f Closing bs z e = refl
 counts f Quoted bs z e = refl

@@ -10,7 +10,7 @@ use Rattle.text_tokens.specs.Tokens.{Token, ending, Lexeme, lexeme, lex_at}
 use Rattle.text_tokens.specs.declared.token.Kind.{Kind}
 use Rattle.text_tokens.specs.declared.token.Kind.TheVariants.{Opening, Closing, Quoted, Plain, Ending}
 use Rattle.text_tokens.specs.declared.token.Span.{Span}
-use Rattle.text_tokens.specs.Internal.Answers.{Next, lexeme_of, is_ending, token_of as spanToken}
+use Rattle.text_tokens.specs.Internal.Answers.{Next, lexeme_of, is_ending, token_of as span_token}
 use Rattle.text_tokens.proofs.Spans.{after_more}
 use Rattle.parse_cursor.specs.declared.cursor.Cursor.{Cursor}
 use Rattle.parse_spec.specs.Readers.{Got, got, refused, Reader, after, ◌>>=◌, ◌>>◌, pure, stop, token_of, rest, take_if, close_bracket, closed}
@@ -47,8 +47,8 @@ passed text c a r e = from_off text c (pure a) e ∙ sym (from_off text c r e)
 
 -- ---- one token
 
-pub live : (test : Token → Bool) → test ending ≡ false → (k : Kind) (bs : List ℕ) → test (spanToken k bs) ≡ true → is_ending k ≡ false
-unfolding spanToken is_ending
+pub live : (test : Token → Bool) → test ending ≡ false → (k : Kind) (bs : List ℕ) → test (span_token k bs) ≡ true → is_ending k ≡ false
+unfolding span_token is_ending
 live test last Opening bs e = refl
 live test last Closing bs e = refl
 live test last Quoted bs e = refl

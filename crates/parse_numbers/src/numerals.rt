@@ -3,7 +3,7 @@ ghost use Rattle.std.specs.Prelude.{◌≡◌};
 ghost use Rattle.text_tokens.specs.Internal.Answers.{lexeme_of};
 ghost use Rattle.text_numbers.specs.Internal.Answers.{number_named};
 ghost use Rattle.text_numerals.specs.Numbers.{number_of};
-ghost use Rattle.parse_spec.specs.Readers.{number as numberRead};
+ghost use Rattle.parse_spec.specs.Readers.{number as number_read};
 ghost use Rattle.parse_cursor.specs.Internal.Cursors.{reads, from};
 ghost use Rattle.parse_numbers.specs.Internal.Answers.{form_named};
 ghost use Rattle.parse_spec.specs.Internal.Tokens.{token_number};
@@ -51,7 +51,7 @@ fn token_number(text: &[u8], t: Span, form: Form) -> Parsed
 
 // A number.
 pub fn number(text: &[u8], c: Cursor, form: Form) -> Numeric
-    ensures { reads text.now result.cursor result.value ≡ from text.now c (numberRead (form_named form)) }
+    ensures { reads text.now result.cursor result.value ≡ from text.now c (number_read (form_named form)) }
 {
     if c.refusal != 0 {
         return Numeric {

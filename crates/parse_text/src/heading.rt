@@ -1,7 +1,7 @@
 // What stands first in a text and last.
 ghost use Rattle.std.specs.Prelude.{◌≡◌};
 ghost use Rattle.parse_spec.specs.Readers.{head_of, text_end};
-ghost use Rattle.parse_spec.specs.Readers.{version as versionOf};
+ghost use Rattle.parse_spec.specs.Readers.{version as version_of};
 ghost use Rattle.parse_cursor.specs.Internal.Cursors.{reads, from};
 
 use parse_cursor::{Cursor, closing, opened};
@@ -9,7 +9,7 @@ use text_kinds::{is_ending, is_plain};
 
 // A version: another plain word is refusal 7.
 fn version(text: &[u8], c: Cursor, wanted: &[u8]) -> Cursor
-    ensures { reads text.now result tt ≡ from text.now c (versionOf wanted.now) }
+    ensures { reads text.now result tt ≡ from text.now c (version_of wanted.now) }
 {
     if c.refusal != 0 {
         return c;

@@ -2,7 +2,7 @@
 // each halving of one number and for each subtraction, and are handed back, so that the contracts say how many were taken. That they never fall below zero is proved.
 ghost use Rattle.std.specs.Prelude.{◌≡◌, true, false, ◌%◌, ◌/◌, ◌<◌};
 ghost use Rattle.std.proofs.Math.Option.{some};
-ghost use Rattle.player_spec.specs.Fractions.{factor as factorOf};
+ghost use Rattle.player_spec.specs.Fractions.{factor as factor_of};
 ghost use Rattle.player_fractions.specs.Halving.{is_even, both_even, odd_left, common_left, terms_left, Enough};
 
 fn is_even(x: u64) -> bool
@@ -30,7 +30,7 @@ struct Found {
 // The greatest common factor of a number and an odd one: a halving or a subtraction a turn.
 fn odd_factor(a: u64, b: u64, steps: u64) -> Found
     requires { (b % 2 ≡ 1) × Enough (odd_left steps a b) }
-    ensures { (result.factor ≡ factorOf a b) × (odd_left steps a b ≡ some result.left) }
+    ensures { (result.factor ≡ factor_of a b) × (odd_left steps a b ≡ some result.left) }
 {
     let mut x = a;
     let mut odd = b;
@@ -55,7 +55,7 @@ fn odd_factor(a: u64, b: u64, steps: u64) -> Found
 // The greatest common factor of two numbers that are not both even.
 fn common(a: u64, d: u64, steps: u64) -> Found
     requires { (both_even a d ≡ false) × Enough (common_left steps a d) }
-    ensures { (result.factor ≡ factorOf a d) × (common_left steps a d ≡ some result.left) }
+    ensures { (result.factor ≡ factor_of a d) × (common_left steps a d ≡ some result.left) }
 {
     if is_even(a) {
         return odd_factor(a, d, steps);
@@ -74,7 +74,7 @@ pub(crate) struct Reduced {
 // Both numbers are halved while both are even, and then divided by their common factor, which is odd: these are the only two divisions.
 pub(crate) fn terms(a: u64, d: u64, steps: u64) -> Reduced
     requires { (0 < d) × Enough (terms_left steps a d) }
-    ensures { (result.numerator ≡ a / factorOf a d) × (result.denominator ≡ d / factorOf a d) × (terms_left steps a d ≡ some result.left) }
+    ensures { (result.numerator ≡ a / factor_of a d) × (result.denominator ≡ d / factor_of a d) × (terms_left steps a d ≡ some result.left) }
 {
     let mut numerator = a;
     let mut denominator = d;

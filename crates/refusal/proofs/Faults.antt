@@ -1,6 +1,6 @@
 -- A fault is not none: two constructors differ.
 use mathlib.Core.Path.{◌≡◌, refl}
-use Prim.Native.Nat.{ℕ, ◌-◌}
+use Prim.Native.Nat.{ℕ}
 use native.Mathlib.Omega.{arith}
 use Rattle.refusal.specs.Faults.{clear, fault, Fault, is_clear}
 use mathlib.Core.Bool.{true, false, false≢true}

@@ -2,7 +2,7 @@
 ghost use Rattle.std.specs.Prelude.{◌≡◌, min};
 ghost use Rattle.report_text.specs.Output.{output, appended};
 ghost use Rattle.report_lists.specs.Lists.{row_list, listed, reached, first_line};
-ghost use Rattle.report_lists.specs.Lists.{shown as shownAs};
+ghost use Rattle.report_lists.specs.Lists.{shown as shown_as};
 
 use report_rows::append_row;
 use report_text::has_room;
@@ -16,7 +16,7 @@ pub struct Progress {
 
 // A count as a number of a line; one that no i64 holds is -1.
 pub fn shown(n: usize) -> i64
-    ensures { result ≡ shownAs n }
+    ensures { result ≡ shown_as n }
 {
     if n <= 9223372036854775807 {
         return n as i64;

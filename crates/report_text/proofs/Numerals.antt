@@ -15,7 +15,7 @@ use mir.Syntax.{w64}
 use mir.Val.{SFits, to_z, of_z}
 use mir.Facts.{to_z-of_z}
 use Rattle.io.specs.Digits.{IsDigitCount, hex_digit_ascii}
-use Rattle.io.specs.Digits.{last_digits as lastDigits}
+use Rattle.io.specs.Digits.{last_digits as digits_at_end}
 use Rattle.report_text.specs.Text.{digits_in, digits, numeral}
 
 -- a digit below ten
@@ -30,7 +30,7 @@ digits_more : (steps n : ℕ) → 10 ≤ n → digits_in (suc steps) n ≡ digit
 unfolding digits_in
 digits_more steps n h = rw (le-ltb n 10 h, digits_in)
 
-fewest_in : (k steps n : ℕ) → n < steps → IsDigitCount 10 1 n k → digits_in steps n ≡ lastDigits 10 k n
+fewest_in : (k steps n : ℕ) → n < steps → IsDigitCount 10 1 n k → digits_in steps n ≡ digits_at_end 10 k n
 fewest_in zero steps n s f = absurd (omega (arith, f.0))
 fewest_in (suc k) zero n s f = absurd (omega arith)
 fewest_in (suc zero) (suc steps) n s f = let h : n < 10 = f.1 in rw (digits-one steps n h, mod-eq_of_lt h, glyph_ten n h)
@@ -49,13 +49,13 @@ fewest_in (suc (suc k)) (suc steps) n s f =
     digits_more steps n ten
     ∙ rw (fewest_in (suc k) steps (n / 10) less (omega arith, high, λ _. rw less_two low), glyph_ten (n % 10) (mod-lt n (omega arith)))
 
-fewest : (k n : ℕ) → IsDigitCount 10 1 n k → digits n ≡ lastDigits 10 k n
+fewest : (k n : ℕ) → IsDigitCount 10 1 n k → digits n ≡ digits_at_end 10 k n
 unfolding digits
 fewest k n f = fewest_in k (suc n) n (omega arith) f
 
-digits_count : (k n : ℕ) → length (lastDigits 10 k n) ≡ k
+digits_count : (k n : ℕ) → length (digits_at_end 10 k n) ≡ k
 digits_count zero n = refl
-digits_count (suc k) n = length-append (lastDigits 10 k (n / 10)) (hex_digit_ascii (n % 10) ∷ []) ∙ rw (digits_count k (n / 10)) (omega arith)
+digits_count (suc k) n = length-append (digits_at_end 10 k (n / 10)) (hex_digit_ascii (n % 10) ∷ []) ∙ rw (digits_count k (n / 10)) (omega arith)
 
 -- a number below 10 ^ k has at most k digits
 digits-within : (k steps n : ℕ) → n < 10 ^ suc k → length (digits_in steps n) ≤ suc k
@@ -102,7 +102,7 @@ test : (z : ℤ) (v : Bool) → SFits w64 z → lt_z (to_z w64 (of_z w64 z)) (po
 test z v h e = ap (λ (x : ℤ). lt_z x (pos 0)) (sym (to_z-of_z {w = w64} h)) ∙ e
 
 -- m is the magnitude of z, and ds are its fewest digits, k of them
-module _ (z : ℤ) (m k : ℕ) (ds : List ℕ) (h : SFits w64 z) (e : m ≡ nat_abs (to_z w64 (of_z w64 z))) (f : IsDigitCount 10 1 m k) (d : ds ≡ lastDigits 10 k m) where
+module _ (z : ℤ) (m k : ℕ) (ds : List ℕ) (h : SFits w64 z) (e : m ≡ nat_abs (to_z w64 (of_z w64 z))) (f : IsDigitCount 10 1 m k) (d : ds ≡ digits_at_end 10 k m) where
   whole : m ≡ nat_abs z
   whole = e ∙ ap nat_abs (to_z-of_z {w = w64} h)
 

@@ -2,7 +2,7 @@
 ghost use Rattle.std.specs.Prelude.{◌≡◌, true, cond, ◌+◌, ◌≤◌, ◌<◌, ◌^◌, length, nat_abs};
 ghost use Rattle.text_runs.specs.Runs.{part};
 ghost use Rattle.text_numerals.specs.Numbers.{number_of, INT, FLOAT, float_of, all_digits, negative, signed, times_power, raised, in_range};
-ghost use Rattle.text_numerals.specs.Numbers.{decimal as decimalOf};
+ghost use Rattle.text_numerals.specs.Numbers.{decimal as decimal_of};
 ghost use Rattle.text_numbers.specs.Internal.Answers.{number_named, Leads, Fractional};
 ghost use Rattle.text_numerals.specs.Internal.Parts.{whole_in, within};
 
@@ -215,7 +215,7 @@ fn decimal(word: &[u8], start: usize, end: usize) -> u64
     requires start_le_end { (start ≤ end) × (end ≤ length word.now) }
     requires end_bound { end ≤ start + 10 }
     requires end_value { all_digits (part word.now start end) ≡ true }
-    ensures { result ≡ decimalOf (part word.now start end) }
+    ensures { result ≡ decimal_of (part word.now start end) }
 {
     let mut value: u64 = 0;
     let mut i = start;

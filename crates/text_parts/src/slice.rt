@@ -1,6 +1,6 @@
 // Parts of bytes.
 ghost use Rattle.std.specs.Prelude.{◌≡◌};
-ghost use Rattle.text_runs.specs.Runs.{part as part_of, same as sameBytes};
+ghost use Rattle.text_runs.specs.Runs.{part as part_of, same as same_bytes};
 
 // The bytes from `start` up to `end`, or as many of them as there are.
 pub fn part(text: &[u8], start: usize, end: usize) -> &[u8]
@@ -20,7 +20,7 @@ pub fn part(text: &[u8], start: usize, end: usize) -> &[u8]
 
 // Whether two lists of bytes are the same: a plain token's and a keyword's.
 pub fn same(a: &[u8], b: &[u8]) -> bool
-    ensures { result ≡ sameBytes a.now b.now }
+    ensures { result ≡ same_bytes a.now b.now }
 {
     if a.len() != b.len() {
         return false;

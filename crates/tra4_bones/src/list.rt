@@ -2,7 +2,7 @@
 ghost use Rattle.std.specs.Prelude.{◌≡◌, ◌+◌, ◌*◌, ◌^◌, ◌<◌, min, length};
 ghost use Rattle.parse_cursor.specs.Internal.Cursors.{reads, from};
 ghost use Rattle.parse_rows.specs.Internal.Folds.{stepped};
-ghost use Rattle.tra4_text.specs.Grammar.{bone as boneRead};
+ghost use Rattle.tra4_text.specs.Grammar.{bone as bone_read};
 ghost use Rattle.tra4_bones.specs.Internal.Into.{bone_step, more_into, bones_into};
 ghost use Rattle.tra4_bone.specs.Internal.Into.{kept};
 
@@ -31,7 +31,7 @@ fn next_bone(
     scratch: &mut [i64; 8192],
 ) -> Boned
     requires { (min to (length bone_rows.old) ≡ min (so_far.count * 22) (length bone_rows.old)) × (so_far.count < 2 ^ 63) }
-    ensures key_rows_after { reads text.now result.cursor (result.count, kept result.over bone_rows.new result.keys key_rows.new) ≡ from text.now so_far.cursor (stepped bone_step boneRead (so_far.count, kept so_far.over bone_rows.old so_far.keys key_rows.old)) }
+    ensures key_rows_after { reads text.now result.cursor (result.count, kept result.over bone_rows.new result.keys key_rows.new) ≡ from text.now so_far.cursor (stepped bone_step bone_read (so_far.count, kept so_far.over bone_rows.old so_far.keys key_rows.old)) }
     ensures count_value { result.count ≡ so_far.count + 1 }
 {
     let c = so_far.cursor;

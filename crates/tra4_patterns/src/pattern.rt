@@ -2,7 +2,7 @@
 ghost use Rattle.std.specs.Prelude.{◌≡◌};
 ghost use Rattle.parse_cursor.specs.Internal.Cursors.{reads, from};
 ghost use Rattle.parse_rows.specs.Internal.Folds.{folded, row_step};
-ghost use Rattle.tra4_text.specs.Grammar.{pattern as patternRead};
+ghost use Rattle.tra4_text.specs.Grammar.{pattern as pattern_read};
 ghost use Rattle.tra4_patterns.specs.Internal.Patterns.{pattern_into, patterns_into};
 
 use parse_cursor::Cursor;
@@ -30,7 +30,7 @@ fn pattern_tail(text: &[u8], c: Cursor, out: &mut [i64], at: usize) -> Cursor
 
 // Pattern lines up to the closing bracket.
 fn pattern_list(text: &[u8], c: Cursor, out: &mut [i64]) -> Counted
-    ensures { reads text.now result.cursor (result.count, out.new) ≡ from text.now c (folded (row_step 3) patternRead (0, out.old)) }
+    ensures { reads text.now result.cursor (result.count, out.new) ≡ from text.now c (folded (row_step 3) pattern_read (0, out.old)) }
 {
     let mut d = c;
     let mut i = 0;

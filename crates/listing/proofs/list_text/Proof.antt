@@ -30,8 +30,8 @@ returns c =
     let k = c.before.before.before.before.before.before in
     let r = k.read-answer in
     let a = c.args in
-    let lines = same_lines a.text.now r.new.1.0 r.result r.ensures.0 r.ensures.1 in
-    let text = same_text a.text.now r.new.1.0 r.result r.ensures.0 r.ensures.1 in
+    let lines = same_lines a.text.now r.new.table r.result r.ensures.0 r.ensures.1 in
+    let text = same_text a.text.now r.new.table r.result r.ensures.0 r.ensures.1 in
     (l.ensures.0 ∙ ap (appended_each (output 0 a.buf.now)) lines, (l.ensures.1.0, λ h. l.ensures.1.1 (rw text h) ∙ text))
 
 pub list_text_spec : {M : Type 1} → statement M

@@ -34,7 +34,7 @@ array-share-prefix-out : tie.Need-slice_bounds-out-end invariant-loop decreases-
 array-share-prefix-out c = search rules
 
 slice-aggregate-write-all : tie.Need-slice_bounds-write_all-end invariant-loop decreases-loop
-slice-aggregate-write-all c = let l = c.list_samples-filled in sym (length-take-le l.result l.new.0 l.ensures.1.0)
+slice-aggregate-write-all c = let l = c.list_samples-filled in sym (length-take-le l.result l.new.buf l.ensures.1.0)
 
 write-all-requires : tie.Need-write_all-requires invariant-loop decreases-loop
 write-all-requires c κs = search rules

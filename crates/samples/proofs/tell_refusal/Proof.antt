@@ -23,7 +23,7 @@ array-share-prefix-out : tie.Need-slice_bounds-out-end
 array-share-prefix-out c = filled c.before
 
 slice-aggregate-write-all : tie.Need-slice_bounds-write_all-end
-slice-aggregate-write-all c = let l = c.first_line-filled in sym (length-take-le l.result l.new.0 (filled c.before.before))
+slice-aggregate-write-all c = let l = c.first_line-filled in sym (length-take-le l.result l.new.buf (filled c.before.before))
 
 write-all-requires : tie.Need-write_all-requires
 write-all-requires c κs = search rules

@@ -61,10 +61,10 @@ returns-2 c =
     let f = e.before.before in
     record { outcome = λ h. short-rows h (clean e) _ f.first_fault.ensures.1 _ t.total_of-total.ensures f.args.table.now c.refused-then-table-total.ensures c.if-table-total.true }
 
-cast-t19 : tie.Need-overflow-cast-t19
-cast-t19 c = let z = name-fits c.before.before.before.before.before.before.before.before.before.requires in search rules
+cast-t19 : tie.Need-overflow_cast-name
+cast-t19 c = let z = name-fits c.requires in search rules
 
-cast-t20 : tie.Need-overflow_cast-name
+cast-t20 : tie.Need-overflow_cast-name-2
 cast-t20 c = let z = name-fits c.requires in search rules
 
 slice-aggregate-lay : tie.Need-slice_bounds-lay-end
@@ -81,17 +81,11 @@ same-length-4 c = search rules
 
 returns-3 : tie.Need-returns
 returns-3 c =
-    let l = c.before.before.before.before.before in
-    let t = l.before in
-    let e = t.before.before in
-    let f = e.before.before.before in
-    let a = f.args in
-    let z = name-fits f.requires in
+    let e = c.before.before.before.before.before.before.before in
+    let a = c.args in
+    let z = name-fits c.requires in
     let n = named_by a.p _ _ _ a.owners.now a.names.now a.table.now _ (bits_pos a.p.place (omega (arith, z.0))) (bits_pos a.p.length (omega (arith, z.1))) c.lay.ensures in
-    record { outcome = λ h. long_rows h (clean e) _ f.first_fault.ensures.1 _ t.total_of.ensures a.table.now _ l.if1.false n }
-
-the_overflow_cast_name_2 : tie.Need-overflow_cast-name-2
-the_overflow_cast_name_2 = search rules
+    record { outcome = λ h. long_rows h (clean e) _ c.first_fault.ensures.1 _ c.total_of-total.ensures a.table.now _ c.if-table-total.false n }
 
 pub read_rows_spec : {M : Type 1} → statement M
-read_rows_spec = tie.close (tie.spec claims-of-requires first-fault-requires enum-known-number refused-requires same_length returns enum_told total-of-requires refused-requires-2 same-length-2 returns-2 cast-t20 the_overflow_cast_name_2 slice-aggregate-lay lay-requires same-length-3 same-length-4 returns-3)
+read_rows_spec = tie.close (tie.spec claims-of-requires first-fault-requires enum-known-number refused-requires same_length returns enum_told total-of-requires refused-requires-2 same-length-2 returns-2 cast-t19 cast-t20 slice-aggregate-lay lay-requires same-length-3 same-length-4 returns-3)

@@ -47,16 +47,16 @@ module _ (e : tie.After-is_index invariant-loop decreases-loop) where
   start = at-loop.before
 
   abbrev owner : ℤ
-  owner = owner_at start.args.n start.args.table.now (get_or (face_vertices start.args.row.now) (at-loop.loop.i - 1) (pos 0))
+  owner = owner_at start.args.n start.args.table.now (get_or (face_vertices start.args.row.now) (at-loop.loop-i.i - 1) (pos 0))
 
   owner-is : e.owner_at-owner.result ≡ owner
-  owner-is = e.owner_at-owner.ensures ∙ owner-part _ _ _ start.pre.0 e.face_vertex.result.0 ∙ ap (owner_at start.args.n start.args.table.now) (vertex e.before.before)
+  owner-is = e.owner_at-owner.ensures ∙ owner-part _ _ _ start.requires.0 e.face_vertex.result.0 ∙ ap (owner_at start.args.n start.args.table.now) (vertex e.before.before)
 
   index-told : e.is_index.result ≡ is_index start.args.n.bones owner
-  index-told = tested (is_index _) _ (record { sfits = e.owner_at-owner.ok }) e.is_index.ensures ∙ ap (is_index start.args.n.bones) owner-is
+  index-told = tested (is_index _) _ (record { sfits = e.owner_at-owner.type_inv }) e.is_index.ensures ∙ ap (is_index start.args.n.bones) owner-is
 
   -- the corner before the one that was looked at last
-  next : at-loop.loop.i ≡ suc (at-loop.loop.i - 1)
+  next : at-loop.loop-i.i ≡ suc (at-loop.loop-i.i - 1)
   next = let h = e.loop-i-test.true in omega arith
 
 none_told : (m : tie.After-is_none invariant-loop decreases-loop) → m.is_none.result ≡ is_none (owner m.before.before)
@@ -96,7 +96,7 @@ returns : tie.Need-returns-then-not-is_index invariant-loop decreases-loop
 unfolding corner_told
 returns c =
     let e = c.before in
-    turn_broken _ _ _ _ (room (start e)) _ _ _ (next e) (at-loop e).loop.invariant (sym (index-told e) ∙ not-true _ c.if-not-is_index.true-raw)
+    turn_broken _ _ _ _ (room (start e)) _ _ _ (next e) (at-loop e).loop-i.invariant (sym (index-told e) ∙ not-true _ c.if-not-is_index.true-raw)
 
 is-none-requires : tie.Need-is_none-requires invariant-loop decreases-loop
 is-none-requires c κs = search rules
@@ -107,7 +107,7 @@ loop-less c = (let h = c.loop-i-test.true in omega arith)
 loop-again : tie.Need-loop-i-preserved-then-is_none invariant-loop decreases-loop
 loop-again c =
     let e = c.before.before.before in
-    turn_none _ _ _ _ (room (start e)) _ _ _ (next e) (at-loop e).loop.invariant (sym (index-told e) ∙ not-false _ c.if-not-is_index.false-raw) (sym (none_told c.before) ∙ c.if-is_none.true)
+    turn_none _ _ _ _ (room (start e)) _ _ _ (next e) (at-loop e).loop-i.invariant (sym (index-told e) ∙ not-false _ c.if-not-is_index.false-raw) (sym (none_told c.before) ∙ c.if-is_none.true)
 
 loop-less-2 : tie.Need-loop-i-smaller invariant-loop decreases-loop
 loop-less-2 c = (let h = c.loop-i-test.true in omega arith)
@@ -115,7 +115,7 @@ loop-less-2 c = (let h = c.loop-i-test.true in omega arith)
 loop-again-2 : tie.Need-loop-i-preserved invariant-loop decreases-loop
 loop-again-2 c =
     let e = c.before.before.before in
-    turn_owned _ _ _ _ (room (start e)) _ _ _ (next e) (at-loop e).loop.invariant (sym (index-told e) ∙ not-false _ c.if-not-is_index.false-raw) (sym (none_told c.before) ∙ c.if-is_none.false)
+    turn_owned _ _ _ _ (room (start e)) _ _ _ (next e) (at-loop e).loop-i.invariant (sym (index-told e) ∙ not-false _ c.if-not-is_index.false-raw) (sym (none_told c.before) ∙ c.if-is_none.false)
 
 returns-2 : tie.Need-returns-then-first-used invariant-loop decreases-loop
 unfolding corner_told

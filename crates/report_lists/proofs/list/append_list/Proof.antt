@@ -84,7 +84,7 @@ loop-again c =
     let l = e.loop-left in
     let a = e.args in
     let q = c.append_row-n in
-    (row_fits e, q.auto.0 ∙ l.invariant.1, l.invariant.2 ∙ row_put l.n l.at a.width l.left l.buf a.word.now a.table.now q.result q.new.0 (row_fits e) e.loop-left-test.true q.ensures)
+    (row_fits e, q.auto.buf ∙ l.invariant.1, l.invariant.2 ∙ row_put l.n l.at a.width l.left l.buf a.word.now a.table.now q.result q.new.buf (row_fits e) e.loop-left-test.true q.ensures)
 
 same-length-2 : tie.Need-shape_of-buf invariant-loop decreases-loop
 same-length-2 c = c.loop-left.invariant.1

@@ -96,7 +96,7 @@ returns-2 c =
     c.append.ensures
     ∙ ap (appended (output l.at l.buf)) (sym (rest_end zs l.i c.loop-i-test.false))
     ∙ sym l.invariant.3
-    ∙ sym (goes_on a.n p.append-at.result a.buf.now p.append-at.new.buf a.word.now (rest zs 0) (line-fits p.before.before) p.append-at.ensures)
+    ∙ sym (goes_on a.n p.append-at.result a.buf.now p.append-at.new.buf a.word.now (rest zs 0) (line-fits p.before.before.before) p.append-at.ensures)
     ∙ ap (appended (output a.n a.buf.now)) (sym (line-rest a.word.now zs))
 
 pub append_row_spec : {M : Type 1} → statement M

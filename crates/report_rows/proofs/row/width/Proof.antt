@@ -1,6 +1,5 @@
 -- `width` counts the digits: the invariant says that those counted and those of the rest are the number's, with its sign.
 use mathlib.Core.Path.{◌≡◌, ap}
-use mathlib.Core.Logic.{⊎_elim}
 use Prim.Native.Nat.{◌+◌}
 use native.Mathlib.Omega.{arith}
 use borrow.Author.Rules.{rules}
@@ -10,6 +9,7 @@ use mir.Val.{to_z, of_z}
 use Rattle.report_text.specs.Text.{digits, numeral}
 use Rattle.report_text.proofs.Numerals.{digits_few, digits-ten, count_below, count_from, numeral-most, from_bits}
 use Rattle.report_rows.proofs.row.width.Statement.{statement}
+use Rattle.report_rows.proofs.row.width.Lts.{then-z-lt0, else-z-lt0}
 use Rattle.report_rows.proofs.row.width.Tie as tie
 
 abbrev invariant-loop : tie.invariant-loop-rest
@@ -25,10 +25,10 @@ loop-holds : tie.Need-loop-rest-init invariant-loop decreases-loop
 loop-holds c =
     let z = to_z w64 (of_z w64 c.args.z) in
     let m = c.magnitude-rest.result in
-    ⊎_elim
-    (λ w. rw w.1 (count_below z m c.magnitude-rest.ensures w.0.taken))
-    (λ w. rw w.1 (count_from z m c.magnitude-rest.ensures w.0.left))
-    c.if-z-lt0.branch
+    elim c.if-z-lt0.branch [
+      | then-z-lt0 w ↦ rw w.k-is (count_below z m c.magnitude-rest.ensures w.if-z-lt0.true)
+      | else-z-lt0 w ↦ rw w.k-is (count_from z m c.magnitude-rest.ensures w.if-z-lt0.false)
+    ]
 
 add-k : tie.Need-overflow_add-k invariant-loop decreases-loop
 add-k c =

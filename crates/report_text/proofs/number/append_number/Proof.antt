@@ -71,7 +71,7 @@ returns-2 : tie.Need-returns-then-z-lt0
 returns-2 c =
     let o = c.before.before.before.before.before.before.before in
     let r = o.before.before.before in
-    let t = r.before.before in
+    let t = r.before.before.before in
     let a = t.args in
     let fits = has_room a.n _ a.buf.now (numeral a.z) _ (wide t) r.has_room.ensures r.if-not-has_room.false-raw in
     rw (below t) (both a.n o.append-at.result a.buf.now _ (45 ∷ []) _ (rw (below t) at fits) o.append-at.ensures _ _ c.append.ensures)

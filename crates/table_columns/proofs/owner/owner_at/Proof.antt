@@ -3,8 +3,8 @@ use mathlib.Core.Path.{◌≡◌, ap, sym, ◌∙◌}
 use Prim.Native.Nat.{ℕ}
 use mir.Facts.{to_z-of_z}
 use mir.Syntax.{w64}
-use lib.IntN.{ℤ, pos, nat_abs}
-use lib.ListN.{length, get_or, get_or-eq_default}
+use lib.IntN.{pos, nat_abs}
+use lib.ListN.{get_or, get_or-eq_default}
 use Rattle.table_columns.specs.Parts.{number_at}
 use borrow.Author.Rules.{rules}
 use Rattle.table_columns.proofs.owner.owner_at.Statement.{statement}

@@ -17,10 +17,10 @@ use Rattle.tra4_bone.proofs.laying.lay_range.Tie as tie
 
 -- the two numbers, as the casts give them
 first-is : (c : tie.After-first-1) → nat_abs (to_z w64 (of_z w64 (get_or c.args.ranges.now c.args.at (pos 0)))) ≡ nat_abs (get_or c.args.ranges.now c.args.at (pos 0))
-first-is c = cast_is _ (record { sfits = c.first-1.given }) c.before.pre.1.first-is
+first-is c = cast_is _ (record { sfits = c.first-1.given }) c.requires.1.first-is
 
 count_is : (c : tie.After-count-1) → nat_abs (to_z w64 (of_z w64 (get_or c.args.ranges.now (c.args.at + 1) (pos 0)))) ≡ nat_abs (get_or c.args.ranges.now (c.args.at + 1) (pos 0))
-count_is c = cast_is _ (record { sfits = c.count-1.given }) c.before.before.pre.1.count_is
+count_is c = cast_is _ (record { sfits = c.count-1.given }) c.requires.1.count_is
 
 mul-first : tie.Need-offset_bounds-ranges-at
 mul-first c = search rules
@@ -29,7 +29,7 @@ slice-copy-out-first : tie.Need-slice_copy_out-first
 slice-copy-out-first c = search rules
 
 cast-first : tie.Need-overflow_cast-first
-cast-first c = cast_fits _ (record { sfits = c.first-1.given }) c.before.pre.1.first-is
+cast-first c = cast_fits _ (record { sfits = c.first-1.given }) c.requires.1.first-is
 
 add-count : tie.Need-overflow_add-count
 add-count c = search rules
@@ -41,13 +41,13 @@ slice-copy-out-count : tie.Need-slice_copy_out-count
 slice-copy-out-count c = search rules
 
 cast-count : tie.Need-overflow_cast-count
-cast-count c = cast_fits _ (record { sfits = c.count-1.given }) c.before.before.pre.1.count_is
+cast-count c = cast_fits _ (record { sfits = c.count-1.given }) c.requires.1.count_is
 
 mul-from : tie.Need-overflow_mul-from
-mul-from c = let e = first-is c.before in let b = c.before.before.pre.1.below in record { fits = omega arith }
+mul-from c = let e = first-is c.before in let b = c.requires.1.below in record { fits = omega arith }
 
 mul-size : tie.Need-overflow_mul-size
-mul-size c = let e = count_is c in let b = c.before.before.pre.1.below in record { fits = omega arith }
+mul-size c = let e = count_is c in let b = c.requires.1.below in record { fits = omega arith }
 
 mul-store : tie.Need-overflow_mul-row
 mul-store c = search rules
@@ -57,11 +57,11 @@ add-store c =
     let a = c.before in
     let e = first-is a.before in
     let f = count_is a in
-    let b = a.before.before.pre.1.below in
+    let b = a.requires.1.below in
     record { fits = omega arith }
 
 mul-store-2 : tie.Need-offset_bounds-keys-from
-mul-store-2 c = let e = first-is c.before.before in let b = c.before.before.before.pre.1.below in record { fits = omega arith }
+mul-store-2 c = let e = first-is c.before.before in let b = c.requires.1.below in record { fits = omega arith }
 
 sub-store : tie.Need-slice_bounds-store-count
 sub-store c = search rules
@@ -74,8 +74,8 @@ part-store-end c =
     let a = c.before in
     let e = first-is a.before in
     let f = count_is a in
-    let b = a.before.before.pre.1.below in
-    let l = a.before.before.pre.2 in
+    let b = a.requires.1.below in
+    let l = a.requires.2 in
     omega arith
 
 store-requires : tie.Need-store-requires
@@ -87,7 +87,7 @@ first-row-requires c κs = search rules
 cast-ranges : tie.Need-overflow_cast-ranges
 cast-ranges c =
     let a = c.before.before.before.before.before in
-    pos-fits _ (omega (arith, first_small _ _ _ c.first_row.ensures a.before.before.pre.3))
+    pos-fits _ (omega (arith, first_small _ _ _ c.first_row.ensures a.requires.3))
 
 mul-t18 : tie.Need-offset_bounds-ranges-at-3
 mul-t18 c = search rules
@@ -100,8 +100,8 @@ add-result c =
     let a = c.before.before.before.before.before in
     let e = first-is a.before in
     let f = count_is a in
-    let b = a.before.before.pre.1.below in
-    let r = a.before.before.pre.3 in
+    let b = a.requires.1.below in
+    let r = a.requires.3 in
     record { fits = omega arith }
 
 same_length : tie.Need-shape_of-ranges
@@ -115,7 +115,7 @@ returns c =
     let a = c.before.before.before.before.before in
     let s = a.before.before in
     let x = s.args in
-    let r = s.pre.3 in (
+    let r = s.requires.3 in (
       ap (λ (n : ℕ). x.row + n) (count_is a),
       (
         ap (λ (z : ℤ). set x.ranges.now x.at z) (bits_pos _ (omega (arith, first_small _ _ _ c.first_row.ensures r)) ∙ ap pos (c.first_row.ensures ∙ ap (first_row x.row) (count_is a))),
