@@ -136,7 +136,7 @@ module _ {p : Parsed} {rows owners names : List ℤ} (h : Held p rows owners nam
     rows-held : rows ≡ (front f whole ++ flat (bone_rows f.bones (zeros f whole)) ++ flat f.uvs ++ flat (face_rows f)) ++ rest
     rows-held =
         rows_are
-        ∙ overlay-whole (row_numbers f) h.rows_entry (rw (rows-length f whole, h.rows-most) (rows_few (figure_counts f) v))
+        ∙ overlay-whole (row_numbers f) h.rows_entry (rw (rows-length f whole, h.rows_most) (rows_few (figure_counts f) v))
         ∙ ap (λ (l : List ℤ). l ++ rest) (rows_same f whole)
 
     claims-same : claims.0 ≡ vertices_fault (length f.points) [] 0 f.bones
@@ -196,7 +196,7 @@ module _ {p : Parsed} {rows owners names : List ℤ} (h : Held p rows owners nam
     names-part : take (length f.groups * 2) names ≡ flat (group_names f.groups)
     unfolding figure_counts
     names-part =
-        part-is 2 32 (length f.groups) (group_names f.groups) h.names_entry names (groups_wide f.groups) (few_groups (groups_count f.groups) within.groups) (omega (arith, h.names-most)) (groups_count f.groups, sym names_are)
+        part-is 2 32 (length f.groups) (group_names f.groups) h.names_entry names (groups_wide f.groups) (few_groups (groups_count f.groups) within.groups) (omega (arith, h.names_most)) (groups_count f.groups, sym names_are)
       where
         few_groups : {a b : ℕ} → a ≡ b → b ≤ 32 → a ≤ 32
         few_groups e l = omega (arith, e, l)

@@ -71,8 +71,8 @@ module _ (text : List ℕ) (rows owners names : List ℤ) (p : Parsed) (rows' ow
                   gives = q;
                   rows_entry = rows;
                   names_entry = names;
-                  rows-most = r;
-                  names-most = n;
+                  rows_most = r;
+                  names_most = n;
                   kept = ap (λ (v : List ℤ). kept_of rows v names f) (sym o) ∙ k;
                 };
             same = ap (shaped figure_fault) (sym q);

@@ -59,7 +59,7 @@ module _ {W : ℕ → ℕ → Type 0} where
     GroupAlike g h = renamed_group right h ≡ renamed_group left g
 
     own_name : Alike W (NameBy left right) (optional "name" absent (closed string)) (optional "name" absent (closed string))
-    own_name = name_alike (names.right_absent ∙ sym names.left-absent) names.strings
+    own_name = name_alike (names.right_absent ∙ sym names.left_absent) names.strings
 
     bone_alike : Alike W BoneAlike bone bone
     unfolding bone bone_kinds kind renamed_field
@@ -67,7 +67,7 @@ module _ {W : ℕ → ℕ → Type 0} where
         let flags : Alike W FieldAlike (closed truth >>= λ z. pure (flag z)) (closed truth >>= λ z. pure (flag z)) = bind-same (closed_alike truth-same) (λ z. pure_alike {R = FieldAlike} (flag z) (flag z) refl) in
         let three : Alike W FieldAlike (closed (numbers FLOAT 3) >>= λ zs. pure (several zs)) (closed (numbers FLOAT 3) >>= λ zs. pure (several zs)) = bind-same (closed_alike (numbers-same FLOAT 3)) (λ zs. pure_alike {R = FieldAlike} (several zs) (several zs) refl) in
         let kinds : AllAlike W FieldAlike bone_kinds = (bind_alike (closed_alike (string_alike names.strings)) (λ m n e. pure_alike {R = FieldAlike} (named m) (named n) (ap named e)), (flags, (flags, (three, (three, (three, (bind-same (many-same (number_same INT)) (λ zs. pure_alike {R = FieldAlike} (several zs) (several zs) refl), tt))))))) in
-        bind_alike (then_alike (opened-same "bone") (fields_alike W FieldAlike bone_kinds kinds)) (λ fs gs e. pure_alike {R = BoneAlike} (bone_of fs) (bone_of gs) (sym (bone-renamed right names.right_absent gs) ∙ ap bone_of (fields_map (renamed_field left) (renamed_field right) fs gs e) ∙ bone-renamed left names.left-absent fs))
+        bind_alike (then_alike (opened-same "bone") (fields_alike W FieldAlike bone_kinds kinds)) (λ fs gs e. pure_alike {R = BoneAlike} (bone_of fs) (bone_of gs) (sym (bone-renamed right names.right_absent gs) ∙ ap bone_of (fields_map (renamed_field left) (renamed_field right) fs gs e) ∙ bone-renamed left names.left_absent fs))
 
     group_alike : Alike W GroupAlike group group
     unfolding group renamed_group

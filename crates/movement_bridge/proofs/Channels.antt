@@ -17,14 +17,14 @@ pub record Found (cs : List Channel) (row : ℕ) (c : Channel) (first count : �
   pub before : List Channel
   pub behind : List Channel
   pub splits : cs ≡ before ++ (c ∷ behind)
-  pub first-is : first ≡ pos (first_row (row + length (all_keys before)) (length c))
+  pub first_is : first ≡ pos (first_row (row + length (all_keys before)) (length c))
   pub count_is : count ≡ pos (length c)
 
 -- its pair is 0 and 0 exactly where it has no keys
 module _ {cs : List Channel} {row : ℕ} {f n : ℤ} where
   pub found_none : (c : Channel) → Found cs row c f n → c ≡ [] → (f ≡ pos 0) × (n ≡ pos 0)
   unfolding first_row
-  found_none [] s e = (s.first-is, s.count_is)
+  found_none [] s e = (s.first_is, s.count_is)
   found_none (k ∷ c) s e = absurd (let z = ap length e in omega arith)
 
   pub none_found : (c : Channel) → Found cs row c f n → n ≡ pos 0 → c ≡ []
@@ -40,7 +40,7 @@ found_later a cs row next c f n e s =
       before = a ++ s.before;
       behind = s.behind;
       splits = ap (λ (l : List Channel). a ++ l) s.splits ∙ sym (append_assoc a s.before (c ∷ s.behind));
-      first-is = s.first-is ∙ ap (λ (r : ℕ). pos (first_row r (length c))) rows;
+      first_is = s.first_is ∙ ap (λ (r : ℕ). pos (first_row r (length c))) rows;
       count_is = s.count_is;
     }
 
@@ -50,7 +50,7 @@ found_sooner cs a row c f n s =
       before = s.before;
       behind = s.behind ++ a;
       splits = ap (λ (l : List Channel). l ++ a) s.splits ∙ append_assoc s.before (c ∷ s.behind) a;
-      first-is = s.first-is;
+      first_is = s.first_is;
       count_is = s.count_is;
     }
 
@@ -59,7 +59,7 @@ found_sooner cs a row c f n s =
 in-ranges : (row : ℕ) (cs : List Channel) (k j : ℕ) → k < length cs → j ≡ k * 2 → Found cs row (get_or cs k []) (get_or (key_ranges row cs) j (pos 0)) (get_or (key_ranges row cs) (suc j) (pos 0))
 unfolding key_ranges all_keys
 in-ranges row [] k j h e = absurd (omega arith)
-in-ranges row (c ∷ cs) zero zero h e = let z : row ≡ row + 0 = omega arith in record { before = []; behind = cs; splits = refl; first-is = ap (λ (r : ℕ). pos (first_row r (length c))) z; count_is = refl }
+in-ranges row (c ∷ cs) zero zero h e = let z : row ≡ row + 0 = omega arith in record { before = []; behind = cs; splits = refl; first_is = ap (λ (r : ℕ). pos (first_row r (length c))) z; count_is = refl }
 in-ranges row (c ∷ cs) zero (suc j) h e = absurd (omega arith)
 in-ranges row (c ∷ cs) (suc k) zero h e = absurd (omega arith)
 in-ranges row (c ∷ cs) (suc k) (suc zero) h e = absurd (omega arith)

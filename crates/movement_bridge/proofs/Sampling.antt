@@ -97,7 +97,7 @@ module _ (m : Movement) (w : WholeMovement m) (clean : movement_fault m ≡ clea
   keys_values = values_fine_lem c whole-one.values
 
   first-row : f ≡ pos first
-  first-row = let z : 0 + length (all_keys s.before) ≡ length (all_keys s.before) = omega arith in s.first-is ∙ ap (λ (r : ℕ). pos (first_row r (length c))) z
+  first-row = let z : 0 + length (all_keys s.before) ≡ length (all_keys s.before) = omega arith in s.first_is ∙ ap (λ (r : ℕ). pos (first_row r (length c))) z
 
   found-sampled : (bone channel at : ℕ) → holds_movement (counts_read m) t ≡ true → bone < (counts_read m).bones → channel < 10 → number_at t 0 ≡ m.total_frames → is_asked m.total_frames at ≡ true → number_at t (pair_at (counts_read m) t bone channel) ≡ f → number_at t (pair_at (counts_read m) t bone channel + 1) ≡ n → sample_in (counts_read m) t bone channel at ≡ some (sample_of channel c at)
   found-sampled bone channel at held row known is asked p q =

@@ -50,10 +50,10 @@ module _ {A : Type 0} where
 
   pub record Taken (grammar : Reader A) (rules : A → Fault) (layout : A → List ℤ) (text : List ℕ) (room : ℕ) (a : A) : Type 0 where
     pub shape : Shaped rules (grammar (lex text)) a
-    pub room-is : length (layout a) ≤ room
+    pub room_is : length (layout a) ≤ room
 
   pub taken : (f : Format) (grammar : Reader A) (rules : A → Fault) (layout : A → List ℤ) (text : List ℕ) (room : ℕ) (a : A) → fitted layout room (outcome f grammar rules text) ≡ accepted a → Taken grammar rules layout text room a
   unfolding outcome
   taken f grammar rules layout text room a e =
       let o = fitted_back layout room (outcome f grammar rules text) a e in
-      record { shape = checked_back grammar rules text (text_fault f text) a o.0; room-is = o.1 }
+      record { shape = checked_back grammar rules text (text_fault f text) a o.0; room_is = o.1 }

@@ -17,13 +17,13 @@ NameBy left right m n = right n ≡ left m
 
 -- so of every string, and an absent name stays absent
 pub record Exchanged (W : ℕ → ℕ → Type 0) (left right : Name → Name) : Type 0 where
-  pub left-absent : left absent ≡ absent
+  pub left_absent : left absent ≡ absent
   pub right_absent : right absent ≡ absent
   pub strings : Named W (NameBy left right)
 
 pub without_places : (W : ℕ → ℕ → Type 0) → Exchanged W placeless_name placeless_name
 unfolding placeless_name presence_at absent
-without_places W = record { left-absent = refl; right_absent = refl; strings = λ p q bs w. refl }
+without_places W = record { left_absent = refl; right_absent = refl; strings = λ p q bs w. refl }
 
 -- ---- tokens whose offsets are moved
 
@@ -33,7 +33,7 @@ module _ (to : ℕ → ℕ) where
 
   pub moved-names : Exchanged Moves (moved_name to) (λ n. n)
   unfolding moved_name moved_at absent
-  moved-names = record { left-absent = refl; right_absent = refl; strings = λ p q bs e. ap (λ (x : ℕ). record { at = suc x; bytes = bs }) e }
+  moved-names = record { left_absent = refl; right_absent = refl; strings = λ p q bs e. ap (λ (x : ℕ). record { at = suc x; bytes = bs }) e }
 
   pair-moved : (m n : Lexeme) → Pair Moves m n → n ≡ lexeme (to m.offset) m.token
   unfolding lexeme

@@ -78,7 +78,7 @@ module _ (keys : List ℤ) (count : ℕ) (total : ℤ) (at : ℕ) (k : KeyRows k
     -- no key
     pub at_rest : (p : Pass) → count ≡ 0 → Begun p (standing channel) → finished p ≡ pass_over total channel at (rows_at 2 keys 0 count)
     unfolding finished if_fine state_of known_as or_last key_of key_value pass_over rows_at
-    at_rest p e b = rw (e, b.is-fine, b.unknown, b.here) refl
+    at_rest p e b = rw (e, b.is_fine, b.unknown, b.here) refl
 
     module _ (some-row : count ≡ 0 → ⊥) where
       pub all-rows : rows_at 2 keys 0 count ≡ first ∷ left 1

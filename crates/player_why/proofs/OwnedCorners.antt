@@ -70,14 +70,14 @@ module _ (n : FigureCounts) (table : List ℤ) where
     pub record Midway (first i : ℕ) : Type 0 where
       pub within : i ≤ used
       pub tested : owners_fine n table used vs ≡ owners_fine n table i vs
-      pub first-is : found used first ≡ first_unowned i (drop i owners)
+      pub first_is : found used first ≡ first_unowned i (drop i owners)
 
     module _ (room : used ≤ length vs) where
       owners_length : length owners ≡ used
       owners_length = let a = length-map (take used vs) (owner_at n table) in let b = length-take used vs in omega arith
 
       pub begins : Midway used used
-      begins = record { within = omega arith; tested = refl; first-is = found_none used used refl ∙ sym (none_left owners used owners_length) }
+      begins = record { within = omega arith; tested = refl; first_is = found_none used used refl ∙ sym (none_left owners used owners_length) }
 
       module _ (first k i : ℕ) (next : k ≡ suc i) (mid : Midway first k) where
         abbrev owner : ℤ
@@ -99,18 +99,18 @@ module _ (n : FigureCounts) (table : List ℤ) where
         turn_none h e =
             let w = mid.within in
             let l = owners_length in
-            record { within = omega arith; tested = last ∙ rw h; first-is = found_some used i (λ q. omega arith) ∙ sym (unowned-here owners i (omega arith) (rw here e)) }
+            record { within = omega arith; tested = last ∙ rw h; first_is = found_some used i (λ q. omega arith) ∙ sym (unowned-here owners i (omega arith) (rw here e)) }
 
         pub turn_owned : is_index n.bones owner ≡ true → is_none owner ≡ false → Midway first i
         turn_owned h e =
             let w = mid.within in
             let l = owners_length in
-            record { within = omega arith; tested = last ∙ rw h; first-is = mid.first-is ∙ ap (λ (x : ℕ). first_unowned x (drop x owners)) next ∙ sym (owned_here owners i (omega arith) (rw here e)) }
+            record { within = omega arith; tested = last ∙ rw h; first_is = mid.first_is ∙ ap (λ (x : ℕ). first_unowned x (drop x owners)) next ∙ sym (owned_here owners i (omega arith) (rw here e)) }
 
       -- all are looked at
       pub ends : (first : ℕ) → Midway first 0 → some (found used first) ≡ owned_in n table vs used
       unfolding owned_in only_if owners_fine
-      ends first mid = rw mid.tested (ap some mid.first-is)
+      ends first mid = rw mid.tested (ap some mid.first_is)
 
   -- ---- by a face's row
 

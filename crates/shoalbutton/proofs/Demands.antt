@@ -50,7 +50,7 @@ module _ {A : Type 0} (f : Format) (grammar : Reader A) (rules : A → Fault) (l
   taken_keeps : fitted layout room (outcome f grammar rules text) ≡ accepted a → Keeps f grammar rules layout text room a
   taken_keeps e =
       let t = taken f grammar rules layout text room a e in
-      record { words = accepted-clear f grammar rules layout text room a e; left = t.shape.left; shape = t.shape.gives; ruled = t.shape.clean; fits = t.room-is }
+      record { words = accepted-clear f grammar rules layout text room a e; left = t.shape.left; shape = t.shape.gives; ruled = t.shape.clean; fits = t.room_is }
 
   keeps_taken : Keeps f grammar rules layout text room a → fitted layout room (outcome f grammar rules text) ≡ accepted a
   keeps_taken k = ap (fitted layout room) (text-clear f grammar rules text k.words ∙ all-taken rules k.shape k.ruled) ∙ fitted-room layout a room k.fits
@@ -69,11 +69,11 @@ module _ (F : List ℕ) (room : ℕ) (M : List ℕ) (space : ℕ) (f : Figure) (
   pair_keeps : pair_answer F room M space ≡ loaded (f, m) → KeepsPair F room M space f m
   pair_keeps e =
       let t = parts_taken F room M space f m e in
-      record { figure-kept = (figure_exactly F room f).0 t.figure; movement-kept = (movement_exactly M space m).0 t.movement; paired = t.rules }
+      record { figure_kept = (figure_exactly F room f).0 t.figure; movement_kept = (movement_exactly M space m).0 t.movement; paired = t.rules }
 
   keeps_pair : KeepsPair F room M space f m → pair_answer F room M space ≡ loaded (f, m)
   unfolding pair_answer
-  keeps_pair k = pairs.pair_loads (record { figure = (figure_exactly F room f).1 k.figure-kept; movement = (movement_exactly M space m).1 k.movement-kept; rules = k.paired })
+  keeps_pair k = pairs.pair_loads (record { figure = (figure_exactly F room f).1 k.figure_kept; movement = (movement_exactly M space m).1 k.movement_kept; rules = k.paired })
 
 -- ---- the tables
 
@@ -92,12 +92,12 @@ pair_stays table moves n p file = (refl, refl)
 pub demand_1 : Demand1
 demand_1 =
     record {
-      figure-refused = figure-refusal;
-      movement-refused = movement-refusal;
-      pair-refused = pair-refusal;
-      figure-zero = figure-zero;
-      movement-zero = movement-zero;
-      pair-zero = pair-zero;
+      figure_refused = figure-refusal;
+      movement_refused = movement-refusal;
+      pair_refused = pair-refusal;
+      figure_zero = figure-zero;
+      movement_zero = movement-zero;
+      pair_zero = pair-zero;
       figure_stays = figure_stays;
       movement_stays = movement_stays;
       pair_stays = pair_stays;
@@ -106,11 +106,11 @@ demand_1 =
 pub demand_2 : Demand2
 demand_2 =
     record {
-      figure-taken = figure_exactly;
-      figure-held = figure-table;
-      movement-taken = movement_exactly;
-      movement-held = table-read;
-      pair-taken = λ F room M space f m. (pair_keeps F room M space f m, keeps_pair F room M space f m);
+      figure_taken = figure_exactly;
+      figure_held = figure-table;
+      movement_taken = movement_exactly;
+      movement_held = table-read;
+      pair_taken = λ F room M space f m. (pair_keeps F room M space f m, keeps_pair F room M space f m);
       pair_held = λ F table M moves f m e. (figure-left F table M moves f m e, moves-left F table M moves f m e);
     }
 

@@ -106,9 +106,9 @@ left_out =
       written = sample-pose;
       pair = pair_none;
       sampled = left_out-sampled;
-      zeros-sound = zeros-sound;
+      zeros_sound = zeros-sound;
       other_row = other_row;
-      below-zero = below-zero;
+      below_zero = below-zero;
     }
 
 text-sample-steps : (text : List ℕ) (table : List ℤ) (m : Movement) → movement_answer text (length table) ≡ accepted m → (bone channel at : ℕ) → bone < length m.bones → channel < 10 → at < frames_of m → Enough (steps_left 200 (unreduced_of channel (channel_of m bone channel) at))
@@ -117,7 +117,7 @@ text-sample-steps text table m e bone channel at h k l =
     channel-steps m.total_frames at (frame_asked text table m e at l) channel (channel_of m bone channel) (channel-sound text table m e bone channel h k) (channel_values text table m e bone channel h k)
 
 pub no_divider : NoDivider
-no_divider = record { answer = sample-reduced; steps = sample-steps; text-steps = text-sample-steps; one_more = steps-one_more }
+no_divider = record { answer = sample-reduced; steps = sample-steps; text_steps = text-sample-steps; one_more = steps-one_more }
 
 pub why_hidden : WhyHidden
 why_hidden =
@@ -126,10 +126,10 @@ why_hidden =
       table_reason = table_reason;
       text_owners = text_owners;
       table_owners = table_owners;
-      text-shown = text-shown;
-      text-refused = λ f m face at. refused_by (asked_shown f m face at);
-      table-shown = table-shown;
-      table-refused = λ n table m moves face at. refused_by (shown_in_lem n table m moves face at);
+      text_shown = text-shown;
+      text_refused = λ f m face at. refused_by (asked_shown f m face at);
+      table_shown = table-shown;
+      table_refused = λ n table m moves face at. refused_by (shown_in_lem n table m moves face at);
     }
 
 pub comments : Comments
@@ -142,10 +142,10 @@ comments =
       again = λ f text text' last a b. annotates_again a b;
       figure_offsets = figure-moved;
       movement_offsets = movement-moved;
-      figure-read = figure-same;
-      movement-read = movement-same;
-      figure-loaded = figure_loads;
-      movement-loaded = movement_loads;
-      movement-moved = movement-moves;
-      moved-held = moved-held;
+      figure_read = figure-same;
+      movement_read = movement-same;
+      figure_loaded = figure_loads;
+      movement_loaded = movement_loads;
+      movement_moved = movement-moves;
+      moved_held = moved-held;
     }

@@ -40,13 +40,13 @@ use Rattle.refusal_laws.specs.Numbers.{figure_numbers, movement_numbers, Refusal
 -- ---- 1: "a refusal has its fixed number and place, and lent tables stay untouched": the number is one that 01 gives for the file, never 0
 
 pub record Demand1 : Type 0 where
-  pub figure-refused : (text : List ℕ) (room n p : ℕ) → figure_answer text room ≡ rejected n p → Refusal figure_numbers text n p
-  pub movement-refused : (text : List ℕ) (room n p : ℕ) → movement_answer text room ≡ rejected n p → Refusal movement_numbers text n p
-  pub pair-refused : (F : List ℕ) (room : ℕ) (M : List ℕ) (space n p file : ℕ) → pair_answer F room M space ≡ refused n p file → Refusal (numbers_of file) (text_of file F M) n p
+  pub figure_refused : (text : List ℕ) (room n p : ℕ) → figure_answer text room ≡ rejected n p → Refusal figure_numbers text n p
+  pub movement_refused : (text : List ℕ) (room n p : ℕ) → movement_answer text room ≡ rejected n p → Refusal movement_numbers text n p
+  pub pair_refused : (F : List ℕ) (room : ℕ) (M : List ℕ) (space n p file : ℕ) → pair_answer F room M space ≡ refused n p file → Refusal (numbers_of file) (text_of file F M) n p
   -- so an answer's refusal is 0 exactly where the text is taken
-  pub figure-zero : (text : List ℕ) (room : ℕ) → (bac6.answer_of (figure_answer text room)).refusal ≡ 0 ↔ IsTaken (figure_answer text room)
-  pub movement-zero : (text : List ℕ) (room : ℕ) → (tra4.answer_of (movement_answer text room)).refusal ≡ 0 ↔ IsTaken (movement_answer text room)
-  pub pair-zero : (F : List ℕ) (room : ℕ) (M : List ℕ) (space : ℕ) → (pair_reply (pair_answer F room M space)).refusal ≡ 0 ↔ IsLoaded (pair_answer F room M space)
+  pub figure_zero : (text : List ℕ) (room : ℕ) → (bac6.answer_of (figure_answer text room)).refusal ≡ 0 ↔ IsTaken (figure_answer text room)
+  pub movement_zero : (text : List ℕ) (room : ℕ) → (tra4.answer_of (movement_answer text room)).refusal ≡ 0 ↔ IsTaken (movement_answer text room)
+  pub pair_zero : (F : List ℕ) (room : ℕ) (M : List ℕ) (space : ℕ) → (pair_reply (pair_answer F room M space)).refusal ≡ 0 ↔ IsLoaded (pair_answer F room M space)
   -- and a table stays as it was where the text is refused
   pub figure_stays : (text : List ℕ) (table : List ℤ) (n p : ℕ) → figure_answer text (length table) ≡ rejected n p → table_after text table ≡ table
   pub movement_stays : (text : List ℕ) (table : List ℤ) (n p : ℕ) → movement_answer text (length table) ≡ rejected n p → movement_table text table ≡ table
@@ -73,17 +73,17 @@ abbrev pub KeepsMovement : List ℕ → ℕ → Movement → Type 0
 KeepsMovement text room m = Keeps tra movement movement_fault movements.layout_of text room m
 
 pub record KeepsPair (F : List ℕ) (room : ℕ) (M : List ℕ) (space : ℕ) (f : Figure) (m : Movement) : Type 0 where
-  pub figure-kept : KeepsFigure F room f
-  pub movement-kept : KeepsMovement M space m
+  pub figure_kept : KeepsFigure F room f
+  pub movement_kept : KeepsMovement M space m
   -- 18 to 20
   pub paired : pair_fault (figure_names f) (length f.groups) m ≡ clear
 
 pub record Demand2 : Type 0 where
-  pub figure-taken : (text : List ℕ) (room : ℕ) (f : Figure) → figure_answer text room ≡ accepted f ↔ KeepsFigure text room f
-  pub figure-held : (text : List ℕ) (table : List ℤ) (f : Figure) → figure_answer text (length table) ≡ accepted f → table_after text table ≡ figures.layout_of f ++ drop (length (figures.layout_of f)) table
-  pub movement-taken : (text : List ℕ) (room : ℕ) (m : Movement) → movement_answer text room ≡ accepted m ↔ KeepsMovement text room m
-  pub movement-held : (text : List ℕ) (table : List ℤ) (m : Movement) → movement_answer text (length table) ≡ accepted m → movement_table text table ≡ movements.layout_of m ++ drop (length (movements.layout_of m)) table
-  pub pair-taken : (F : List ℕ) (room : ℕ) (M : List ℕ) (space : ℕ) (f : Figure) (m : Movement) → pair_answer F room M space ≡ loaded (f, m) ↔ KeepsPair F room M space f m
+  pub figure_taken : (text : List ℕ) (room : ℕ) (f : Figure) → figure_answer text room ≡ accepted f ↔ KeepsFigure text room f
+  pub figure_held : (text : List ℕ) (table : List ℤ) (f : Figure) → figure_answer text (length table) ≡ accepted f → table_after text table ≡ figures.layout_of f ++ drop (length (figures.layout_of f)) table
+  pub movement_taken : (text : List ℕ) (room : ℕ) (m : Movement) → movement_answer text room ≡ accepted m ↔ KeepsMovement text room m
+  pub movement_held : (text : List ℕ) (table : List ℤ) (m : Movement) → movement_answer text (length table) ≡ accepted m → movement_table text table ≡ movements.layout_of m ++ drop (length (movements.layout_of m)) table
+  pub pair_taken : (F : List ℕ) (room : ℕ) (M : List ℕ) (space : ℕ) (f : Figure) (m : Movement) → pair_answer F room M space ≡ loaded (f, m) ↔ KeepsPair F room M space f m
   -- where a pair is taken, each text is taken alone, and each table is what reading it alone leaves
   pub pair_held : (F : List ℕ) (table : List ℤ) (M : List ℕ) (moves : List ℤ) (f : Figure) (m : Movement) (e : pair_answer F (length table) M (length moves) ≡ loaded (f, m)) → (figure_left table (loaded (f, m)) ≡ table_after F table) × (movement_left moves (movement_of (loaded (f, m))) ≡ movement_table M moves)
 

@@ -122,9 +122,9 @@ pub record LeftOut : Type 0 where
   pub pair : (text : List ℕ) (table : List ℤ) (m : Movement) → movement_answer text (length table) ≡ accepted m → (bone channel : ℕ) → bone < length m.bones → channel < 10 → channel_of m bone channel ≡ [] ↔ ZeroPair (movement_counts m) (movement_table text table) bone channel
   pub sampled : (text : List ℕ) (table : List ℤ) (m : Movement) → movement_answer text (length table) ≡ accepted m → (bone channel at : ℕ) → bone < length m.bones → channel < 10 → at < frames_of m → channel_of m bone channel ≡ [] → sample_in (movement_counts m) (movement_table text table) bone channel at ≡ some (whole (standing channel))
   -- of any table: the pair 0 and 0 is sound, and with count 0 no other; a number below 0 is not
-  pub zeros-sound : (n : MovementCounts) (table : List ℤ) (bone channel at : ℕ) → holds_movement n table ≡ true → bone < n.bones → channel < 10 → is_asked (number_at table 0) at ≡ true → ZeroPair n table bone channel → sample_in n table bone channel at ≡ some (whole (standing channel))
+  pub zeros_sound : (n : MovementCounts) (table : List ℤ) (bone channel at : ℕ) → holds_movement n table ≡ true → bone < n.bones → channel < 10 → is_asked (number_at table 0) at ≡ true → ZeroPair n table bone channel → sample_in n table bone channel at ≡ some (whole (standing channel))
   pub other_row : (n : MovementCounts) (table : List ℤ) (bone channel at : ℕ) → (number_at table (pair_at n table bone channel) ≡ pos 0 → ⊥) → number_at table (pair_at n table bone channel + 1) ≡ pos 0 → sample_in n table bone channel at ≡ none
-  pub below-zero : (n : MovementCounts) (table : List ℤ) (bone channel at z : ℕ) → (number_at table (pair_at n table bone channel) ≡ negsuc z) ⊎ (number_at table (pair_at n table bone channel + 1) ≡ negsuc z) → sample_in n table bone channel at ≡ none
+  pub below_zero : (n : MovementCounts) (table : List ℤ) (bone channel at z : ℕ) → (number_at table (pair_at n table bone channel) ≡ negsuc z) ⊎ (number_at table (pair_at n table bone channel + 1) ≡ negsuc z) → sample_in n table bone channel at ≡ none
 
 -- ---- (v): "a sample be brought to lowest terms by halving and subtracting only, in at most 200 such steps. The answers and all statements about them stay."
 
@@ -136,7 +136,7 @@ pub record NoDivider : Type 0 where
   -- 200 steps are enough for every sample that is answered, of any table with any counts
   pub steps : (n : MovementCounts) (table : List ℤ) (bone channel at : ℕ) (r : Fraction) → sample_in n table bone channel at ≡ some r → Enough (steps_left 200 (unreduced_of channel (channel_keys n table bone channel) at))
   -- and for every sample of a text that is taken
-  pub text-steps : (text : List ℕ) (table : List ℤ) (m : Movement) → movement_answer text (length table) ≡ accepted m → (bone channel at : ℕ) → bone < length m.bones → channel < 10 → at < frames_of m → Enough (steps_left 200 (unreduced_of channel (channel_of m bone channel) at))
+  pub text_steps : (text : List ℕ) (table : List ℤ) (m : Movement) → movement_answer text (length table) ≡ accepted m → (bone channel at : ℕ) → bone < length m.bones → channel < 10 → at < frames_of m → Enough (steps_left 200 (unreduced_of channel (channel_of m bone channel) at))
   -- of one step more one more is left: so how many are taken does not depend on how many there are
   pub one_more : (n k : ℕ) (u : Unreduced) → steps_left n u ≡ some k → steps_left (suc n) u ≡ some (suc k)
 
@@ -152,10 +152,10 @@ pub record WhyHidden : Type 0 where
   pub text_owners : (f : Figure) (face : Face) (k : ℕ) → k < length face.vertices → get_or (map (owner_of f.bones) face.vertices) k (pos 0) ≡ (corner_of f face k).owner
   pub table_owners : (n : FigureCounts) (table row : List ℤ) (k : ℕ) → k < length (corner_owners n table row) → get_or (corner_owners n table row) k (pos 0) ≡ owner_at n table (face_vertex row k)
   -- shown exactly when Shown says yes, and 21 exactly when Shown is
-  pub text-shown : (bs : List Bone) (ps : List Pattern) (f : Face × Option ℕ) (at : ℕ) → shown_of bs ps f at ≡ true ↔ why_of bs ps f at ≡ shown
-  pub text-refused : (f : Figure) (m : Movement) (face at : ℕ) → shown_asked f m face at ≡ none ↔ why_asked f m face at ≡ none
-  pub table-shown : (n : FigureCounts) (table : List ℤ) (m : MovementCounts) (moves : List ℤ) (face at : ℕ) → shown_in n table m moves face at ≡ some true ↔ why_in n table m moves face at ≡ some shown
-  pub table-refused : (n : FigureCounts) (table : List ℤ) (m : MovementCounts) (moves : List ℤ) (face at : ℕ) → shown_in n table m moves face at ≡ none ↔ why_in n table m moves face at ≡ none
+  pub text_shown : (bs : List Bone) (ps : List Pattern) (f : Face × Option ℕ) (at : ℕ) → shown_of bs ps f at ≡ true ↔ why_of bs ps f at ≡ shown
+  pub text_refused : (f : Figure) (m : Movement) (face at : ℕ) → shown_asked f m face at ≡ none ↔ why_asked f m face at ≡ none
+  pub table_shown : (n : FigureCounts) (table : List ℤ) (m : MovementCounts) (moves : List ℤ) (face at : ℕ) → shown_in n table m moves face at ≡ some true ↔ why_in n table m moves face at ≡ some shown
+  pub table_refused : (n : FigureCounts) (table : List ℤ) (m : MovementCounts) (moves : List ℤ) (face at : ℕ) → shown_in n table m moves face at ≡ none ↔ why_in n table m moves face at ≡ none
 
 -- ---- (ix): "Take a text that passes 1 to 4, and put directly after any word but the last any blanks, or a comment with its line feed. If both are at most 65,536 bytes and are read into equal lent tables, both are
 -- accepted or both refused with the same number at the same word, list, row, count or text's end; when accepted, tables differ in name places alone and with the same other file every player's answer is equal, labels by
@@ -175,11 +175,11 @@ pub record Comments : Type 0 where
   pub figure_offsets : (to : ℕ → ℕ) (text : List ℕ) → figure (moved to (lex text)) ≡ moved_got to (figures.renamed (moved_name to)) (figure (lex text))
   pub movement_offsets : (to : ℕ → ℕ) (text : List ℕ) → movement (moved to (lex text)) ≡ moved_got to (named.renamed (moved_name to)) (movement (lex text))
   -- read into equal lent tables: the same refusal, the tables then staying (demand 1), or the same answer, tables that differ in name places alone, and equal lookups with any other text, counts and table
-  pub figure-read : (text text' : List ℕ) → Annotates bac text text' → (table : List ℤ) → SameOutcome text text' (SameFigure text text' table) (figure_answer text (length table)) (figure_answer text' (length table))
-  pub movement-read : (text text' : List ℕ) → Annotates tra text text' → (table : List ℤ) → SameOutcome text text' (SameMovement text text' table) (movement_answer text (length table)) (movement_answer text' (length table))
+  pub figure_read : (text text' : List ℕ) → Annotates bac text text' → (table : List ℤ) → SameOutcome text text' (SameFigure text text' table) (figure_answer text (length table)) (figure_answer text' (length table))
+  pub movement_read : (text text' : List ℕ) → Annotates tra text text' → (table : List ℤ) → SameOutcome text text' (SameMovement text text' table) (movement_answer text (length table)) (movement_answer text' (length table))
   -- loaded with the same other file, whatever that is: the same refusal, or the same answer and all that can be played on what loading leaves
-  pub figure-loaded : (F F' : List ℕ) → Annotates bac F F' → (table : List ℤ) (M : List ℕ) (moves : List ℤ) → SameLoaded 0 F F' (SamePair F F' table M M moves) (pair_answer F (length table) M (length moves)) (pair_answer F' (length table) M (length moves))
-  pub movement-loaded : (M M' : List ℕ) → Annotates tra M M' → (F : List ℕ) (table moves : List ℤ) → SameLoaded 1 M M' (SamePair F F table M M' moves) (pair_answer F (length table) M (length moves)) (pair_answer F (length table) M' (length moves))
+  pub figure_loaded : (F F' : List ℕ) → Annotates bac F F' → (table : List ℤ) (M : List ℕ) (moves : List ℤ) → SameLoaded 0 F F' (SamePair F F' table M M moves) (pair_answer F (length table) M (length moves)) (pair_answer F' (length table) M (length moves))
+  pub movement_loaded : (M M' : List ℕ) → Annotates tra M M' → (F : List ℕ) (table moves : List ℤ) → SameLoaded 1 M M' (SamePair F F table M M' moves) (pair_answer F (length table) M (length moves)) (pair_answer F (length table) M' (length moves))
   -- a movement for a figure in any table with any counts; what it leaves is what reading it alone leaves
-  pub movement-moved : (M M' : List ℕ) → Annotates tra M M' → (F : List ℕ) (n : FigureCounts) (table moves : List ℤ) → SameLoaded 1 M M' (SameMovement M M' moves) (moved_answer F n table M (length moves)) (moved_answer F n table M' (length moves))
-  pub moved-held : (F : List ℕ) (n : FigureCounts) (table : List ℤ) (M : List ℕ) (moves : List ℤ) (m : Movement) → moved_answer F n table M (length moves) ≡ loaded m → (movement_answer M (length moves) ≡ accepted m) × (movement_left moves (loaded m) ≡ movement_table M moves)
+  pub movement_moved : (M M' : List ℕ) → Annotates tra M M' → (F : List ℕ) (n : FigureCounts) (table moves : List ℤ) → SameLoaded 1 M M' (SameMovement M M' moves) (moved_answer F n table M (length moves)) (moved_answer F n table M' (length moves))
+  pub moved_held : (F : List ℕ) (n : FigureCounts) (table : List ℤ) (M : List ℕ) (moves : List ℤ) (m : Movement) → moved_answer F n table M (length moves) ≡ loaded m → (movement_answer M (length moves) ≡ accepted m) × (movement_left moves (loaded m) ≡ movement_table M moves)

@@ -36,8 +36,8 @@ module _ (b : ℕ) (l : List ℕ) (h : is_line (b ∷ l) ≡ true) where
 -- what is made of the bytes that stand at an offset, of which the first so many belong to what stands before them
 record Walk {A : Type 0} (F : ℕ → ℕ → List ℕ → A) : Type 0 where
   held : (k p b : ℕ) (bs : List ℕ) → F (suc k) p (b ∷ bs) ≡ F k (suc p) bs
-  at-blank : (p b : ℕ) (bs : List ℕ) → class_of b ≡ blank → F 0 p (b ∷ bs) ≡ F 0 (suc p) bs
-  at-comment : (p b : ℕ) (bs : List ℕ) → class_of b ≡ semicolon → F 0 p (b ∷ bs) ≡ F (length (run in_line bs)) (suc p) bs
+  at_blank : (p b : ℕ) (bs : List ℕ) → class_of b ≡ blank → F 0 p (b ∷ bs) ≡ F 0 (suc p) bs
+  at_comment : (p b : ℕ) (bs : List ℕ) → class_of b ≡ semicolon → F 0 p (b ∷ bs) ≡ F (length (run in_line bs)) (suc p) bs
 
 module _ {A : Type 0} (F : ℕ → ℕ → List ℕ → A) (w : Walk F) where
   from : (p q : ℕ) (bs : List ℕ) → p ≡ q → F 0 p bs ≡ F 0 q bs
@@ -48,7 +48,7 @@ module _ {A : Type 0} (F : ℕ → ℕ → List ℕ → A) (w : Walk F) where
   blanks_passed [] p bs h = from p (p + 0) bs (omega arith)
   blanks_passed (b ∷ gap) p bs h =
       let e = and_true (is_blank b) (all is_blank gap) h in
-      w.at-blank p b (gap ++ bs) (blank_class b e.0) ∙ blanks_passed gap (suc p) bs e.1 ∙ from (suc p + length gap) (p + suc (length gap)) bs (omega arith)
+      w.at_blank p b (gap ++ bs) (blank_class b e.0) ∙ blanks_passed gap (suc p) bs e.1 ∙ from (suc p + length gap) (p + suc (length gap)) bs (omega arith)
 
   -- the last byte of a line is a blank
   line_passed : (l : List ℕ) (p : ℕ) (bs : List ℕ) → is_line l ≡ true → F (length (run in_line (l ++ bs))) p (l ++ bs) ≡ F 0 (p + length l) bs
@@ -57,7 +57,7 @@ module _ {A : Type 0} (F : ℕ → ℕ → List ℕ → A) (w : Walk F) where
   line_passed (b ∷ l) p bs h = go (eqb b 10) refl (line_passed l (suc p) bs)
     where
       go : (v : Bool) → eqb b 10 ≡ v → (is_line l ≡ true → F (length (run in_line (l ++ bs))) (suc p) (l ++ bs) ≡ F 0 (suc p + length l) bs) → F (length (run in_line (b ∷ l ++ bs))) p (b ∷ l ++ bs) ≡ F 0 (p + suc (length l)) bs
-      go true e ih = let q = line-last b l h e in rw (q.0, q.1, run_no in_line 10 bs refl) (w.at-blank p 10 bs refl ∙ from (suc p) (p + 1) bs (omega arith))
+      go true e ih = let q = line-last b l h e in rw (q.0, q.1, run_no in_line 10 bs refl) (w.at_blank p 10 bs refl ∙ from (suc p) (p + 1) bs (omega arith))
       go false e ih = rw (run_yes in_line b (l ++ bs) (ap not e)) (w.held _ p b (l ++ bs) ∙ ih (line_more b l h e) ∙ from (suc p + length l) (p + suc (length l)) bs (omega arith))
 
   comment_passed : (gap : List ℕ) (p : ℕ) (bs : List ℕ) → is_comment gap ≡ true → F 0 p (gap ++ bs) ≡ F 0 (p + length gap) bs
@@ -65,7 +65,7 @@ module _ {A : Type 0} (F : ℕ → ℕ → List ℕ → A) (w : Walk F) where
   comment_passed [] p bs h = absurd (false≢true h)
   comment_passed (b ∷ l) p bs h =
       let q = and_true (eqb b 59) (is_line l) h in
-      w.at-comment p b (l ++ bs) (rw (eqb-true b 59 q.0)) ∙ line_passed l (suc p) bs q.1 ∙ from (suc p + length l) (p + suc (length l)) bs (omega arith)
+      w.at_comment p b (l ++ bs) (rw (eqb-true b 59 q.0)) ∙ line_passed l (suc p) bs q.1 ∙ from (suc p + length l) (p + suc (length l)) bs (omega arith)
 
   gap_passed : (gap : List ℕ) (p : ℕ) (bs : List ℕ) → is_gap gap ≡ true → F 0 p (gap ++ bs) ≡ F 0 (p + length gap) bs
   unfolding is_gap
@@ -79,7 +79,7 @@ module _ {A : Type 0} (F : ℕ → ℕ → List ℕ → A) (w : Walk F) where
 
 tokens_walk : Walk tokens
 unfolding tokens
-tokens_walk = record { held = λ k p b bs. refl; at-blank = λ p b bs e. rw (e, tokens); at-comment = λ p b bs e. rw (e, tokens) }
+tokens_walk = record { held = λ k p b bs. refl; at_blank = λ p b bs e. rw (e, tokens); at_comment = λ p b bs e. rw (e, tokens) }
 
 pub gap-tokens : (gap : List ℕ) (p : ℕ) (bs : List ℕ) → is_gap gap ≡ true → tokens 0 p (gap ++ bs) ≡ tokens 0 (p + length gap) bs
 gap-tokens = gap_passed tokens tokens_walk
@@ -90,7 +90,7 @@ sound_at k p bs = sound k bs
 
 sound_walk : Walk sound_at
 unfolding taken fine sound
-sound_walk = record { held = λ k p b bs. refl; at-blank = λ p b bs e. rw (e, sound); at-comment = λ p b bs e. rw (e, sound) }
+sound_walk = record { held = λ k p b bs. refl; at_blank = λ p b bs e. rw (e, sound); at_comment = λ p b bs e. rw (e, sound) }
 
 pub gap-sound : (gap bs : List ℕ) → is_gap gap ≡ true → sound 0 (gap ++ bs) ≡ sound 0 bs
 gap-sound gap = gap_passed sound_at sound_walk gap 0

@@ -152,9 +152,9 @@ module _ {p : Parsed} {b' k' g' : List ℤ} (h : Held p b' k' g') where
         laid_rules o =
             let w = bounds read o in
             held_rules read b' k' g' _ _ _
-            (sym bones-held.1 ∙ held 22 128 (bone_rows 0 bones) b (rows_wide 0 bones whole.bones) (omega (arith, rows_count 0 bones, w.0)) (omega (arith, h.bones-most)))
-            (sym keys-held.1 ∙ held 2 4096 (key_rows read) k (unfold key_rows in (all_wide bones whole.bones)) few (omega (arith, h.keys-most)))
-            (sym patterns_are.1 ∙ held 3 256 read.patterns g whole.patterns w.2 (omega (arith, h.patterns-most)))
+            (sym bones-held.1 ∙ held 22 128 (bone_rows 0 bones) b (rows_wide 0 bones whole.bones) (omega (arith, rows_count 0 bones, w.0)) (omega (arith, h.bones_most)))
+            (sym keys-held.1 ∙ held 2 4096 (key_rows read) k (unfold key_rows in (all_wide bones whole.bones)) few (omega (arith, h.keys_most)))
+            (sym patterns_are.1 ∙ held 3 256 read.patterns g whole.patterns w.2 (omega (arith, h.patterns_most)))
             (tenfold bones whole.bones)
             (unfold key_rows in (all_wide bones whole.bones))
             whole.patterns
@@ -207,13 +207,13 @@ module _ {p : Parsed} {b' k' g' : List ℤ} (h : Held p b' k' g') where
     rows_few = rw (rows_count 0 bones) within.0
 
     bones-part : take (p.bones * 22) b' ≡ flat (bone_rows 0 bones)
-    bones-part = part-is 22 128 p.bones (bone_rows 0 bones) b b' (rows_wide 0 bones whole.bones) rows_few (omega (arith, h.bones-most)) (bones-held within.1)
+    bones-part = part-is 22 128 p.bones (bone_rows 0 bones) b b' (rows_wide 0 bones whole.bones) rows_few (omega (arith, h.bones_most)) (bones-held within.1)
 
     keys-part : take (p.keys * 2) k' ≡ flat (key_rows read)
-    keys-part = part-is 2 4096 p.keys (key_rows read) k k' keys_two within.1 (omega (arith, h.keys-most)) (keys-held within.1)
+    keys-part = part-is 2 4096 p.keys (key_rows read) k k' keys_two within.1 (omega (arith, h.keys_most)) (keys-held within.1)
 
     patterns-part : take (p.patterns * 3) g' ≡ flat read.patterns
-    patterns-part = part-is 3 256 p.patterns read.patterns g g' whole.patterns within.2 (omega (arith, h.patterns-most)) patterns_are
+    patterns-part = part-is 3 256 p.patterns read.patterns g g' whole.patterns within.2 (omega (arith, h.patterns_most)) patterns_are
 
     parts : parts_of p b' k' g' ≡ layout_of read
     unfolding parts_of layout_of name_numbers place_of
@@ -237,9 +237,9 @@ module _ {p : Parsed} {b' k' g' : List ℤ} (h : Held p b' k' g') where
           place = rw (← at) (omega (arith, n.0, h.short));
           size = rw (← size) (omega (arith, n.1, h.short));
           total = omega (arith, within.0, within.1, within.2, (unfolded within.1).0, (keys-held within.1).0, patterns_are.0);
-          bones = room-is 22 128 p.bones (bone_rows 0 bones) b b' (rows_wide 0 bones whole.bones) rows_few (omega (arith, h.bones-most)) (bones-held within.1);
-          keys = room-is 2 4096 p.keys (key_rows read) k k' keys_two within.1 (omega (arith, h.keys-most)) (keys-held within.1);
-          patterns = room-is 3 256 p.patterns read.patterns g g' whole.patterns within.2 (omega (arith, h.patterns-most)) patterns_are;
+          bones = room-is 22 128 p.bones (bone_rows 0 bones) b b' (rows_wide 0 bones whole.bones) rows_few (omega (arith, h.bones_most)) (bones-held within.1);
+          keys = room-is 2 4096 p.keys (key_rows read) k k' keys_two within.1 (omega (arith, h.keys_most)) (keys-held within.1);
+          patterns = room-is 3 256 p.patterns read.patterns g g' whole.patterns within.2 (omega (arith, h.patterns_most)) patterns_are;
         }
 
     pub down_rows : (table exit : List ℤ) {r : MovementAnswer} → r ≡ down_answer p (length table) → exit ≡ down_table p (parts_of p b' k' g') table → Answered (ruled read (movement_fault read)) table exit r

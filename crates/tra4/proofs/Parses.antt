@@ -118,9 +118,9 @@ module _ (text : List ℕ) (rows keys lines : List ℤ) (p : Parsed) (b k g : Li
               bones_entry = rows;
               keys_entry = keys;
               patterns_entry = lines;
-              bones-most = r;
-              keys-most = o;
-              patterns-most = n;
+              bones_most = r;
+              keys_most = o;
+              patterns_most = n;
               kept_as = got-value _ _ _ _ f.second;
             };
         same = ap (shaped movement_fault) (sym f.first);

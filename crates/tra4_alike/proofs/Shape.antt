@@ -49,7 +49,7 @@ module _ {W : ℕ → ℕ → Type 0} where
     BoneAlike b c = renamed_bone right c ≡ renamed_bone left b
 
     own_name : Alike W (NameBy left right) (optional "name" absent (closed string)) (optional "name" absent (closed string))
-    own_name = name_alike (names.right_absent ∙ sym names.left-absent) names.strings
+    own_name = name_alike (names.right_absent ∙ sym names.left_absent) names.strings
 
     bone_alike : Alike W BoneAlike bone bone
     unfolding bone channel_kinds renamed_bone

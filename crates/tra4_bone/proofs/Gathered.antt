@@ -21,7 +21,7 @@ use Rattle.tra4_bone.proofs.Ranges.{natural_is}
 
 module _ (keys : List ℤ) (n : ℕ) (f g : ℤ) (c : Channel) (s : Stored keys n f g c) where
   stored-first : nat_abs f ≡ s.row
-  stored-first = natural_is f s.row s.first-is
+  stored-first = natural_is f s.row s.first_is
 
   stored_count : nat_abs g ≡ length c
   stored_count = natural_is g (length c) s.count_is
@@ -29,7 +29,7 @@ module _ (keys : List ℤ) (n : ℕ) (f g : ℤ) (c : Channel) (s : Stored keys 
   stored-range : (m : ℕ) → n ≤ m → RangeIn m f g
   stored-range m l =
       let b = s.below in
-      record { first-is = s.first-is ∙ ap pos (sym stored-first); count_is = s.count_is ∙ ap pos (sym stored_count); below = rw (stored-first, stored_count) (omega arith) }
+      record { first_is = s.first_is ∙ ap pos (sym stored-first); count_is = s.count_is ∙ ap pos (sym stored_count); below = rw (stored-first, stored_count) (omega arith) }
 
   stored-rows : range_rows f g keys ≡ flat c
   unfolding range_rows

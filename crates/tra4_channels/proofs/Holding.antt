@@ -26,7 +26,7 @@ stored_still : (keys : List ℤ) (n m : ℕ) (zs : List ℤ) (f g f' g' : ℤ) (
 stored_still keys n m zs f g f' g' c p q h s =
     record {
       row = s.row;
-      first-is = p ∙ s.first-is;
+      first_is = p ∙ s.first_is;
       count_is = q ∙ s.count_is;
       below = omega (arith, s.below);
       content = overlay_at-below (s.row * 2) (length c * 2) (n * 2) zs keys (omega (arith, s.below)) ∙ s.content;
@@ -38,7 +38,7 @@ stored_new keys n c f g p q w h =
     let l = flat_pairs c w in
     record {
       row = n;
-      first-is = p;
+      first_is = p;
       count_is = q;
       below = omega arith;
       content = ap (λ (m : ℕ). take m (drop (n * 2) (overlay_at (n * 2) (flat c) keys))) (sym l) ∙ overlay_at-part (n * 2) (flat c) keys (rw l h);

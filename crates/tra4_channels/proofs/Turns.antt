@@ -56,7 +56,7 @@ none_seen = refl
 
 none_stored : (keys : List ℤ) (f : Option Channel) (first count : ℤ) → f ≡ none → first ≡ pos 0 → count ≡ pos 0 → Stored keys 0 first count (keys_in f)
 unfolding keys_in flat
-none_stored keys f first count e p q = rw e (record { row = 0; first-is = p; count_is = q; below = omega arith; content = refl })
+none_stored keys f first count e p q = rw e (record { row = 0; first_is = p; count_is = q; below = omega arith; content = refl })
 
 held_none : (ranges keys : List ℤ) → ranges ≡ replicate 20 (pos 0) → length keys ≡ 8192 → Held (replicate 10 none) ranges keys 0 false
 held_none ranges keys z r =

@@ -24,6 +24,6 @@ pub record Held (p : Parsed) (rows owners names : List ℤ) : Type 0 where
   pub gives : figure (lex text) ≡ got read left
   pub rows_entry : List ℤ
   pub names_entry : List ℤ
-  pub rows-most : length rows_entry ≡ 34912
-  pub names-most : length names_entry ≡ 64
+  pub rows_most : length rows_entry ≡ 34912
+  pub names_most : length names_entry ≡ 64
   pub kept : kept_of rows_entry (replicate 2048 (negsuc 0)) names_entry read ≡ kept_by p rows owners names

@@ -39,7 +39,7 @@ finished p = if_fine p.fine (some (or_last (state_of p) (key_of p)))
 
 -- after one key, at frame 0
 pub record Begun (p : Pass) (value : ℤ) : Type 0 where
-  pub is-fine : p.fine ≡ true
+  pub is_fine : p.fine ≡ true
   pub start : p.before ≡ 0
   pub here : p.value ≡ value
   pub unknown : p.known ≡ false

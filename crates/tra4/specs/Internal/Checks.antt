@@ -34,7 +34,7 @@ pub record Held (p : Parsed) (b k g : List ℤ) : Type 0 where
   pub bones_entry : List ℤ
   pub keys_entry : List ℤ
   pub patterns_entry : List ℤ
-  pub bones-most : length bones_entry ≡ 2816
-  pub keys-most : length keys_entry ≡ 8192
-  pub patterns-most : length patterns_entry ≡ 768
+  pub bones_most : length bones_entry ≡ 2816
+  pub keys_most : length keys_entry ≡ 8192
+  pub patterns_most : length patterns_entry ≡ 768
   pub kept_as : value_of bones_entry keys_entry patterns_entry read ≡ parsed_as p b k g

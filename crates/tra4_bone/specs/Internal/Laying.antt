@@ -26,7 +26,7 @@ renumbered row (f ∷ c ∷ ranges) = pos (first_row row (nat_abs c)) ∷ c ∷ 
 
 -- a range lies within the first n rows
 pub record RangeIn (n : ℕ) (f c : ℤ) : Type 0 where
-  pub first-is : f ≡ pos (nat_abs f)
+  pub first_is : f ≡ pos (nat_abs f)
   pub count_is : c ≡ pos (nat_abs c)
   pub below : nat_abs f + nat_abs c ≤ n
 

@@ -17,7 +17,7 @@ keys_read fs = length (all_keys (map keys_in fs))
 -- a channel's keys stand among the first n rows of a table, from a first row on, as a pair of numbers says
 pub record Stored (keys : List ℤ) (n : ℕ) (first count : ℤ) (c : Channel) : Type 0 where
   pub row : ℕ
-  pub first-is : first ≡ pos row
+  pub first_is : first ≡ pos row
   pub count_is : count ≡ pos (length c)
   pub below : row + length c ≤ n
   pub content : take (length c * 2) (drop (row * 2) keys) ≡ flat c

@@ -74,7 +74,7 @@ loop-holds c =
     let float = sym (c.is_float.ensures ∙ ap is_float v) ∙ not-false _ c.if-not-is_float.false-raw in
     let b = rw v at c.begun-p.ensures in (
       rw t (first_on _ _ _ _ s.requires _ o.if-count-eq0.false _ b (zero_yes _ (record { sfits = c.t12-1.given }) c.if-keys-ne0.false) float),
-      b.is-fine,
+      b.is_fine,
       record { frames = rw t s.requires.frames; last = omega (arith, b.start); value = rw b.here (float_most _ float); open_yet = λ k. omega (arith, b.start) },
       omega (arith, o.if-count-eq0.false),
     )

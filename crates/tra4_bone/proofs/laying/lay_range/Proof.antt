@@ -17,7 +17,7 @@ use Rattle.tra4_bone.proofs.laying.lay_range.Tie as tie
 
 -- the two numbers, as the casts give them
 first-is : (c : tie.After-first-1) → nat_abs (to_z w64 (of_z w64 (get_or c.args.ranges.now c.args.at (pos 0)))) ≡ nat_abs (get_or c.args.ranges.now c.args.at (pos 0))
-first-is c = cast_is _ (record { sfits = c.first-1.given }) c.requires.1.first-is
+first-is c = cast_is _ (record { sfits = c.first-1.given }) c.requires.1.first_is
 
 count_is : (c : tie.After-count-1) → nat_abs (to_z w64 (of_z w64 (get_or c.args.ranges.now (c.args.at + 1) (pos 0)))) ≡ nat_abs (get_or c.args.ranges.now (c.args.at + 1) (pos 0))
 count_is c = cast_is _ (record { sfits = c.count-1.given }) c.requires.1.count_is
@@ -29,7 +29,7 @@ slice-copy-out-first : tie.Need-slice_copy_out-first
 slice-copy-out-first c = search rules
 
 cast-first : tie.Need-overflow_cast-first
-cast-first c = cast_fits _ (record { sfits = c.first-1.given }) c.requires.1.first-is
+cast-first c = cast_fits _ (record { sfits = c.first-1.given }) c.requires.1.first_is
 
 add-count : tie.Need-overflow_add-count
 add-count c = search rules
