@@ -4,6 +4,7 @@ use bac6::FigureAnswer;
 use table_counts::FigureCounts;
 
 const STDIN_FILENO: i32 = 0;
+
 const STDOUT_FILENO: i32 = 1;
 
 // 32 faces at a time, for which 25,088 bytes are enough. What is written to a file no contract can say.

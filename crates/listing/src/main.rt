@@ -8,6 +8,7 @@ ghost use Rattle.listing.specs.Listing.{text_lines, text_listing};
 use text_parts::part;
 
 const STDIN_FILENO: i32 = 0;
+
 const STDOUT_FILENO: i32 = 1;
 
 // Puts the listing of a text at the start of buf, and answers how many bytes are filled.

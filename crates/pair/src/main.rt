@@ -4,6 +4,7 @@
 use text_parts::part;
 
 const STDIN_FILENO: i32 = 0;
+
 const STDOUT_FILENO: i32 = 1;
 
 // What is written to a file no contract can say.

@@ -9,6 +9,7 @@ use text_parts::part;
 use text_runs::Run;
 
 const STDIN_FILENO: i32 = 0;
+
 const STDOUT_FILENO: i32 = 1;
 
 fn tell(label: &[u8], input: &[u8], more: usize) {

@@ -4,6 +4,7 @@ use table_counts::MovementCounts;
 use tra4::MovementAnswer;
 
 const STDIN_FILENO: i32 = 0;
+
 const STDOUT_FILENO: i32 = 1;
 
 // 256 frames at a time, for which 28,672 bytes are enough. What is written to a file no contract can say.

@@ -15,6 +15,7 @@ use text_runs::Run;
 use texts::{append_line, line_of, tell_figure, tell_movement, tell_tokens};
 
 const STDIN_FILENO: i32 = 0;
+
 const STDOUT_FILENO: i32 = 1;
 
 // Puts the answer to a question at the start of out, and tells its length.

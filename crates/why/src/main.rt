@@ -5,6 +5,7 @@ use pair_head::Division;
 use table_counts::{FigureCounts, MovementCounts};
 
 const STDIN_FILENO: i32 = 0;
+
 const STDOUT_FILENO: i32 = 1;
 
 // 256 frames at a time, for which 18,944 bytes are enough. What is written to a file no contract can say.

@@ -58,8 +58,7 @@ same-length-3 c = search rules
 returns-3 : tie.Need-returns
 returns-3 c =
     let l = c.lay_keys.ensures in
-    let a = c.before.before.before.before.before.before.before.before.before.before.before.before.before.before.before.before.before in
-    ((λ fs h. set-laid _ _ _ _ _ _ fs _ _ _ (rw c.if-read.false at h) c.if-n-count.false _ _ _ _ _ _ _ (bits_pos a.args.place a.requires.1) (bits_pos a.args.size a.requires.2) c.store.ensures c.advance.ensures l.0 c.store-2.ensures l.1), refl)
+    ((λ fs h. set-laid _ _ _ _ _ _ fs _ _ _ (rw c.if-read.false at h) c.if-n-count.false _ _ _ _ _ _ _ (bits_pos c.args.place c.requires.1) (bits_pos c.args.size c.requires.2) c.store.ensures c.advance.ensures l.0 c.store-2.ensures l.1), refl)
 
 pub set_bone_spec : {M : Type 1} → statement M
 set_bone_spec = tie.close (tie.spec returns sub-if2 returns-2 lay-keys-requires cast-t23 cast-t24 slice-aggregate-store store-requires advance-requires store-requires-2 add-t14 same_length same-length-2 same-length-3 returns-3)

@@ -22,12 +22,11 @@ mul-lay-range c = search rules
 
 lay-range-requires : tie.Need-lay_range-next-requires invariant-loop decreases-loop
 lay-range-requires c κs =
-    let s = c.before.before.before.before in
     let l = c.loop-k in
-    let w = l.invariant.1.width ∙ s.requires.0 in
+    let w = l.invariant.1.width ∙ c.requires.0 in
     let t = c.loop-k-test.true in
     let b : l.k * 2 + 1 < length l.ranges = omega arith in
-    (b, range-here _ _ _ _ _ _ _ _ l.invariant.1 b, s.requires.2, next_small _ _ _ _ _ _ _ _ l.invariant.1 b)
+    (b, range-here _ _ _ _ _ _ _ _ l.invariant.1 b, c.requires.2, next_small _ _ _ _ _ _ _ _ l.invariant.1 b)
 
 add-k : tie.Need-overflow_add-k invariant-loop decreases-loop
 add-k c = search rules

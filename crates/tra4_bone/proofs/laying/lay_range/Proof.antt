@@ -86,8 +86,7 @@ first-row-requires c κs = search rules
 
 cast-ranges : tie.Need-overflow_cast-ranges
 cast-ranges c =
-    let a = c.before.before.before.before.before in
-    pos-fits _ (omega (arith, first_small _ _ _ c.first_row.ensures a.requires.3))
+    pos-fits _ (omega (arith, first_small _ _ _ c.first_row.ensures c.requires.3))
 
 mul-t18 : tie.Need-offset_bounds-ranges-at-3
 mul-t18 c = search rules

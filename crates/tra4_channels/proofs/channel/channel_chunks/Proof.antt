@@ -73,8 +73,8 @@ loop-again c =
     let s = y.channel_keys-m.auto in (
       channel_on _ _ _ _ _ _ _ _ _ l.loop-seen.invariant.0 _ _ h.next_chunk-h.ensures.0 e.if-k-ge10.false h.next_chunk-h.ensures.1.1 _ _ y.channel_keys-m.ensures _ h.next_chunk-h.ensures.1.0,
       h.next_chunk-h.auto.seen ∙ l.loop-seen.invariant.1,
-      s.1.1.1.0 ∙ l.loop-seen.invariant.2,
-      s.1.1.1.1.0 ∙ l.loop-seen.invariant.3,
+      s.ranges ∙ l.loop-seen.invariant.2,
+      s.keys ∙ l.loop-seen.invariant.3,
     )
 
 pub channel_chunks_spec : {M : Type 1} → statement M
