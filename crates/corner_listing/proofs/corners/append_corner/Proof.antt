@@ -51,20 +51,15 @@ same_length c = search rules
 returns-2 : tie.Need-returns-in-Plain
 unfolding bytes AllFit
 returns-2 c =
-    let k = c.before.before in
-    let t = k.before.before.before.before in
-    let s2 = t.before.before.before in
-    let s1 = s2.before in
-    let a = s1.args in
-    let f = t.answer-1.given in
-    let x : SFits w64 f.0.0 = record { sfits = t.in-Plain.known_told-1-own.given.0.1 } in
-    let y : SFits w64 f.0.1.0 = record { sfits = t.in-Plain.known_told-1-own.given.1.0.1 } in
-    let z : SFits w64 f.0.1.1.0 = record { sfits = t.in-Plain.known_told-1-own.given.1.1.0.1 } in
-    let o : SFits w64 f.0.1.1.1.0 = record { sfits = t.in-Plain.known_told-1-own.given.1.1.1.0.1 } in
-    let m : SFits w64 f.0.1.1.1.1.0 = record { sfits = t.in-Plain.known_told-1-own.given.1.1.1.1.0.1 } in
-    let e : output k.append_row.result k.append_row.new.buf ≡ appended (output a.n a.buf.now) (line (bytes "corner") (to_z w64 (of_z w64 s1.shown-f.result) ∷ to_z w64 (of_z w64 s2.shown-c.result) ∷ to_z w64 (of_z w64 f.0.0) ∷ to_z w64 (of_z w64 f.0.1.0) ∷ to_z w64 (of_z w64 f.0.1.1.0) ∷ to_z w64 (of_z w64 f.0.1.1.1.0) ∷ to_z w64 (of_z w64 f.0.1.1.1.1.0) ∷ [])) = k.append_row.ensures in
-    plain_put a.n a.face a.k _ a.buf.now _ a.answer f.0.0 f.0.1.0 f.0.1.1.0 f.0.1.1.1.0 f.0.1.1.1.1.0 f.1 (x, (y, (z, (o, (m, tt)))))
-    (rw (held a.face _ s1.shown-f.ensures, held a.k _ s2.shown-c.ensures, to_z-of_z {w = w64} x, to_z-of_z {w = w64} y, to_z-of_z {w = w64} z, to_z-of_z {w = w64} o, to_z-of_z {w = w64} m) at e)
+    let a = c.args in
+    let x : SFits w64 c.in-Plain.x = record { sfits = c.in-Plain.known_told-1-own.given.0.1 } in
+    let y : SFits w64 c.in-Plain.y = record { sfits = c.in-Plain.known_told-1-own.given.1.0.1 } in
+    let z : SFits w64 c.in-Plain.z = record { sfits = c.in-Plain.known_told-1-own.given.1.1.0.1 } in
+    let o : SFits w64 c.in-Plain.owner = record { sfits = c.in-Plain.known_told-1-own.given.1.1.1.0.1 } in
+    let m : SFits w64 c.in-Plain.material = record { sfits = c.in-Plain.known_told-1-own.given.1.1.1.1.0.1 } in
+    let e : output c.append_row.result c.append_row.new.buf ≡ appended (output a.n a.buf.now) (line (bytes "corner") (to_z w64 (of_z w64 c.shown-f.result) ∷ to_z w64 (of_z w64 c.shown-c.result) ∷ to_z w64 (of_z w64 c.in-Plain.x) ∷ to_z w64 (of_z w64 c.in-Plain.y) ∷ to_z w64 (of_z w64 c.in-Plain.z) ∷ to_z w64 (of_z w64 c.in-Plain.owner) ∷ to_z w64 (of_z w64 c.in-Plain.material) ∷ [])) = c.append_row.ensures in
+    plain_put a.n a.face a.k _ a.buf.now _ a.answer c.in-Plain.x c.in-Plain.y c.in-Plain.z c.in-Plain.owner c.in-Plain.material c.in-Plain.is (x, (y, (z, (o, (m, tt)))))
+    (rw (held a.face _ c.shown-f.ensures, held a.k _ c.shown-c.ensures, to_z-of_z {w = w64} x, to_z-of_z {w = w64} y, to_z-of_z {w = w64} z, to_z-of_z {w = w64} o, to_z-of_z {w = w64} m) at e)
 
 same-length-2 : tie.Need-shape_of-buf-in-Textured
 same-length-2 c = search rules
@@ -72,22 +67,17 @@ same-length-2 c = search rules
 returns-3 : tie.Need-returns-in-Textured
 unfolding bytes AllFit
 returns-3 c =
-    let k = c.before.before in
-    let t = k.before.before.before.before in
-    let s2 = t.before.before.before in
-    let s1 = s2.before in
-    let a = s1.args in
-    let f = t.answer-in-Textured-1.given in
-    let x : SFits w64 f.0.0 = record { sfits = t.in-Textured.known_told-in-Textured-1-own.given.0.1 } in
-    let y : SFits w64 f.0.1.0 = record { sfits = t.in-Textured.known_told-in-Textured-1-own.given.1.0.1 } in
-    let z : SFits w64 f.0.1.1.0 = record { sfits = t.in-Textured.known_told-in-Textured-1-own.given.1.1.0.1 } in
-    let o : SFits w64 f.0.1.1.1.0 = record { sfits = t.in-Textured.known_told-in-Textured-1-own.given.1.1.1.0.1 } in
-    let m : SFits w64 f.0.1.1.1.1.0 = record { sfits = t.in-Textured.known_told-in-Textured-1-own.given.1.1.1.1.0.1 } in
-    let u : SFits w64 f.0.1.1.1.1.1.0 = record { sfits = t.in-Textured.known_told-in-Textured-1-own.given.1.1.1.1.1.0.1 } in
-    let v : SFits w64 f.0.1.1.1.1.1.1.0 = record { sfits = t.in-Textured.known_told-in-Textured-1-own.given.1.1.1.1.1.1.0.1 } in
-    let e : output k.append_row-in-Textured.result k.append_row-in-Textured.new.buf ≡ appended (output a.n a.buf.now) (line (bytes "corner") (to_z w64 (of_z w64 s1.shown-f.result) ∷ to_z w64 (of_z w64 s2.shown-c.result) ∷ to_z w64 (of_z w64 f.0.0) ∷ to_z w64 (of_z w64 f.0.1.0) ∷ to_z w64 (of_z w64 f.0.1.1.0) ∷ to_z w64 (of_z w64 f.0.1.1.1.0) ∷ to_z w64 (of_z w64 f.0.1.1.1.1.0) ∷ to_z w64 (of_z w64 f.0.1.1.1.1.1.0) ∷ to_z w64 (of_z w64 f.0.1.1.1.1.1.1.0) ∷ [])) = k.append_row-in-Textured.ensures in
-    textured_put a.n a.face a.k _ a.buf.now _ a.answer f.0.0 f.0.1.0 f.0.1.1.0 f.0.1.1.1.0 f.0.1.1.1.1.0 f.0.1.1.1.1.1.0 f.0.1.1.1.1.1.1.0 f.1 (x, (y, (z, (o, (m, (u, (v, tt)))))))
-    (rw (held a.face _ s1.shown-f.ensures, held a.k _ s2.shown-c.ensures, to_z-of_z {w = w64} x, to_z-of_z {w = w64} y, to_z-of_z {w = w64} z, to_z-of_z {w = w64} o, to_z-of_z {w = w64} m, to_z-of_z {w = w64} u, to_z-of_z {w = w64} v) at e)
+    let a = c.args in
+    let x : SFits w64 c.in-Textured.x = record { sfits = c.in-Textured.known_told-in-Textured-1-own.given.0.1 } in
+    let y : SFits w64 c.in-Textured.y = record { sfits = c.in-Textured.known_told-in-Textured-1-own.given.1.0.1 } in
+    let z : SFits w64 c.in-Textured.z = record { sfits = c.in-Textured.known_told-in-Textured-1-own.given.1.1.0.1 } in
+    let o : SFits w64 c.in-Textured.owner = record { sfits = c.in-Textured.known_told-in-Textured-1-own.given.1.1.1.0.1 } in
+    let m : SFits w64 c.in-Textured.material = record { sfits = c.in-Textured.known_told-in-Textured-1-own.given.1.1.1.1.0.1 } in
+    let u : SFits w64 c.in-Textured.u = record { sfits = c.in-Textured.known_told-in-Textured-1-own.given.1.1.1.1.1.0.1 } in
+    let v : SFits w64 c.in-Textured.v = record { sfits = c.in-Textured.known_told-in-Textured-1-own.given.1.1.1.1.1.1.0.1 } in
+    let e : output c.append_row-in-Textured.result c.append_row-in-Textured.new.buf ≡ appended (output a.n a.buf.now) (line (bytes "corner") (to_z w64 (of_z w64 c.shown-f.result) ∷ to_z w64 (of_z w64 c.shown-c.result) ∷ to_z w64 (of_z w64 c.in-Textured.x) ∷ to_z w64 (of_z w64 c.in-Textured.y) ∷ to_z w64 (of_z w64 c.in-Textured.z) ∷ to_z w64 (of_z w64 c.in-Textured.owner) ∷ to_z w64 (of_z w64 c.in-Textured.material) ∷ to_z w64 (of_z w64 c.in-Textured.u) ∷ to_z w64 (of_z w64 c.in-Textured.v) ∷ [])) = c.append_row-in-Textured.ensures in
+    textured_put a.n a.face a.k _ a.buf.now _ a.answer c.in-Textured.x c.in-Textured.y c.in-Textured.z c.in-Textured.owner c.in-Textured.material c.in-Textured.u c.in-Textured.v c.in-Textured.is (x, (y, (z, (o, (m, (u, (v, tt)))))))
+    (rw (held a.face _ c.shown-f.ensures, held a.k _ c.shown-c.ensures, to_z-of_z {w = w64} x, to_z-of_z {w = w64} y, to_z-of_z {w = w64} z, to_z-of_z {w = w64} o, to_z-of_z {w = w64} m, to_z-of_z {w = w64} u, to_z-of_z {w = w64} v) at e)
 
 pub append_corner_spec : {M : Type 1} → statement M
 append_corner_spec = tie.close (tie.spec shown-requires shown-requires-2 enum_told enum-known-answer slice-aggregate-append-row append-row-requires enum-known-answer-2 slice-aggregate-append-row-2 append-row-requires-2 returns same_length returns-2 same-length-2 returns-3)

@@ -37,7 +37,7 @@ module _ (e : tie.Else-total-eq0) where
   zeros = replicate 37026 (pos 0)
 
   abbrev last : List ℤ
-  last = e.read-answer.last.1.0
+  last = e.read-answer.new.table
 
   took : Read figure-held 37026 (figure_outcome text) e.read-answer.result
   took = read_taken figure-held 37026 _ (figure_small _) _ (read_is e.before.before) e.if-total-eq0.false
@@ -61,16 +61,16 @@ module _ (l : tie.After-load_movement-moved) where
   before-it = l.before.before.before.before.before
 
   abbrev movement : List ℕ
-  movement = before-it.before.before.before.before.before.before.args.movement.now
+  movement = before-it.args.movement.now
 
   abbrev space : ℕ
-  space = length before-it.before.before.before.before.before.before.args.moves.now
+  space = length before-it.args.moves.now
 
   abbrev half : Loaded Movement
-  half = moved_answer (text before-it) before-it.before.before.read.result.counts (last before-it) movement space
+  half = moved_answer (text before-it) before-it.read-answer.result.counts (last before-it) movement space
 
   abbrev whole : Loaded (Figure × Movement)
-  whole = pair_answer (text before-it) (length before-it.before.before.before.before.before.before.args.table.now) movement space
+  whole = pair_answer (text before-it) (length before-it.args.table.now) movement space
 
   paired : whole ≡ with_figure (took before-it).value half
   unfolding figure_answer answer_of

@@ -45,7 +45,7 @@ module _ (e : tie.Else-total-eq0) where
   zeros = replicate 11779 (pos 0)
 
   abbrev last : List ℤ
-  last = e.read-answer.last.1.0
+  last = e.read-answer.new.table
 
   took : Read movement-held 11779 (movement_outcome text) e.read-answer.result
   took = read_taken movement-held 11779 _ (movement_small _) _ (read_is e.before.before) e.if-total-eq0.false

@@ -64,7 +64,7 @@ returns : tie.Need-returns-in-Refused
 unfolding bytes explained reason_line refused_line lists.shown
 returns c =
     let k = c.before.before in
-    rw k.in-Refused.is k.append_row.ensures
+    rw (k.in-Refused.is, k.in-Refused.is) k.append_row.ensures
 
 same-length-2 : tie.Need-shape_of-buf-in-Shown
 same-length-2 c = search rules
