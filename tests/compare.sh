@@ -1,19 +1,19 @@
 #!/usr/bin/env bash
 # The programs against the independent reader and player: the papers' samples, sound and damaged texts and pairs, and the time;
 # and each program's answers without notes and with them.
-# It runs once the programs are built. It needs cargo and rustc, and no network.
+# It runs the programs that rt ci proved and built, or rt run in a program's folder. It needs cargo and rustc, and no network.
 set -eu
 cd "$(dirname "$0")/.."
 
-figures=${LISTING:-target/bin/listing}
-movements=${MOVEMENT_LISTING:-target/bin/movement_listing}
-corners=${CORNERS:-target/bin/corners}
-samples=${SAMPLES:-target/bin/samples}
-pair=${PAIR:-target/bin/pair}
-shown=${SHOWN:-target/bin/shown}
-why=${WHY:-target/bin/why}
+figures=${LISTING:-crates/listing/out/listing}
+movements=${MOVEMENT_LISTING:-crates/movement_listing/out/movement_listing}
+corners=${CORNERS:-crates/corners/out/corners}
+samples=${SAMPLES:-crates/samples/out/samples}
+pair=${PAIR:-crates/pair/out/pair}
+shown=${SHOWN:-crates/shown/out/shown}
+why=${WHY:-crates/why/out/why}
 for program in "$figures" "$movements" "$corners" "$samples" "$pair" "$shown" "$why"; do
-    [ -x "$program" ] || { echo "$program is not there to run"; exit 1; }
+    [ -x "$program" ] || { echo "$program is not there to run: rt ci builds it"; exit 1; }
 done
 
 export CARGO_TARGET_DIR=target/independent

@@ -16,7 +16,7 @@ rows=$(grep -E '^\| [0-9]+ \| ' "$page")
 # a definition stands before its file
 while read -r definition file; do
     grep -qE "^ *(unfoldable )?pub $definition :" "crates/$file" || tell "no definition $definition in $file"
-done < <(grep -oE '`[A-Za-z]+` `[a-z0-9_]+/specs/[A-Za-z]+\.antt`' <<<"$rows" | tr -d '`')
+done < <(grep -oE '`[A-Za-z_]+` `[a-z0-9_]+/specs/[A-Za-z]+\.antt`' <<<"$rows" | tr -d '`')
 
 # each vector is there, and one of a row's is refused with its number
 while read -r row; do
