@@ -30,26 +30,16 @@ same_length c = search rules
 
 returns : tie.Need-returns-in-Refused
 returns c =
-    let r = c.before.before in
-    let v = r.before.before in
-    let f = v.number-1.given in
-    let d = v.before in
-    let a = d.args in
-    said_refused a.text.now a.more _ a.buf.now _ d.divide.result d.divide.ensures f.0.0 f.1 r.list_reply.ensures.0
+    let a = c.args in
+    said_refused a.text.now a.more _ a.buf.now _ c.divide.result c.divide.ensures c.in-Refused.number c.in-Refused.is c.list_reply.ensures.0
 
 same-length-2 : tie.Need-shape_of-buf-in-Figure
 same-length-2 c = search rules
 
 returns-2 : tie.Need-returns-in-Figure
 returns-2 c =
-    let t = c.before.before in
-    let p2 = t.before in
-    let p1 = p2.before in
-    let v = p1.before.before in
-    let f = v.end-1.given in
-    let d = v.before in
-    let a = d.args in
-    said_figure a.text.now a.more _ a.buf.now _ d.divide.result d.divide.ensures f.0.0 f.1 _ _ p1.part.ensures p2.part-in-Figure.ensures t.list_texts.ensures
+    let a = c.args in
+    said_figure a.text.now a.more _ a.buf.now _ c.divide.result c.divide.ensures c.in-Figure.end c.in-Figure.is _ _ c.part.ensures c.part-in-Figure.ensures c.list_texts.ensures
 
 pub list_input_spec : {M : Type 1} → statement M
 list_input_spec = tie.close (tie.spec divide-requires enum-known-number list-reply-requires enum-known-end part-requires part-requires-2 list-texts-requires same_length returns same-length-2 returns-2)

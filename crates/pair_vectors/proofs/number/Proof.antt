@@ -15,9 +15,7 @@ enum_told c = search rules
 
 returns : tie.Need-returns-in-Length
 returns c =
-    let f = c.n-1.given in
-    let p = c.before in
-    head-below _ p.parse_head.result f.0.0 p.parse_head.ensures f.1
+    head-below _ c.parse_head.result c.in-Length.n c.parse_head.ensures c.in-Length.is
 
 returns-2 : tie.Need-returns-in-Wrong
 returns-2 c = search rules

@@ -55,18 +55,11 @@ same-length-2 c = search rules
 returns-2 : tie.Need-returns-in-Value
 unfolding bytes
 returns-2 c =
-    let k = c.before.before in
-    let s4 = k.before.before in
-    let s3 = s4.before in
-    let s2 = s3.before in
-    let s1 = s2.before in
-    let t = s1.before.before.before in
-    let a = t.args in
-    let f = t.answer-1.given in
-    let fits : SFits w64 f.0.0 = record { sfits = t.in-Value.known_told-1-own.given.0.1 } in
-    let e : output k.append_row-in-Value.result k.append_row-in-Value.new.buf ≡ appended (output a.n a.buf.now) (line (bytes "sample") (to_z w64 (of_z w64 s1.shown.result) ∷ to_z w64 (of_z w64 s2.shown-in-Value.result) ∷ to_z w64 (of_z w64 s3.shown-in-Value-2.result) ∷ to_z w64 (of_z w64 f.0.0) ∷ to_z w64 (of_z w64 s4.shown-in-Value-3.result) ∷ [])) = k.append_row-in-Value.ensures in
-    value_put a.n a.bone a.channel a.at _ a.buf.now _ a.answer f.0.0 f.0.1.0 f.1 fits
-    (rw (held a.bone _ s1.shown.ensures, held a.channel _ s2.shown-in-Value.ensures, held a.at _ s3.shown-in-Value-2.ensures, to_z-of_z {w = w64} fits, held f.0.1.0 _ s4.shown-in-Value-3.ensures) at e)
+    let a = c.args in
+    let fits : SFits w64 c.in-Value.numerator = record { sfits = c.in-Value.known_told-1-own.given.0.1 } in
+    let e : output c.append_row-in-Value.result c.append_row-in-Value.new.buf ≡ appended (output a.n a.buf.now) (line (bytes "sample") (to_z w64 (of_z w64 c.shown.result) ∷ to_z w64 (of_z w64 c.shown-in-Value.result) ∷ to_z w64 (of_z w64 c.shown-in-Value-2.result) ∷ to_z w64 (of_z w64 c.in-Value.numerator) ∷ to_z w64 (of_z w64 c.shown-in-Value-3.result) ∷ [])) = c.append_row-in-Value.ensures in
+    value_put a.n a.bone a.channel a.at _ a.buf.now _ a.answer c.in-Value.numerator c.in-Value.denominator c.in-Value.is fits
+    (rw (held a.bone _ c.shown.ensures, held a.channel _ c.shown-in-Value.ensures, held a.at _ c.shown-in-Value-2.ensures, to_z-of_z {w = w64} fits, held c.in-Value.denominator _ c.shown-in-Value-3.ensures) at e)
 
 pub append_sample_spec : {M : Type 1} → statement M
 append_sample_spec = tie.close (tie.spec enum_told append-row-requires enum-known-answer shown-requires shown-requires-2 shown-requires-3 shown-requires-4 slice-aggregate-append-row append-row-requires-2 same_length returns same-length-2 returns-2)
