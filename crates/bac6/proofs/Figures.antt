@@ -1,7 +1,7 @@
 -- What was parsed of a figure: its counts and parts are the figure's, so are the rules over them, and where none is broken, the numbers that are laid are its layout.
 use mathlib.Core.Path.{◌≡◌, ap, ap₂, subst, sym, ◌∙◌}
 use mathlib.Core.List.{List, [], ◌∷◌, ◌++◌}
-use Prim.Native.Nat.{ℕ, zero, suc, ◌+◌, ◌-◌, ◌*◌, ◌≤◌, ◌<◌}
+use Prim.Native.Nat.{ℕ, zero, suc, ◌-◌, ◌*◌, ◌≤◌, ◌<◌}
 use native.Mathlib.Omega.{arith}
 use lib.IntN.{ℤ, pos, negsuc}
 use lib.ListN.{length, take, drop, replicate}
@@ -106,7 +106,7 @@ module _ {p : Parsed} {rows owners names : List ℤ} (h : Held p rows owners nam
   abbrev claims : Fault × List ℤ
   claims = claimed_bones (length f.points) 0 (clear, replicate 2048 (negsuc 0)) f.bones
 
-  fault-is : fault_of p.faulty p.fault ≡ claims.0
+  fault-is : fault_of p.fault ≡ claims.0
   unfolding kept_of kept_by
   fault-is = sym (ap (λ (k : Kept). k.claims.0) h.kept)
 

@@ -29,7 +29,7 @@ pub named_by : (p : Parsed) (a b : ℤ) (rows owners names table exit : List ℤ
 unfolding laid_numbers
 named_by p a b rows owners names table exit ea eb h = h ∙ rw (ea, eb)
 
-pub rules_by : (p : Parsed) (claims r : Fault) (rows : List ℤ) → claims ≡ fault_of p.faulty p.fault → r ≡ rows_fault p.counts claims rows → r ≡ rules_fault p rows
+pub rules_by : (p : Parsed) (claims r : Fault) (rows : List ℤ) → claims ≡ fault_of p.fault → r ≡ rows_fault p.counts claims rows → r ≡ rules_fault p rows
 unfolding rules_fault
 rules_by p claims r rows e h = h ∙ rw e
 

@@ -9,7 +9,7 @@ ghost use Rattle.bac6.specs.Internal.Answers.{RowsAnswered};
 
 use crate::setting::{FigureAnswer, refused, total_of};
 use bac6_shape::Parsed;
-use refusal::Checked;
+use refusal::Refusal;
 use text_check::Format;
 
 // The answer is document 01's, and the table holds the layout from its start on; or, where refused, what it held.
@@ -18,31 +18,29 @@ pub fn read(text: &[u8], table: &mut [i64]) -> FigureAnswer
     ensures answer { result ≡ answer_of (figure_answer text.now (length table.old)) }
     ensures content { table.new ≡ table_after text.now table.old }
 {
-    if let Checked::Refused { number, place } = text_check::check_text(text, Format::Bac) {
-        return refused(number, place);
+    if let Err(e) = text_check::check_text(text, Format::Bac) {
+        return refused(e);
     }
     let mut rows = [0i64; 34912];
     let mut owners = [-1i64; 2048];
     let mut names = [0i64; 64];
-    let p = bac6_shape::parse(text, &mut rows, &mut owners, &mut names);
-    let d = p.cursor;
-    if d.refusal != 0 {
-        return refused(d.refusal, d.at);
+    match bac6_shape::parse(text, &mut rows, &mut owners, &mut names) {
+        Ok((p, _)) => read_rows(table, p, &mut rows, &owners, &names),
+        Err(e) => refused(e),
     }
-    read_rows(table, p, &mut rows, &owners, &names)
 }
 
 // What reading the vertex entries found of rule 11.
-fn claims_of(p: Parsed) -> Checked
-    ensures { refusal result ≡ fault_of p.faulty p.fault }
+fn claims_of(p: Parsed) -> Result<(), Refusal>
+    ensures { refusal result ≡ fault_of p.fault }
 {
-    if p.faulty {
-        return Checked::Refused {
+    match p.fault {
+        Some(row) => Err(Refusal {
             number: 11,
-            place: p.fault,
-        };
+            place: row,
+        }),
+        None => Ok(()),
     }
-    Checked::Clear
 }
 
 // The rules run over the rows, and the lists are laid in the lent table where all of them hold and it is long enough (else 17).
@@ -56,27 +54,23 @@ fn read_rows(
     requires { Held p rows.old owners.now names.now }
     ensures { RowsAnswered p rows.old owners.now names.now table.old table.new result }
 {
-    if let Checked::Refused { number, place } = bac6_check::first_fault(
-        p.counts,
-        claims_of(p),
-        rows,
-    ) {
-        return refused(number, place);
+    if let Err(e) = bac6_check::first_fault(p.counts, claims_of(p), rows) {
+        return refused(e);
     }
-    let counts = p.counts;
-    let total = total_of(counts);
+    let total = total_of(p.counts);
     if table.len() < total {
-        return refused(17, total);
+        return refused(Refusal {
+            number: 17,
+            place: total,
+        });
     }
-    let place = p.place;
-    let size = p.length;
-    let name = [place as i64, size as i64];
-    bac6_layout::lay(table, counts, &name, rows, owners, names);
+    let name = [p.place as i64, p.length as i64];
+    bac6_layout::lay(table, p.counts, &name, rows, owners, names);
     FigureAnswer {
         refusal: 0,
         place: 0,
         file: 0,
         total,
-        counts,
+        counts: p.counts,
     }
 }

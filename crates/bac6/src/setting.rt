@@ -3,6 +3,7 @@ ghost use Rattle.std.specs.Prelude.{◌≡◌};
 ghost use Rattle.bac6.specs.Internal.Places.{Within, total_of};
 ghost use Rattle.bac6.specs.Answers.{refused_with};
 
+use refusal::Refusal;
 use table_counts::{FigureCounts, no_figure};
 
 // A refusal's number, place and file; or the total and how many rows each list has. All else is 0.
@@ -15,12 +16,12 @@ pub struct FigureAnswer {
     pub counts: FigureCounts,
 }
 
-pub(crate) fn refused(number: u8, place: usize) -> FigureAnswer
-    ensures { result ≡ refused_with number place }
+pub(crate) fn refused(e: Refusal) -> FigureAnswer
+    ensures { result ≡ refused_with e.number e.place }
 {
     FigureAnswer {
-        refusal: number as usize,
-        place,
+        refusal: usize::from(e.number),
+        place: e.place,
         file: 0,
         total: 0,
         counts: no_figure(),

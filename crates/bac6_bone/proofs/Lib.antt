@@ -2,4 +2,3 @@
 pub mod Fields
 pub mod Turns
 pub mod Values
-pub mod Yielding

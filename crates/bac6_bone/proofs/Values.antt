@@ -11,53 +11,54 @@ use mir.Syntax.{w64}
 use mir.Val.{SFits, to_z, of_z}
 use Rattle.text_bytes.specs.Bytes.{bytes, in_word}
 use Rattle.text_numerals.specs.Numbers.{INT, FLOAT}
-use Rattle.text_tokens.specs.Tokens.{lex_at}
-use Rattle.parse_cursor.specs.declared.cursor.Cursor.{Cursor}
-use Rattle.parse_spec.specs.Readers.{Got, Reader, ◌>>=◌, ◌>>◌, pure, closed, close_bracket, number, numbers, many, string, absent}
-use Rattle.parse_cursor.specs.Internal.Cursors.{reads, from}
+use Rattle.text_tokens.specs.Tokens.{Lexeme}
+use Rattle.std.proofs.Common.{Result, Ok}
+use Rattle.refusal.specs.declared.checked.Refusal.{Refusal}
+use Rattle.parse_spec.specs.Readers.{got, refused, after, ◌>>=◌, pure, closed, close_bracket, number, numbers, many, string}
+use Rattle.parse_cursor.specs.Internal.Cursors.{Cursor, reads, from, parsed}
 use Rattle.table_rows.specs.Internal.Overlay.{overlay_at}
 use Rattle.parse_rows.specs.Internal.Into.{numbers_into}
 use Rattle.parse_spec.specs.Internal.Places.{place_of, name_of}
 use Rattle.parse_spec.specs.Fields.{kind}
 use Rattle.parse_spec.specs.Internal.Fields.{inside_at}
 use Rattle.parse_words.specs.Internal.Words.{words, onto, word_in}
-use Rattle.parse_cursor.proofs.Steps.{from_on, from-same, join, closed_at}
+use Rattle.parse_cursor.proofs.Steps.{from-same, join, halt, halt_closed, closed_at, closed_off}
+use Rattle.parse_cursor.proofs.Forms.{mapped, reformed, reformed_at, reform_off}
+use Rattle.parse_spec.proofs.Binds.{after-after, after_when, closed-map}
+use Rattle.parse_spec.proofs.Given.{free, closed-gives}
 use Rattle.parse_words.proofs.Vocabulary.{word_list, one_word}
 use Rattle.table_rows.proofs.Tables.{overlay_at-cons, overlay_at_none}
 use Rattle.parse_spec.proofs.Ranges.{numbers_give}
 use Rattle.bac6_text.specs.Grammar.{BoneField, named, flag, several, name_in, flag_in, numbers_in, bone_kinds, truth, word}
 use Rattle.bac6_text.specs.Layout.{name_numbers}
 use Rattle.bac6_owners.specs.Internal.Claims.{claimed}
-use Rattle.bac6_bone.specs.Internal.Into.{Yields, three, put_row, put_claims, put_field}
+use Rattle.bac6_bone.specs.Internal.Into.{kept, three, put_row, put_claims, put_field}
 use Rattle.bac6_entries.specs.Internal.Into.{entries_into}
 use Rattle.bac6_entries.proofs.EntrySteps.{entries_bits}
-use Rattle.parse_cursor.proofs.Counts.{alive}
-use Rattle.parse_cursor.proofs.Behind.{given}
-use Rattle.bac6_bone.proofs.Yielding.{unmap}
-
--- a cursor at an offset
-abbrev pub here : ℕ → Cursor
-here at = record { refusal = 0; at = at }
-
--- a value that is only put into another form
-module _ {A B : Type 0} (text : List ℕ) (at : ℕ) (r : Cursor) (s : Reader A) (f : A → B) (a : A) (p : reads text r a ≡ from text (here at) s) where
-  pub mapped : reads text r (f a) ≡ (s >>= λ x. pure (f x)) (lex_at text at)
-  unfolding reads
-  mapped = join text (here at) r r a (f a) s (λ x. pure (f x)) p refl ∙ from_on text (here at) (s >>= λ x. pure (f x)) refl
 
 -- ---- a flag
 
-module _ (text : List ℕ) (at : ℕ) (d r : Cursor) (z : ℤ) (row : List ℤ) (p : reads text d z ≡ from text (here at) (word_in (bytes "false true") 2)) (q : reads text r tt ≡ from text d close_bracket) where
-  flag-closed : reads text r z ≡ from text (here at) (closed truth)
+module _ (text : List ℕ) (at : ℕ) (row : List ℤ) where
+  truth-word : from text (Ok at) (word_in (bytes "false true") 2) ≡ from text (Ok at) truth
   unfolding truth word words onto in_word bytes word_list
-  flag-closed = closed_at text (here at) d r z truth (p ∙ sym (from-same text (here at) truth (word_in (bytes "false true") 2) (λ ms. one_word ("false" ∷ "true" ∷ []) (bytes "false true") ms refl))) q
+  truth-word = sym (from-same text (Ok at) truth (word_in (bytes "false true") 2) (λ ms. one_word ("false" ∷ "true" ∷ []) (bytes "false true") ms refl))
 
-  pub flag-read : (k : ℕ) → 0 < k → k < 3 → Yields text r (inside_at bone_kinds k (lex_at text at)) (put_row k row) (set row (8 + k) z)
+  flag-kind : (k : ℕ) → 0 < k → k < 3 → (ms : List Lexeme) → kept (inside_at bone_kinds k) (put_row k row) ms ≡ kept (closed truth) (λ z. set row (8 + k) z) ms
   unfolding inside_at bone_kinds kind put_row flag_in
-  flag-read zero h l = absurd (omega arith)
-  flag-read (suc zero) h l = record { value = flag z; read = mapped text at r (closed truth) flag z flag-closed; kept = λ o. refl }
-  flag-read (suc (suc zero)) h l = record { value = flag z; read = mapped text at r (closed truth) flag z flag-closed; kept = λ o. refl }
-  flag-read (suc (suc (suc k))) h l = absurd (omega arith)
+  flag-kind zero h l = absurd (omega arith)
+  flag-kind (suc zero) h l = mapped (closed truth) flag _ _ (λ z. refl)
+  flag-kind (suc (suc zero)) h l = mapped (closed truth) flag _ _ (λ z. refl)
+  flag-kind (suc (suc (suc k))) h l = absurd (omega arith)
+
+  module _ (k : ℕ) (h : 0 < k) (l : k < 3) where
+    pub flag_off : {n p : ℕ} → from text (Ok at) (word_in (bytes "false true") 2) ≡ refused n p → from text (Ok at) (kept (inside_at bone_kinds k) (put_row k row)) ≡ refused n p
+    flag_off q = from-same text (Ok at) _ _ (flag-kind k h l) ∙ halt text (Ok at) (closed truth) (halt_closed text (Ok at) truth (sym truth-word ∙ q)) _
+
+    pub flag_unclosed : (d : Cursor) (z : ℤ) → reads text d z ≡ from text (Ok at) (word_in (bytes "false true") 2) → {n p : ℕ} → from text d close_bracket ≡ refused n p → from text (Ok at) (kept (inside_at bone_kinds k) (put_row k row)) ≡ refused n p
+    flag_unclosed d z p q = from-same text (Ok at) _ _ (flag-kind k h l) ∙ halt text (Ok at) (closed truth) (closed_off text (Ok at) d z truth (p ∙ truth-word) q) _
+
+    pub flag-read : (d r : Cursor) (z : ℤ) → reads text d z ≡ from text (Ok at) (word_in (bytes "false true") 2) → reads text r tt ≡ from text d close_bracket → reads text r (set row (8 + k) z) ≡ from text (Ok at) (kept (inside_at bone_kinds k) (put_row k row))
+    flag-read d r z p q = join text (Ok at) r z (closed truth) (λ v. pure (set row (8 + k) v)) (closed_at text (Ok at) d r z truth (p ∙ truth-word) q) refl ∙ sym (from-same text (Ok at) _ _ (flag-kind k h l))
 
 -- ---- a vector
 
@@ -69,62 +70,51 @@ three-all (x ∷ y ∷ []) e = absurd (omega arith)
 three-all (x ∷ y ∷ z ∷ []) e = refl
 three-all (x ∷ y ∷ z ∷ w ∷ zs) e = absurd (omega arith)
 
-module _ (text : List ℕ) (at : ℕ) (d r : Cursor) (row row' : List ℤ) (q : reads text r tt ≡ from text d close_bracket) where
-  vector : (i : ℕ) → reads text d row' ≡ from text (here at) (numbers_into FLOAT 3 i row) → Yields text r ((closed (numbers FLOAT 3) >>= λ zs. pure (several zs)) (lex_at text at)) (λ f. overlay_at i (three (numbers_in (some f))) row) row'
-  unfolding numbers_into ◌>>=◌ numbers_in
-  vector i p =
-      let y : Yields text d (numbers FLOAT 3 (lex_at text at)) (λ zs. overlay_at i zs row) row' = unmap text d (λ zs. overlay_at i zs row) row' [] (numbers FLOAT 3 (lex_at text at)) (p ∙ from_on text (here at) (numbers FLOAT 3 >>= λ zs. pure (overlay_at i zs row)) refl) in
-      let w = y.read ∙ sym (from_on text (here at) (numbers FLOAT 3) refl) in
-      record {
-        value = several y.value;
-        read = mapped text at r (closed (numbers FLOAT 3)) several y.value (closed_at text (here at) d r y.value (numbers FLOAT 3) w q);
-        kept = λ o. let o' = alive text d r close_bracket tt q o in rw (three-all y.value (given (numbers_give FLOAT 3) text d (lex_at text at) y.value y.read o').0) (y.kept o');
-      }
+vector_same : (i : ℕ) (row : List ℤ) (ms : List Lexeme) → kept (closed (numbers FLOAT 3) >>= λ zs. pure (several zs)) (λ f. overlay_at i (three (numbers_in (some f))) row) ms ≡ closed (numbers_into FLOAT 3 i row) ms
+unfolding numbers_into numbers_in ◌>>=◌ pure after
+vector_same i row ms =
+    after-after (closed (numbers FLOAT 3) ms) _ _
+    ∙ after_when (closed (numbers FLOAT 3) ms) _ _ (λ zs l e. ap (λ (x : List ℤ). got (overlay_at i x row) l) (three-all zs (free (closed-gives (numbers_give FLOAT 3)) ms zs l e).0))
+    ∙ closed-map (numbers FLOAT 3) (λ zs. overlay_at i zs row) ms
 
-  pub vector_read : (k : ℕ) → 3 ≤ k → k < 6 → reads text d row' ≡ from text (here at) (numbers_into FLOAT 3 ((k - 3) * 3) row) → Yields text r (inside_at bone_kinds k (lex_at text at)) (put_row k row) row'
-  unfolding inside_at bone_kinds kind put_row
-  vector_read zero h l p = absurd (omega arith)
-  vector_read (suc zero) h l p = absurd (omega arith)
-  vector_read (suc (suc zero)) h l p = absurd (omega arith)
-  vector_read (suc (suc (suc zero))) h l p = vector 0 p
-  vector_read (suc (suc (suc (suc zero)))) h l p = vector 3 p
-  vector_read (suc (suc (suc (suc (suc zero))))) h l p = vector 6 p
-  vector_read (suc (suc (suc (suc (suc (suc k)))))) h l p = absurd (omega arith)
+vector_kind : (row : List ℤ) (k : ℕ) → 3 ≤ k → k < 6 → (ms : List Lexeme) → kept (inside_at bone_kinds k) (put_row k row) ms ≡ closed (numbers_into FLOAT 3 ((k - 3) * 3) row) ms
+unfolding inside_at bone_kinds kind put_row
+vector_kind row zero h l = absurd (omega arith)
+vector_kind row (suc zero) h l = absurd (omega arith)
+vector_kind row (suc (suc zero)) h l = absurd (omega arith)
+vector_kind row (suc (suc (suc zero))) h l = vector_same 0 row
+vector_kind row (suc (suc (suc (suc zero)))) h l = vector_same 3 row
+vector_kind row (suc (suc (suc (suc (suc zero))))) h l = vector_same 6 row
+vector_kind row (suc (suc (suc (suc (suc (suc k)))))) h l = absurd (omega arith)
+
+pub vector_read : (text : List ℕ) (at : ℕ) (d r : Cursor) (row row' : List ℤ) (k : ℕ) → 3 ≤ k → k < 6 → reads text d row' ≡ from text (Ok at) (numbers_into FLOAT 3 ((k - 3) * 3) row) → reads text r tt ≡ from text d close_bracket → reads text r row' ≡ from text (Ok at) (kept (inside_at bone_kinds k) (put_row k row))
+vector_read text at d r row row' k h l p q = closed_at text (Ok at) d r row' (numbers_into FLOAT 3 ((k - 3) * 3) row) p q ∙ sym (from-same text (Ok at) _ _ (vector_kind row k h l))
 
 -- ---- a name
 
-module _ (text : List ℕ) (at : ℕ) (d : Cursor) (place size : ℕ) (p : reads text d (place, size) ≡ from text (here at) name_of) where
-  name-found : Yields text d (closed string (lex_at text at)) place_of (place, size)
-  unfolding name_of ◌>>=◌
-  name-found = unmap text d place_of (place, size) absent (closed string (lex_at text at)) (p ∙ from_on text (here at) name_of refl)
-
-  pub name-read : (row row' : List ℤ) → (d.refusal ≡ 0 → set (set row 12 (pos place)) 13 (pos size) ≡ row') → Yields text d (inside_at bone_kinds 0 (lex_at text at)) (put_row 0 row) row'
+module _ (row : List ℤ) where
+  name-kind : (ms : List Lexeme) → kept (inside_at bone_kinds 0) (put_row 0 row) ms ≡ kept (closed string) (λ n. overlay_at 12 (pos (place_of n).0 ∷ pos (place_of n).1 ∷ []) row) ms
   unfolding inside_at bone_kinds kind put_row name_in name_numbers place_of
-  name-read row row' h =
-      record {
-        value = named name-found.value;
-        read = mapped text at d (closed string) named name-found.value (name-found.read ∙ sym (from_on text (here at) (closed string) refl));
-        kept = λ o.
-            let m = name-found.value in
-            let u : m.at ≡ place = ap (λ (v : ℕ × ℕ). v.0) (name-found.kept o) in
-            let v : length m.bytes ≡ size = ap (λ (v : ℕ × ℕ). v.1) (name-found.kept o) in
-            rw (u, v) (overlay_at-cons 12 (pos place) (pos size ∷ []) row ∙ overlay_at-cons 13 (pos size) [] (set row 12 (pos place)) ∙ overlay_at_none 14 _ ∙ h o);
-      }
+  name-kind = mapped (closed string) named _ _ (λ n. refl)
+
+  pub name-read : (text : List ℕ) (at d : ℕ) (v : ℕ × ℕ) → reads text (Ok d) v ≡ from text (Ok at) name_of → reads text (Ok d) (set (set row 12 (pos v.0)) 13 (pos v.1)) ≡ from text (Ok at) (kept (inside_at bone_kinds 0) (put_row 0 row))
+  unfolding name_of
+  name-read text at d v p =
+      rw (sym (overlay_at-cons 12 (pos v.0) (pos v.1 ∷ []) row ∙ overlay_at-cons 13 (pos v.1) [] (set row 12 (pos v.0)) ∙ overlay_at_none 14 _))
+      (reformed_at (closed string) place_of (λ x. overlay_at 12 (pos x.0 ∷ pos x.1 ∷ []) row) _ (λ n. refl) text (Ok at) (Ok d) v p ∙ sym (from-same text (Ok at) _ _ name-kind))
+
+  pub name_off : (text : List ℕ) (at : ℕ) {n p : ℕ} → from text (Ok at) name_of ≡ refused n p → from text (Ok at) (kept (inside_at bone_kinds 0) (put_row 0 row)) ≡ refused n p
+  unfolding name_of
+  name_off text at q = from-same text (Ok at) _ _ name-kind ∙ reform_off (closed string) place_of (λ x. overlay_at 12 (pos x.0 ∷ pos x.1 ∷ []) row) _ (λ n. refl) text (Ok at) q
 
 -- ---- entries, and the other chunks, as a chunk of a kind
 
-entries_read : (text : List ℕ) (at : ℕ) (r : Cursor) (n : ℕ) (b : ℤ) (row : List ℤ) (c c' : Bool × List ℤ) → reads text r c' ≡ entries_into n b c (lex_at text at) → Yields text r (inside_at bone_kinds 6 (lex_at text at)) (put_field n b 6 (row, c)) (row, c')
-unfolding entries_into ◌>>=◌ inside_at bone_kinds kind put_row put_claims numbers_in
-entries_read text at r n b row c c' p =
-    let y : Yields text r (many (number INT) (lex_at text at)) (claimed n b c) c' = unmap text r (claimed n b c) c' [] (many (number INT) (lex_at text at)) p in
-    record {
-      value = several y.value;
-      read = mapped text at r (many (number INT)) several y.value (y.read ∙ sym (from_on text (here at) (many (number INT)) refl));
-      kept = λ o. ap (λ (s : Bool × List ℤ). (row, s)) (y.kept o);
-    }
-
-pub entries_read-at : (text : List ℕ) (at : ℕ) (r : Cursor) (n : ℕ) (b : ℤ) (k : ℕ) (row : List ℤ) (c c' : Bool × List ℤ) → k ≡ 6 → SFits w64 b → reads text r c' ≡ entries_into n (to_z w64 (of_z w64 b)) c (lex_at text at) → Yields text r (inside_at bone_kinds k (lex_at text at)) (put_field n b k (row, c)) (row, c')
-entries_read-at text at r n b k row c c' e f p = rw e (entries_read text at r n b row c c' (p ∙ entries_bits n b c (lex_at text at) f))
+pub entries_read : (text : List ℕ) (at : ℕ) (r : Result (Bool × ℕ) Refusal) (n : ℕ) (b : ℤ) (k : ℕ) (row owners : List ℤ) (c : Bool × List ℤ) → k ≡ 6 → SFits w64 b → parsed text r (λ f. (f, owners)) ≡ from text (Ok at) (entries_into n (to_z w64 (of_z w64 b)) c) → parsed text r (λ f. (row, (f, owners))) ≡ from text (Ok at) (kept (inside_at bone_kinds k) (put_field n b k (row, c)))
+unfolding entries_into inside_at bone_kinds kind put_row put_claims numbers_in
+entries_read text at r n b k row owners c e f p =
+    rw e
+    (reformed (many (number INT)) (claimed n b c) (λ (s : Bool × List ℤ). (row, s)) _ (λ zs. refl) text (Ok at) r (λ (v : Bool). (v, owners)) (p ∙ from-same text (Ok at) _ _ (λ ms. entries_bits n b c ms f))
+    ∙ sym (from-same text (Ok at) _ _ (mapped (many (number INT)) several (put_field n b 6 (row, c)) _ (λ zs. refl))))
 
 put_claims_none : (n : ℕ) (b : ℤ) (k : ℕ) (c : Bool × List ℤ) (f : BoneField) → k < 6 → put_claims n b k c f ≡ c
 unfolding put_claims
@@ -136,5 +126,9 @@ put_claims_none n b (suc (suc (suc (suc zero)))) c f h = refl
 put_claims_none n b (suc (suc (suc (suc (suc zero))))) c f h = refl
 put_claims_none n b (suc (suc (suc (suc (suc (suc k)))))) c f h = absurd (omega arith)
 
-pub row_read : (text : List ℕ) (r : Cursor) (g : Got BoneField) (n : ℕ) (b : ℤ) (k : ℕ) (row row' : List ℤ) (c : Bool × List ℤ) → k < 6 → Yields text r g (put_row k row) row' → Yields text r g (put_field n b k (row, c)) (row', c)
-row_read text r g n b k row row' c h y = record { value = y.value; read = y.read; kept = λ o. rw (y.kept o, put_claims_none n b k c y.value h) }
+module _ (text : List ℕ) (at n : ℕ) (b : ℤ) (k : ℕ) (row : List ℤ) (c : Bool × List ℤ) (h : k < 6) where
+  pub row_read : (d : Cursor) (row' : List ℤ) → reads text d row' ≡ from text (Ok at) (kept (inside_at bone_kinds k) (put_row k row)) → reads text d (row', c) ≡ from text (Ok at) (kept (inside_at bone_kinds k) (put_field n b k (row, c)))
+  row_read d row' p = reformed_at (inside_at bone_kinds k) (put_row k row) (λ (x : List ℤ). (x, c)) (put_field n b k (row, c)) (λ f. rw (put_claims_none n b k c f h)) text (Ok at) d row' p
+
+  pub row_off : {m p : ℕ} → from text (Ok at) (kept (inside_at bone_kinds k) (put_row k row)) ≡ refused m p → from text (Ok at) (kept (inside_at bone_kinds k) (put_field n b k (row, c))) ≡ refused m p
+  row_off q = reform_off (inside_at bone_kinds k) (put_row k row) (λ (x : List ℤ). (x, c)) (put_field n b k (row, c)) (λ f. rw (put_claims_none n b k c f h)) text (Ok at) q

@@ -13,8 +13,7 @@ use lib.IntN.{ℤ, pos, negsuc}
 use mir.Syntax.{w64}
 use mir.Val.{SFits, of_z}
 use Rattle.bac6_text.specs.Rules.{Flags, Placed, placed, short, is_set, joined, then_if, bone_list, parents_in}
-use Rattle.bac6_bone_rules.specs.declared.bone.Walk.{Walk}
-use Rattle.bac6_bone_rules.specs.declared.bone.Walk.TheVariants.{At, Short}
+use Rattle.std.proofs.Common.{Option, Some, None}
 use Rattle.table_columns.specs.Parts.{rows_of}
 use Rattle.bac6_bone_rules.specs.Internal.Bones.{row_flags, flags_in, parents_from, one_bone, Walked}
 use Rattle.table_columns.proofs.Rows.{rows_more, rows_short}
@@ -131,31 +130,31 @@ parents-first row p ps t = refl
 
 module _ (n row : ℕ) (entry exit : List ℤ) where
   -- what a walk is, of parents that are known
-  pub walked_at : (p : Placed) (ps : List ℤ) (next : ℕ) → p ≡ placed ps next (drop next (flags_in n entry)) → exit ≡ parents_from row ps entry → next ≡ row + length ps → row < next → next ≤ n → Walked n row entry exit p (At next)
+  pub walked_at : (p : Placed) (ps : List ℤ) (next : ℕ) → p ≡ placed ps next (drop next (flags_in n entry)) → exit ≡ parents_from row ps entry → next ≡ row + length ps → row < next → next ≤ n → Walked n row entry exit p (Some next)
   unfolding Walked parents_in
   walked_at p ps next e x k l h = rw e (refl, x, k, l, h)
 
-  pub walked_short : (p : Placed) (ps : List ℤ) → p ≡ short → exit ≡ parents_from row ps entry → length ps ≤ n - row → Walked n row entry exit p Short
+  pub walked_short : (p : Placed) (ps : List ℤ) → p ≡ short → exit ≡ parents_from row ps entry → length ps ≤ n - row → Walked n row entry exit p None
   unfolding Walked
   walked_short p ps e x h = (e, (ps, x, h))
 
   -- and what it says
-  pub at_told : (p : Placed) (next : ℕ) → Walked n row entry exit p (At next) → (p ≡ placed (parents_in p) next (drop next (flags_in n entry))) × (exit ≡ parents_from row (parents_in p) entry) × (next ≡ row + length (parents_in p)) × (row < next) × (next ≤ n)
+  pub at_told : (p : Placed) (next : ℕ) → Walked n row entry exit p (Some next) → (p ≡ placed (parents_in p) next (drop next (flags_in n entry))) × (exit ≡ parents_from row (parents_in p) entry) × (next ≡ row + length (parents_in p)) × (row < next) × (next ≤ n)
   unfolding Walked
   at_told p next w = w
 
-  pub short_told : (p : Placed) → Walked n row entry exit p Short → (p ≡ short) × ((ps : List ℤ) × (exit ≡ parents_from row ps entry) × (length ps ≤ n - row))
+  pub short_told : (p : Placed) → Walked n row entry exit p None → (p ≡ short) × ((ps : List ℤ) × (exit ≡ parents_from row ps entry) × (length ps ≤ n - row))
   unfolding Walked
   short_told p w = w
 
 -- no row is there
-pub no_bone : (n row k : ℕ) (parent : ℤ) (t : List ℤ) → n ≤ row → n * 14 ≤ length t → Walked n row t t (one_bone k parent row (drop row (flags_in n t))) Short
+pub no_bone : (n row k : ℕ) (parent : ℤ) (t : List ℤ) → n ≤ row → n * 14 ≤ length t → Walked n row t t (one_bone k parent row (drop row (flags_in n t))) None
 unfolding one_bone
 no_bone n row k parent t h w = rw (flags_past n row t h w) (walked_short n row t t short [] refl (unfold parents_from in refl) (omega arith))
 
 module _ (n row : ℕ) (parent : ℤ) (t : List ℤ) (h : row < n) (w : n * 14 ≤ length t) where
   -- a bone with no child
-  pub bone_leaf : (k : ℕ) → is_set (get_or t (row * 14 + 9) (pos 0)) ≡ false → Walked n row t (set t (row * 14 + 11) parent) (one_bone k parent row (drop row (flags_in n t))) (At (suc row))
+  pub bone_leaf : (k : ℕ) → is_set (get_or t (row * 14 + 9) (pos 0)) ≡ false → Walked n row t (set t (row * 14 + 11) parent) (one_bone k parent row (drop row (flags_in n t))) (Some (suc row))
   bone_leaf k e =
       rw (flags_drop n row t h w) (walked_at n row t (set t (row * 14 + 11) parent) _ (parent ∷ []) (suc row) alone (unfold parents_from in refl) (omega arith) (omega arith) (omega arith))
     where
@@ -163,7 +162,7 @@ module _ (n row : ℕ) (parent : ℤ) (t : List ℤ) (h : row < n) (w : n * 14 �
       alone = unfold one_bone joined in rw e
 
   -- a bone with a child's list
-  pub bone-child : (exit : List ℤ) (r : Walk) → is_set (get_or t (row * 14 + 9) (pos 0)) ≡ true → Walked n (suc row) (set t (row * 14 + 11) parent) exit (bone_list (n - suc row) (pos row) (suc row) (drop (suc row) (flags_in n (set t (row * 14 + 11) parent)))) r → Walked n row t exit (one_bone (n - suc row) parent row (drop row (flags_in n t))) r
+  pub bone-child : (exit : List ℤ) (r : Option ℕ) → is_set (get_or t (row * 14 + 9) (pos 0)) ≡ true → Walked n (suc row) (set t (row * 14 + 11) parent) exit (bone_list (n - suc row) (pos row) (suc row) (drop (suc row) (flags_in n (set t (row * 14 + 11) parent)))) r → Walked n row t exit (one_bone (n - suc row) parent row (drop row (flags_in n t))) r
   bone-child exit r e q = rw (flags_drop n row t h w) (go r (rw (flags_set n row t parent) at q))
     where
       child : one_bone (n - suc row) parent row (flags_at_lem row t ∷ drop (suc row) (flags_in n t)) ≡ joined (parent ∷ []) (bone_list (n - suc row) (pos row) (suc row) (drop (suc row) (flags_in n t)))
@@ -172,11 +171,11 @@ module _ (n row : ℕ) (parent : ℤ) (t : List ℤ) (h : row < n) (w : n * 14 �
       list : Placed
       list = bone_list (n - suc row) (pos row) (suc row) (drop (suc row) (flags_in n t))
 
-      go : (r : Walk) → Walked n (suc row) (set t (row * 14 + 11) parent) exit (bone_list (n - suc row) (pos row) (suc row) (drop (suc row) (flags_in n t))) r → Walked n row t exit (one_bone (n - suc row) parent row (flags_at_lem row t ∷ drop (suc row) (flags_in n t))) r
-      go (At next) q =
+      go : (r : Option ℕ) → Walked n (suc row) (set t (row * 14 + 11) parent) exit (bone_list (n - suc row) (pos row) (suc row) (drop (suc row) (flags_in n t))) r → Walked n row t exit (one_bone (n - suc row) parent row (flags_at_lem row t ∷ drop (suc row) (flags_in n t))) r
+      go (Some next) q =
           let w = at_told n (suc row) (set t (row * 14 + 11) parent) exit list next q in
           walked_at n row t exit _ (parent ∷ parents_in list) next (child ∙ ap (joined (parent ∷ [])) w.0 ∙ joined-placed (parent ∷ []) _ next _ ∙ rw (flags_set n row t parent)) (w.1 ∙ sym (parents-first row parent _ t)) (omega (arith, w.2)) (omega (arith, w.3)) w.4
-      go Short q =
+      go None q =
           let w = short_told n (suc row) (set t (row * 14 + 11) parent) exit list q in
           walked_short n row t exit _ (parent ∷ w.1.0) (child ∙ ap (joined (parent ∷ [])) w.0 ∙ joined-short _) (w.1.1 ∙ sym (parents-first row parent _ t)) (omega (arith, w.1.2))
 
@@ -216,7 +215,7 @@ module _ (n row : ℕ) (parent : ℤ) (t : List ℤ) (w : n * 14 ≤ length t) w
   list_none h = let e : n - row ≡ 0 = omega arith in rw e
 
   -- the rows run out in the bone
-  pub list_short : (exit : List ℤ) → Walked n row t exit (one_bone (n - suc row) parent row (drop row (flags_in n t))) Short → Walked n row t exit (bone_list (n - row) parent row (drop row (flags_in n t))) Short
+  pub list_short : (exit : List ℤ) → Walked n row t exit (one_bone (n - suc row) parent row (drop row (flags_in n t))) None → Walked n row t exit (bone_list (n - row) parent row (drop row (flags_in n t))) None
   list_short exit q =
       let s = short_told n row t exit _ q in
       walked_short n row t exit _ s.1.0 (go (ltb row n) refl s.0) s.1.1 s.1.2
@@ -225,7 +224,7 @@ module _ (n row : ℕ) (parent : ℤ) (t : List ℤ) (w : n * 14 ≤ length t) w
       go true e q = list_at_lem (ltb-true row n e) ∙ ap (λ (p : Placed). then_if (is_set (get_or t (row * 14 + 10) (pos 0))) p (bone_list (n - suc row) parent)) q ∙ then_short _ _
       go false e q = list_none (ltb-false row n e)
 
-  module _ (mid : List ℤ) (next : ℕ) (q : Walked n row t mid (one_bone (n - suc row) parent row (drop row (flags_in n t))) (At next)) where
+  module _ (mid : List ℤ) (next : ℕ) (q : Walked n row t mid (one_bone (n - suc row) parent row (drop row (flags_in n t))) (Some next)) where
     abbrev bone : Placed
     bone = one_bone (n - suc row) parent row (drop row (flags_in n t))
 
@@ -247,7 +246,7 @@ module _ (n row : ℕ) (parent : ℤ) (t : List ℤ) (w : n * 14 ≤ length t) w
         ∙ rw (sym (ap is_set brother) ∙ e) (ap (λ (p : Placed). then_if b p (bone_list (n - suc row) parent)) (at_told n row t mid bone next q).0)
 
     -- the bone is the last of its list
-    pub list_last : is_set (get_or mid (row * 14 + 10) (pos 0)) ≡ false → Walked n row t mid (bone_list (n - row) parent row (drop row (flags_in n t))) (At next)
+    pub list_last : is_set (get_or mid (row * 14 + 10) (pos 0)) ≡ false → Walked n row t mid (bone_list (n - row) parent row (drop row (flags_in n t))) (Some next)
     list_last e =
         let s = at_told n row t mid bone next q in
         walked_at n row t mid _ (parents_in bone) next (then_at false e ∙ then_no _ _ _ _) s.1 s.2 s.3 s.4
@@ -258,7 +257,7 @@ module _ (n row : ℕ) (parent : ℤ) (t : List ℤ) (w : n * 14 ≤ length t) w
         let l : length (drop next (flags_in n t)) ≡ n - next = rw (length-drop, flags_length n t w) in
         rw mid_flags (turns (n - suc row) (n - next) parent next (drop next (flags_in n t)) (omega (arith, next_within, l)) (omega (arith, l)))
 
-    pub list_more : (exit : List ℤ) (r : Walk) → is_set (get_or mid (row * 14 + 10) (pos 0)) ≡ true → Walked n next mid exit (bone_list (n - next) parent next (drop next (flags_in n mid))) r → Walked n row t exit (bone_list (n - row) parent row (drop row (flags_in n t))) r
+    pub list_more : (exit : List ℤ) (r : Option ℕ) → is_set (get_or mid (row * 14 + 10) (pos 0)) ≡ true → Walked n next mid exit (bone_list (n - next) parent next (drop next (flags_in n mid))) r → Walked n row t exit (bone_list (n - row) parent row (drop row (flags_in n t))) r
     list_more exit r e v = go r v
       where
         rest : Placed
@@ -270,8 +269,8 @@ module _ (n row : ℕ) (parent : ℤ) (t : List ℤ) (w : n * 14 ≤ length t) w
         all-parents : (qs : List ℤ) → exit ≡ parents_from next qs mid → exit ≡ parents_from row (parents_in bone ++ qs) t
         all-parents qs x = let s = at_told n row t mid bone next q in x ∙ rw (s.1, s.2) (sym (parents-append row (parents_in bone) qs t))
 
-        go : (r : Walk) → Walked n next mid exit rest r → Walked n row t exit (bone_list (n - row) parent row (drop row (flags_in n t))) r
-        go (At last) v =
+        go : (r : Option ℕ) → Walked n next mid exit rest r → Walked n row t exit (bone_list (n - row) parent row (drop row (flags_in n t))) r
+        go (Some last) v =
             let s = at_told n row t mid bone next q in
             let u = at_told n next mid exit rest last v in
             walked_at n row t exit _ (parents_in bone ++ parents_in rest) last
@@ -280,7 +279,7 @@ module _ (n row : ℕ) (parent : ℤ) (t : List ℤ) (w : n * 14 ≤ length t) w
             (rw (length-append (parents_in bone) (parents_in rest)) (omega (arith, u.2, s.2)))
             (omega (arith, s.3, u.3))
             u.4
-        go Short v =
+        go None v =
             let s = at_told n row t mid bone next q in
             let u = short_told n next mid exit rest v in
             walked_short n row t exit _ (parents_in bone ++ u.1.0)
@@ -289,5 +288,5 @@ module _ (n row : ℕ) (parent : ℤ) (t : List ℤ) (w : n * 14 ≤ length t) w
             (rw (length-append (parents_in bone) u.1.0) (omega (arith, u.1.2, s.2, s.4)))
 
 -- the same walk, of what is known to be the same
-pub walked_as : (n row : ℕ) (entry exit : List ℤ) {p q : Placed} {r s : Walk} → Walked n row entry exit p r → p ≡ q → r ≡ s → Walked n row entry exit q s
+pub walked_as : (n row : ℕ) (entry exit : List ℤ) {p q : Placed} {r s : Option ℕ} → Walked n row entry exit p r → p ≡ q → r ≡ s → Walked n row entry exit q s
 walked_as n row entry exit {p} {q} {r} {s} w e f = rw (← e, ← f) w

@@ -11,8 +11,7 @@ use lib.ListN.{length, drop, length-drop}
 use lib.IntN.{ℤ, negsuc}
 use Rattle.refusal.specs.Faults.{clear, fault}
 use Rattle.bac6_text.specs.Rules.{Flags, Placed, placed, short, bone_list, parents_in, whole_list, placed_fault, bones_fault}
-use Rattle.bac6_bone_rules.specs.declared.bone.Walk.{Walk}
-use Rattle.bac6_bone_rules.specs.declared.bone.Walk.TheVariants.{At, Short}
+use Rattle.std.proofs.Common.{Option, Some, None}
 use Rattle.bac6_bone_rules.specs.Internal.Bones.{flags_in, with_parents, Walked, Settled}
 use Rattle.bac6_text.proofs.Parents.{fault-not-clear}
 use Rattle.bac6_bone_rules.proofs.Walks.{flags_none, flags_more, flags_short, flags_length, flags_drop, flags_past, at_told, short_told}
@@ -50,26 +49,26 @@ module _ (count rows : ℕ) (t : List ℤ) (e : rows ≡ min count (length t / 1
   whole_flags = rw flags_whole (flags_length rows t rows_whole)
 
   -- the walk over all rows is over the whole list
-  pub whole_walk : (exit : List ℤ) (r : Walk) → Walked rows 0 t exit (bone_list (rows - 0) (negsuc 0) 0 (drop 0 (flags_in rows t))) r → Walked rows 0 t exit (whole_list (flags_in count t)) r
+  pub whole_walk : (exit : List ℤ) (r : Option ℕ) → Walked rows 0 t exit (bone_list (rows - 0) (negsuc 0) 0 (drop 0 (flags_in rows t))) r → Walked rows 0 t exit (whole_list (flags_in count t)) r
   unfolding whole_list
   whole_walk exit r w = rw (whole_flags, flags_whole) (rw (sub-zero rows) at w)
 
 -- ---- what the walk answers
 
 module _ (count rows : ℕ) (t exit : List ℤ) (p : Placed) (h : rows ≤ count) where
-  pub settled_short : Walked rows 0 t exit p Short → Settled count t exit p
+  pub settled_short : Walked rows 0 t exit p None → Settled count t exit p
   unfolding Settled with_parents
   settled_short w = let s = short_told rows 0 t exit p w in rw s.0 (s.1.0, s.1.1, omega (arith, s.1.2))
 
-  pub settled_at : (next : ℕ) → Walked rows 0 t exit p (At next) → Settled count t exit p
+  pub settled_at : (next : ℕ) → Walked rows 0 t exit p (Some next) → Settled count t exit p
   unfolding Settled with_parents
   settled_at next w = let s = at_told rows 0 t exit p next w in rw s.0 s.1
 
-  pub fault-short : Walked rows 0 t exit p Short → placed_fault rows p ≡ fault 10 rows
+  pub fault-short : Walked rows 0 t exit p None → placed_fault rows p ≡ fault 10 rows
   unfolding placed_fault
   fault-short w = rw (short_told rows 0 t exit p w).0
 
-  module _ (next : ℕ) (w : Walked rows 0 t exit p (At next)) (l : rows * 14 ≤ length t) where
+  module _ (next : ℕ) (w : Walked rows 0 t exit p (Some next)) (l : rows * 14 ≤ length t) where
     pub fault-left : next < rows → placed_fault rows p ≡ fault 10 next
     unfolding placed_fault
     fault-left k = let s = at_told rows 0 t exit p next w in rw (s.0, flags_drop rows next t k l)

@@ -17,19 +17,22 @@ use Rattle.text_bytes.specs.Bytes.{bytes}
 use Rattle.text_numerals.specs.Numbers.{INT, FLOAT}
 use Rattle.refusal.specs.Faults.{Fault, clear, fault}
 use Rattle.text_tokens.specs.Tokens.{Lexeme, lex_at}
-use Rattle.parse_cursor.specs.declared.cursor.Cursor.{Cursor}
-use Rattle.parse_spec.specs.Readers.{Got, got, Reader, after, ◌>>=◌, ◌>>◌, pure, open_bracket, keyword, word_of, opened, opened_of, many, many⁺}
-use Rattle.parse_cursor.specs.Internal.Cursors.{reads, from}
+use Rattle.std.proofs.Common.{Result, Ok, Option as Perhaps, Some, None, is_some}
+use Rattle.std.specs.Option.{option_or}
+use Rattle.std.specs.Bool.{then_some}
+use Rattle.refusal.specs.declared.checked.Refusal.{Refusal}
+use Rattle.parse_spec.specs.Readers.{Got, got, refused, after, ◌>>=◌, ◌>>◌, pure, open_bracket, keyword, word_of, opened, opened_of, many, many⁺}
+use Rattle.parse_cursor.specs.Internal.Cursors.{Cursor, reads, from, parsed}
 use Rattle.table_rows.specs.Internal.Overlay.{overlay_at}
 use Rattle.table_rows.specs.Flat.{flat}
 use Rattle.parse_rows.specs.Internal.Folds.{fold, folded, stepped}
 use Rattle.parse_spec.specs.Fields.{kind, fields}
 use Rattle.parse_spec.specs.Internal.Branches.{item_of}
-use Rattle.parse_cursor.proofs.Steps.{join, seq, passed, from-same}
-use Rattle.parse_spec.proofs.Binds.{after-after, after_same, after_when, then_assoc, then_bind}
+use Rattle.parse_cursor.proofs.Steps.{seq, onto, onto_then, halt, from-same}
+use Rattle.parse_cursor.proofs.Forms.{reformed}
+use Rattle.parse_spec.proofs.Binds.{after-after, after_when, then_assoc, then_bind}
 use Rattle.parse_cursor.proofs.Counts.{falls}
 use Rattle.parse_spec.proofs.TokenCounts.{lex_at_some}
-use Rattle.parse_rows.proofs.Folds.{folded_more}
 use Rattle.parse_cursor.proofs.Branches.{item_takes}
 use Rattle.parse_spec.proofs.Many.{Keeps, Takes, takes_keeps, pure_keeps, bind_keeps, bind_takes, then_keeps, then_takes, keyword_takes, opened_takes, closed_keeps, number_takes, numbers_keeps, string_takes, one_of_takes, many_keeps}
 use Rattle.parse_spec.proofs.FieldKeeps.{AllKeep, fields_keeps}
@@ -73,47 +76,34 @@ bone_takes = bind_takes (then_takes (opened_takes "bone") (fields_keeps bone_kin
 
 -- ---- one step
 
--- a value put into another form
-module _ {A B C : Type 0} (u : Reader A) (f : A → B) (g : A → C) (h : B → C) (e : (a : A) → h (f a) ≡ g a) where
-  reshape : (ms : List Lexeme) → (u >>= (λ a. pure (f a)) >>= λ x. pure (h x)) ms ≡ (u >>= λ a. pure (g a)) ms
-  unfolding ◌>>=◌ pure after
-  reshape ms = after-after (u ms) (λ a. pure (f a)) (λ x. pure (h x)) ∙ after_same (u ms) _ _ (λ a l. ap (λ (x : C). got x l) (e a))
-
-  reshaped : (text : List ℕ) (c r : Cursor) (b : B) → reads text r b ≡ from text c (u >>= λ a. pure (f a)) → reads text r (h b) ≡ from text c (u >>= λ a. pure (g a))
-  unfolding reads
-  reshaped text c r b p = join text c r r b (h b) (u >>= λ a. pure (f a)) (λ x. pure (h x)) p refl ∙ from-same text c _ _ reshape
+not-not : (b : Bool) → not (not b) ≡ b
+not-not true = refl
+not-not false = refl
 
 claimed_faulty : (n : ℕ) (b : ℤ) (owners zs : List ℤ) → claimed n b (false, owners) zs ≡ (false, owners)
 unfolding claimed claimed_one
 claimed_faulty n b owners [] = refl
 claimed_faulty n b owners (z ∷ zs) = claimed_faulty n b owners zs
 
-fault-at : (row : ℕ) (v : Bool) → fault_of (not v) row ≡ fault_at row v
+fault-at : (row : ℕ) (v : Bool) → fault_of (then_some (not v) row) ≡ fault_at row v
 unfolding fault_of fault_at
 fault-at row true = refl
 fault-at row false = refl
 
-module _ (text : List ℕ) (c r : Cursor) (points row to : ℕ) (table table' owners owners' : List ℤ) (m : min to (length table) ≡ min (row * 14) (length table)) where
-  -- where an earlier bone is at fault
-  pub step_faulty : (place : ℕ) (v : Bool) → reads text r (table', (v, owners')) ≡ from text c (bone_into points (pos row) to table (false, owners)) → reads text r (row + 1, table', (fault_of true place, owners')) ≡ from text c (stepped (bone_step points) bone_tail (row, table, (fault_of true place, owners)))
-  unfolding bone_into stepped bone_step fault_of claimed_bone
-  step_faulty place v p = reshaped bone_tail _ _ (λ (y : List ℤ × (Bool × List ℤ)). (row + 1, y.0, (fault 11 place, y.1.1))) (λ b. rw (claimed_faulty points (pos row) owners b.vertices, overlay_at-same to (row * 14) (bone_row b (pos 0)) table m)) text c r (table', (v, owners')) p
-
-  pub step_clear : (place : ℕ) (v : Bool) → reads text r (table', (v, owners')) ≡ from text c (bone_into points (pos row) to table (true, owners)) → reads text r (row + 1, table', (fault_of (not v) row, owners')) ≡ from text c (stepped (bone_step points) bone_tail (row, table, (fault_of false place, owners)))
+module _ (text : List ℕ) (c : Cursor) (points row to : ℕ) (table table' owners owners' : List ℤ) (m : min to (length table) ≡ min (row * 14) (length table)) (k : Result (Bool × ℕ) Refusal) where
+  step : (f : Perhaps ℕ) → parsed {A = List ℤ × (Bool × List ℤ)} text k (λ v. (table', (v, owners'))) ≡ from text c (bone_into points (pos row) to table (not (is_some f), owners)) → parsed {A = ℕ × List ℤ × (Fault × List ℤ)} text k (λ v. (row + 1, table', (fault_of (option_or f (then_some (not v) row)), owners'))) ≡ from text c (stepped (bone_step points) bone_tail (row, table, (fault_of f, owners)))
   unfolding bone_into stepped bone_step fault_of claimed_bone after_bone
-  step_clear place v p = reshaped bone_tail _ _ (λ (y : List ℤ × (Bool × List ℤ)). (row + 1, y.0, (fault_of (not y.1.0) row, y.1.1))) (λ b. rw (fault-at row (claimed points (pos row) (true, owners) b.vertices).0, overlay_at-same to (row * 14) (bone_row b (pos 0)) table m)) text c r (table', (v, owners')) p
+  -- an earlier bone is at fault
+  step (Some place) p = reformed bone_tail _ (λ (y : List ℤ × (Bool × List ℤ)). (row + 1, y.0, (fault 11 place, y.1.1))) _ (λ b. rw (claimed_faulty points (pos row) owners b.vertices, overlay_at-same to (row * 14) (bone_row b (pos 0)) table m)) text c k (λ (v : Bool). (table', (v, owners'))) p
+  step None p = reformed bone_tail _ (λ (y : List ℤ × (Bool × List ℤ)). (row + 1, y.0, (fault_of (then_some (not y.1.0) row), y.1.1))) _ (λ b. rw (fault-at row (claimed points (pos row) (true, owners) b.vertices).0, overlay_at-same to (row * 14) (bone_row b (pos 0)) table m)) text c k (λ (v : Bool). (table', (v, owners'))) p
 
--- the same by the code's flag and number
-module _ (text : List ℕ) (c r : Cursor) (points row to : ℕ) (table table' owners owners' : List ℤ) (faulty : Bool) (place : ℕ) (v : Bool) (m : min to (length table) ≡ min (row * 14) (length table)) (h : row < 2 ^ 63) (p : reads text r (table', (v, owners')) ≡ from text c (bone_into points (to_z w64 row) to table (not faulty, owners))) where
-  pub next_faulty : faulty ≡ true → reads text r (row + 1, table', (fault_of faulty place, owners')) ≡ from text c (stepped (bone_step points) bone_tail (row, table, (fault_of faulty place, owners)))
-  next_faulty e = rw e (step_faulty text c r points row to table table' owners owners' m place v (rw (e, bits_pos row h) at p))
-
-  pub next_clear : faulty ≡ false → reads text r (row + 1, table', (fault_of (not v) row, owners')) ≡ from text c (stepped (bone_step points) bone_tail (row, table, (fault_of faulty place, owners)))
-  next_clear e = rw e (step_clear text c r points row to table table' owners owners' m place v (rw (e, bits_pos row h) at p))
+  -- the same by the row's bits, and by what the code finds of the faults before
+  pub bone-stepped : (f : Perhaps ℕ) (n : Bool) → row < 2 ^ 63 → is_some f ≡ not n → parsed {A = List ℤ × (Bool × List ℤ)} text k (λ v. (table', (v, owners'))) ≡ from text c (bone_into points (to_z w64 row) to table (n, owners)) → parsed {A = ℕ × List ℤ × (Fault × List ℤ)} text k (λ v. (row + 1, table', (fault_of (option_or f (then_some (not v) row)), owners'))) ≡ from text c (stepped (bone_step points) bone_tail (row, table, (fault_of f, owners)))
+  bone-stepped f n h e p = step f (rw (e, not-not n) (rw (bits_pos row h) at p))
 
 -- a bracket that opens an item stands before the last token
-pub item_falls : (text : List ℕ) (d e : Cursor) (v : Bool) → reads text e v ≡ from text d item_of → e.refusal ≡ 0 → 1 < length (lex_at text d.at)
-item_falls text d e v p o = let s = lex_at_some text e.at in let h = falls text d e item_of v item_takes p o in omega arith
+pub item_falls : (text : List ℕ) (d e : ℕ) (v : Bool) → reads text (Ok e) v ≡ from text (Ok d) item_of → 1 < length (lex_at text d)
+item_falls text d e v p = let s = lex_at_some text e in let h = falls text d e item_of v item_takes p in omega arith
 
 -- ---- all of them
 
@@ -142,17 +132,21 @@ module _ (points : ℕ) where
       ∙ after_when (bone ms) _ _ (λ a l e. after_when (many bone l) _ _ (λ bs k q. ap (λ (v : ℕ × List ℤ × (Fault × List ℤ)). got v k) (fold-all table owners (a ∷ bs) (free bone-whole ms a l e, free (many-gives bone-whole) l bs k q))) ∙ sym (after-after (many bone l) _ _))
       ∙ sym (after-after (bone ms) _ _)
 
--- a list refused where a bone should begin
-pub folded-refused : {S : Type 0} (step : S → Bone → S) (text : List ℕ) (c d : Cursor) (v : Bool) → reads text d v ≡ from text c item_of → (s any : S) → v ≡ false → (d.refusal ≡ 0 → ⊥) → from text c (folded step bone s) ≡ reads text d any
-folded-refused step text c d v p s any e o = folded_more step bone bone_tail bone_takes bone_keeps bone_opens text c d v p s d any (passed text d any _ o) e ∙ sym (passed text d any _ o)
-
 -- the first bone, and those after it
-pub bones-from : (points : ℕ) (text : List ℕ) (c d e r : Cursor) (table owners : List ℤ) (s t : ℕ × List ℤ × (Fault × List ℤ)) → reads text d tt ≡ from text c open_bracket → reads text e s ≡ from text d (stepped (bone_step points) bone_tail (0, table, (fault_of false 0, owners))) → reads text r t ≡ from text e (folded (bone_step points) bone s) → reads text r t ≡ from text c (bones_into points table owners)
-unfolding fault_of
-bones-from points text c d e r table owners s t p q u =
-    join text c e r s t (stepped (bone_step points) bone (0, table, (clear, owners))) (λ x. folded (bone_step points) bone x)
-    (seq text c d e tt s open_bracket (stepped (bone_step points) bone_tail (0, table, (clear, owners))) p q ∙ from-same text c _ _ first) u
-    ∙ from-same text c _ _ (bones-all points table owners)
-  where
-    first : (ms : List Lexeme) → (open_bracket >> stepped (bone_step points) bone_tail (0, table, (clear, owners))) ms ≡ stepped (bone_step points) bone (0, table, (clear, owners)) ms
-    first ms = unfold stepped in (sym (then_bind open_bracket bone_tail (λ b. pure (bone_step points (0, table, (clear, owners)) b)) ms) ∙ unfold ◌>>=◌ in ap (λ (g : Got Bone). after g (λ b. pure (bone_step points (0, table, (clear, owners)) b))) (sym (bone_opens ms)))
+module _ (points : ℕ) (text : List ℕ) (c d : Cursor) (table owners : List ℤ) (p : reads text d tt ≡ from text c open_bracket) where
+  first : (ms : List Lexeme) → (open_bracket >> stepped (bone_step points) bone_tail (0, table, (clear, owners))) ms ≡ stepped (bone_step points) bone (0, table, (clear, owners)) ms
+  unfolding stepped ◌>>=◌
+  first ms = sym (then_bind open_bracket bone_tail (λ b. pure (bone_step points (0, table, (clear, owners)) b)) ms) ∙ ap (λ (g : Got Bone). after g (λ b. pure (bone_step points (0, table, (clear, owners)) b))) (sym (bone_opens ms))
+
+  pub bones_stopped : {k n : ℕ} → from text d (stepped (bone_step points) bone_tail (0, table, (fault_of None, owners))) ≡ refused k n → from text c (bones_into points table owners) ≡ refused k n
+  unfolding fault_of
+  bones_stopped h =
+      sym (from-same text c _ _ (bones-all points table owners))
+      ∙ halt text c (stepped (bone_step points) bone (0, table, (clear, owners))) (sym (from-same text c _ _ first) ∙ onto_then text c d tt open_bracket _ p ∙ h) (λ x. folded (bone_step points) bone x)
+
+  pub bones-from : (e : Cursor) (s : ℕ × List ℤ × (Fault × List ℤ)) {x : Got (ℕ × List ℤ × (Fault × List ℤ))} → reads text e s ≡ from text d (stepped (bone_step points) bone_tail (0, table, (fault_of None, owners))) → x ≡ from text e (folded (bone_step points) bone s) → x ≡ from text c (bones_into points table owners)
+  unfolding fault_of
+  bones-from e s q u =
+      u
+      ∙ sym (onto text c e s (stepped (bone_step points) bone (0, table, (clear, owners))) (λ x. folded (bone_step points) bone x) (seq text c d tt open_bracket (stepped (bone_step points) bone_tail (0, table, (clear, owners))) p q ∙ from-same text c _ _ first))
+      ∙ from-same text c _ _ (bones-all points table owners)

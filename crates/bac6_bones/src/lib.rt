@@ -1,4 +1,4 @@
-#![tactic(auto)]
+#![tactic(auto, unfolding(parse_cursor::specs::Internal::Cursors::from))]
 // Reads the bones of a figure: their rows, and the claims of their vertex entries.
 mod list;
 

@@ -9,11 +9,11 @@ ghost use Rattle.bac6_layout.specs.Internal.Places.{materials_from, bones_from, 
 ghost use Rattle.bac6_check.specs.Internal.Rows.{rows_fault, PlacedIn, RowsLeft};
 
 use bac6_layout::row_ends;
-use refusal::Checked;
+use refusal::Refusal;
 use table_counts::FigureCounts;
 
 // Rules 11 to 13.
-fn later_fault(n: FigureCounts, claims: Checked, rows: &[i64]) -> Checked
+fn later_fault(n: FigureCounts, claims: Result<(), Refusal>, rows: &[i64]) -> Result<(), Refusal>
     ensures { refusal result ≡ later_fault n (refusal claims) (drop (materials_from n) rows.now) (drop (faces_from n) rows.now) }
 {
     let e = row_ends(n, rows.len());
@@ -23,27 +23,31 @@ fn later_fault(n: FigureCounts, claims: Checked, rows: &[i64]) -> Checked
 }
 
 // Rules 10 to 13, and the bones are given their parents.
-fn placed_fault(n: FigureCounts, claims: Checked, rows: &mut [i64]) -> Checked
+fn placed_fault(
+    n: FigureCounts,
+    claims: Result<(), Refusal>,
+    rows: &mut [i64],
+) -> Result<(), Refusal>
     ensures answer { refusal result ≡ or_else (bones_fault (flags_in n.bones (drop (bones_from n) rows.old))) (later_fault n (refusal claims) (drop (materials_from n) rows.old) (drop (faces_from n) rows.old)) }
     ensures content { PlacedIn n rows.old rows.new }
 {
     let later = later_fault(n, claims, rows);
     let e = row_ends(n, rows.len());
     let b = e.normals;
-    match bac6_bone_rules::place_bones(&mut rows[b..], n.bones) {
-        Checked::Refused { number, place } => Checked::Refused { number, place },
-        Checked::Clear => later,
-    }
+    bac6_bone_rules::place_bones(&mut rows[b..], n.bones)?;
+    later
 }
 
 // The first fault of the rows, where `claims` is what reading the vertex entries found of rule 11.
 // The bones are given their parents, unless rule 8 or 9 refuses.
-pub fn first_fault(n: FigureCounts, claims: Checked, rows: &mut [i64]) -> Checked
+pub fn first_fault(
+    n: FigureCounts,
+    claims: Result<(), Refusal>,
+    rows: &mut [i64],
+) -> Result<(), Refusal>
     ensures answer { refusal result ≡ rows_fault n (refusal claims) rows.old }
     ensures content { RowsLeft n rows.old rows.new }
 {
-    match bac6_rules::counts_fault(n) {
-        Checked::Refused { number, place } => Checked::Refused { number, place },
-        Checked::Clear => placed_fault(n, claims, rows),
-    }
+    bac6_rules::counts_fault(n)?;
+    placed_fault(n, claims, rows)
 }

@@ -9,11 +9,11 @@ use Rattle.text_numerals.specs.Numbers.{INT}
 use Rattle.text_tokens.specs.Tokens.{Lexeme, lexeme, lex_at}
 use Rattle.text_tokens.specs.declared.token.Span.{Span}
 use Rattle.text_tokens.specs.Internal.Answers.{Next, lexeme_of}
-use Rattle.parse_cursor.specs.declared.cursor.Cursor.{Cursor}
-use Rattle.parse_spec.specs.Readers.{Got, got, after, ◌>>=◌, pure, token_of, rest, number, many}
+use Rattle.std.proofs.Common.{Ok}
+use Rattle.parse_spec.specs.Readers.{got, refused, after, ◌>>=◌, pure, token_of, rest, number, many}
 use Rattle.text_kinds.specs.Kinds.{is_closing}
-use Rattle.parse_cursor.specs.Internal.Cursors.{reads, from}
-use Rattle.parse_cursor.proofs.Steps.{from_on, reads_on, next_token, next_rest, live, after-reads}
+use Rattle.parse_cursor.specs.Internal.Cursors.{Cursor, reads, from}
+use Rattle.parse_cursor.proofs.Steps.{next_token, next_rest, live, onto, halt}
 use Rattle.parse_spec.proofs.Binds.{after-after, after_same}
 use Rattle.parse_spec.proofs.Many.{number_takes, many_end, many_more}
 use Rattle.parse_cursor.proofs.Counts.{falls}
@@ -47,22 +47,26 @@ module _ (n : ℕ) (bone : ℤ) (s : Bool × List ℤ) where
   into_more ms e = rw (many_more (number INT) (number_takes INT) ms e) (after-after (number INT ms) _ _ ∙ after_same (number INT ms) _ _ (λ z l. after-after (many (number INT) l) _ _))
 
   module _ (text : List ℕ) (at : ℕ) (t : Span) (x : Next text at t) where
-    pub entries_end : is_closing (lexeme_of text t).token ≡ true → reads text (record { refusal = 0; at = t.end }) s ≡ entries_into n bone s (lex_at text at)
-    unfolding lexeme_of lexeme
+    pub entries_end : is_closing (lexeme_of text t).token ≡ true → reads text (Ok t.end) s ≡ from text (Ok at) (entries_into n bone s)
+    unfolding from lexeme_of lexeme pure
     entries_end e =
-        reads_on text _ s refl
-        ∙ sym (into_end (lex_at text at) (ap is_closing (next_token text at t x) ∙ e)
+        sym (into_end (lex_at text at) (ap is_closing (next_token text at t x) ∙ e)
         ∙ ap (got s) (next_rest text at t x (live is_closing (unfold is_closing in refl) t.kind _ e)))
 
-    pub entries_more : is_closing (lexeme_of text t).token ≡ false → (d : Cursor) (z : ℤ) → reads text d z ≡ from text (record { refusal = 0; at = at }) (number INT) → entries_into n bone s (lex_at text at) ≡ from text d (entries_into n bone (claimed_one n bone s z))
-    entries_more e d z p =
-        into_more (lex_at text at) (ap is_closing (next_token text at t x) ∙ e)
-        ∙ ap (λ (g : Got ℤ). after g (λ y. entries_into n bone (claimed_one n bone s y))) (sym (from_on text (record { refusal = 0; at = at }) (number INT) refl) ∙ sym p)
-        ∙ after-reads text d (λ y. entries_into n bone (claimed_one n bone s y)) z
+    module _ (e : is_closing (lexeme_of text t).token ≡ false) where
+      more : from text (Ok at) (entries_into n bone s) ≡ from text (Ok at) (number INT >>= λ z. entries_into n bone (claimed_one n bone s z))
+      unfolding from ◌>>=◌
+      more = into_more (lex_at text at) (ap is_closing (next_token text at t x) ∙ e)
+
+      pub entries_more : (d : Cursor) (z : ℤ) → reads text d z ≡ from text (Ok at) (number INT) → from text (Ok at) (entries_into n bone s) ≡ from text d (entries_into n bone (claimed_one n bone s z))
+      entries_more d z p = more ∙ onto text (Ok at) d z (number INT) _ p
+
+      pub entries_off : {k p : ℕ} → from text (Ok at) (number INT) ≡ refused k p → from text (Ok at) (entries_into n bone s) ≡ refused k p
+      entries_off p = more ∙ halt text (Ok at) (number INT) p _
 
 -- fewer tokens are left after an entry
-pub entry_falls : (text : List ℕ) (at : ℕ) (d : Cursor) (z : ℤ) → reads text d z ≡ from text (record { refusal = 0; at = at }) (number INT) → d.refusal ≡ 0 → length (lex_at text d.at) < length (lex_at text at)
-entry_falls text at d z p o = falls text (record { refusal = 0; at = at }) d (number INT) z (number_takes INT) p o
+pub entry_falls : (text : List ℕ) (at d : ℕ) (z : ℤ) → reads text (Ok d) z ≡ from text (Ok at) (number INT) → length (lex_at text d) < length (lex_at text at)
+entry_falls text at d z p = falls text at d (number INT) z (number_takes INT) p
 
 -- a bone's number from its bits
 pub entries_bits : (n : ℕ) (bone : ℤ) (s : Bool × List ℤ) (ms : List Lexeme) → SFits w64 bone → entries_into n (to_z w64 (of_z w64 bone)) s ms ≡ entries_into n bone s ms

@@ -1,5 +1,5 @@
-#![tactic(auto)]
+#![tactic(auto, unfolding(parse_cursor::specs::Internal::Cursors::from))]
 // The vertex entries of a bone, claimed as they are read.
 mod entry;
 
-pub use entry::{Claims, entries};
+pub use entry::entries;

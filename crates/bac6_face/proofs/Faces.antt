@@ -1,7 +1,7 @@
 -- A face's row, by its parts, and the readers that make it.
 use mathlib.Core.Path.{◌≡◌, refl, ap, sym, ◌∙◌}
 use mathlib.Core.List.{List, [], ◌∷◌, ◌++◌, append_assoc}
-use Prim.Native.Nat.{ℕ, zero, suc, ◌+◌, ◌-◌, ◌^◌, ◌≤◌, ◌<◌}
+use Prim.Native.Nat.{ℕ, zero, suc, ◌-◌, ◌^◌, ◌≤◌, ◌<◌}
 use native.Mathlib.Omega.{arith}
 use mir.Syntax.{w64}
 use mir.Val.{SFits, to_z, of_z}
@@ -12,14 +12,13 @@ use lib.ListN.{length}
 use Rattle.text_numerals.specs.Numbers.{INT}
 use Rattle.text_bytes.specs.Bytes.{bytes, in_word}
 use Rattle.text_tokens.specs.Tokens.{Lexeme}
-use Rattle.parse_cursor.specs.declared.cursor.Cursor.{Cursor}
-use Rattle.parse_spec.specs.Readers.{Got, Reader, after, ◌>>=◌, ◌>>◌, pure, open_bracket, close_bracket, keyword, word_of, opened, opened_of, closed, number, numbers, one_of, row, row_of}
+use Rattle.parse_spec.specs.Readers.{Got, refused, Reader, after, ◌>>=◌, ◌>>◌, pure, open_bracket, close_bracket, keyword, word_of, opened, opened_of, closed, number, numbers, one_of, row, row_of}
 use Rattle.parse_words.specs.Internal.Words.{words, onto, word_in}
 use Rattle.parse_rows.specs.Internal.Into.{numbers_into, row_into}
-use Rattle.parse_cursor.specs.Internal.Cursors.{reads, from}
+use Rattle.parse_cursor.specs.Internal.Cursors.{Cursor, reads, from}
 use Rattle.table_rows.specs.Internal.Overlay.{overlay, overlay_at}
 use Rattle.parse_spec.proofs.Binds.{after-after, after_same, after_when, then_assoc, then_bind, closed-map}
-use Rattle.parse_cursor.proofs.Steps.{closed_at, join, seq, from-same}
+use Rattle.parse_cursor.proofs.Steps.{closed_at, join, seq, from-same, onto as past, onto_then, halt}
 use Rattle.parse_spec.proofs.Given.{free, closed-gives}
 use Rattle.parse_spec.proofs.Ranges.{numbers_give, row_of-gives}
 use Rattle.parse_words.proofs.Vocabulary.{word_list, one_word}
@@ -58,11 +57,11 @@ row_laid m g n vs ts h k =
     ∙ sym (append_assoc (corners 4 vs) (corners 4 ts) (g ∷ [])))
 
 -- the same from its numbers' bits
-pub blank_bits : (m g : ℤ) (n : ℕ) → SFits w64 m → SFits w64 g → n ≤ 4 → (to_z w64 (of_z w64 m) ∷ to_z w64 n ∷ negsuc 0 ∷ negsuc 0 ∷ negsuc 0 ∷ negsuc 0 ∷ negsuc 0 ∷ negsuc 0 ∷ negsuc 0 ∷ negsuc 0 ∷ to_z w64 (of_z w64 g) ∷ []) ≡ blank m n g
+pub blank_bits : (m g z : ℤ) (n : ℕ) → SFits w64 m → SFits w64 g → z ≡ pos n → n ≤ 4 → (to_z w64 (of_z w64 m) ∷ to_z w64 (of_z w64 z) ∷ negsuc 0 ∷ negsuc 0 ∷ negsuc 0 ∷ negsuc 0 ∷ negsuc 0 ∷ negsuc 0 ∷ negsuc 0 ∷ negsuc 0 ∷ to_z w64 (of_z w64 g) ∷ []) ≡ blank m n g
 unfolding blank corners
-blank_bits m g n a b h =
+blank_bits m g z n a b e h =
     let small : n < 2 ^ 63 = omega arith in
-    rw (to_z-of_z a, to_z-of_z b, bits_pos n small)
+    rw (e, to_z-of_z a, to_z-of_z b, bits_pos n small)
 
 -- ---- corners
 
@@ -83,11 +82,10 @@ module _ (m : ℤ) (k : List ℕ) (n : ℕ) (g : ℤ) (i : ℕ) (table : List �
           ∙ after_when (row_of k 0 INT n l) _ _ (λ ts j e. after-after (close_bracket j) _ _ ∙ ap (λ (z : List ℤ). after (close_bracket j) (λ _. pure (overlay_at i z table))) (row_laid m g n vs ts (omega arith) (omega (arith, (free (row_of-gives k 0 INT n) l ts j e).0))) ∙ sym (after-after (close_bracket j) _ _))
           ∙ sym (after-after (row_of k 0 INT n l) _ _)
 
-  pub corners-joined : (text : List ℕ) (c v d u r : Cursor) (start vs us : List ℤ) → start ≡ blank m n g → reads text v vs ≡ from text c (numbers_into INT n 2 start) → reads text d tt ≡ from text v close_bracket → reads text u us ≡ from text d (row_into k 0 INT n 6 vs) → reads text r tt ≡ from text u close_bracket → reads text r (overlay_at i us table) ≡ from text c (corners_into m k n g i table)
-  unfolding reads
-  corners-joined text c v d u r start vs us b p q o e =
-      join text c d r vs _ (closed (numbers_into INT n 2 (blank m n g))) (λ t. closed (row_into k 0 INT n 6 t) >>= λ w. pure (overlay_at i w table)) (closed_at text c v d vs _ (rw b at p) q)
-      (join text d r r us _ (closed (row_into k 0 INT n 6 vs)) (λ w. pure (overlay_at i w table)) (closed_at text d u r us _ o e) refl)
+  pub corners-joined : (text : List ℕ) (c v d u r : Cursor) (start vs us : List ℤ) (w : ℕ) → start ≡ blank m n g → w ≡ n → reads text v vs ≡ from text c (numbers_into INT w 2 start) → reads text d tt ≡ from text v close_bracket → reads text u us ≡ from text d (row_into k 0 INT w 6 vs) → reads text r tt ≡ from text u close_bracket → reads text r (overlay_at i us table) ≡ from text c (corners_into m k n g i table)
+  corners-joined text c v d u r start vs us w b h p q o e =
+      join text c d vs (closed (numbers_into INT n 2 (blank m n g))) (λ t. closed (row_into k 0 INT n 6 t) >>= λ x. pure (overlay_at i x table)) (closed_at text c v d vs _ (rw (b, h) at p) q)
+      (join text d r us (closed (row_into k 0 INT n 6 vs)) (λ x. pure (overlay_at i x table)) (closed_at text d u r us _ (rw h at o) e) refl)
       ∙ from-same text c _ _ corners_parts
 
 -- ---- a number that is 0, by its bits
@@ -112,12 +110,12 @@ by_other m (pos zero) g i table e = absurd (e refl)
 by_other m (pos (suc k)) g i table e = refl
 by_other m (negsuc k) g i table e = refl
 
-module _ (m z g : ℤ) (i : ℕ) (table : List ℤ) (a : SFits w64 m) (b : SFits w64 g) (text : List ℕ) (w r : Cursor) (t : List ℤ) where
-  pub by_first : z ≡ pos 0 → reads text r t ≡ from text w (corners_into (to_z w64 (of_z w64 m)) (bytes "i3") 3 (to_z w64 (of_z w64 g)) i table) → reads text r t ≡ from text w (corners_by m z g i table)
+module _ (m z g : ℤ) (i : ℕ) (table : List ℤ) (a : SFits w64 m) (b : SFits w64 g) (text : List ℕ) (w : Cursor) {x : Got (List ℤ)} where
+  pub by_first : z ≡ pos 0 → x ≡ from text w (corners_into (to_z w64 (of_z w64 m)) (bytes "i3") 3 (to_z w64 (of_z w64 g)) i table) → x ≡ from text w (corners_by m z g i table)
   unfolding corners_by
   by_first e p = rw e (rw (to_z-of_z a, to_z-of_z b) at p)
 
-  pub by_second : (z ≡ pos 0 → ⊥) → reads text r t ≡ from text w (corners_into (to_z w64 (of_z w64 m)) (bytes "i4") 4 (to_z w64 (of_z w64 g)) i table) → reads text r t ≡ from text w (corners_by m z g i table)
+  pub by_second : (z ≡ pos 0 → ⊥) → x ≡ from text w (corners_into (to_z w64 (of_z w64 m)) (bytes "i4") 4 (to_z w64 (of_z w64 g)) i table) → x ≡ from text w (corners_by m z g i table)
   by_second e p = rw (by_other m z g i table e) (rw (to_z-of_z a, to_z-of_z b) at p)
 
 module _ (g : ℤ) (i : ℕ) (table : List ℤ) where
@@ -139,11 +137,26 @@ module _ (g : ℤ) (i : ℕ) (table : List ℤ) where
       after_same ((keyword "face" >> number INT) ms) _ _ (λ m l. after-after (open_bracket l) _ _ ∙ after_same (open_bracket l) _ _ (λ _. by_word m) ∙ sym (after-after (after (open_bracket l) _) _ _ ∙ after-after (open_bracket l) _ _))
       ∙ sym (after-after ((keyword "face" >> number INT) ms) _ _)
 
-  pub face-joined : (text : List ℕ) (c k n o w r : Cursor) (m z : ℤ) (t : List ℤ) → reads text k tt ≡ from text c (word_of (bytes "face")) → reads text n m ≡ from text k (number INT) → reads text o tt ≡ from text n open_bracket → reads text w z ≡ from text o (word_in (bytes "i3 i4") 2) → reads text r t ≡ from text w (corners_by m z g i table) → reads text r t ≡ from text c (face_into g i table)
-  face-joined text c k n o w r m z t p q u v e =
-      join text c n r m t (keyword "face" >> number INT) _ (seq text c k n tt m (keyword "face") (number INT) (unfold keyword in p) q)
-      (join text n w r z t (open_bracket >> word_in (bytes "i3 i4") 2) _ (seq text n o w tt z open_bracket (word_in (bytes "i3 i4") 2) u v) e)
-      ∙ from-same text c _ _ face_parts
+  -- the first number is refused, and what comes after it
+  module _ (text : List ℕ) (c k : Cursor) (p : reads text k tt ≡ from text c (word_of (bytes "face"))) where
+    pub face_stopped : {j q : ℕ} → from text k (number INT) ≡ refused j q → from text c (face_into g i table) ≡ refused j q
+    unfolding keyword
+    face_stopped h = sym (from-same text c _ _ face_parts) ∙ halt text c (keyword "face" >> number INT) (onto_then text c k tt (word_of (bytes "face")) (number INT) p ∙ h) _
+
+    module _ (n o : Cursor) (m : ℤ) (q : reads text n m ≡ from text k (number INT)) (u : reads text o tt ≡ from text n open_bracket) where
+      face_on : from text c (face_into g i table) ≡ from text o (word_in (bytes "i3 i4") 2 >>= λ z. corners_by m z g i table)
+      unfolding keyword
+      face_on =
+          sym (from-same text c _ _ face_parts)
+          ∙ past text c n m (keyword "face" >> number INT) (λ v. open_bracket >> word_in (bytes "i3 i4") 2 >>= λ z. corners_by v z g i table) (seq text c k tt (word_of (bytes "face")) (number INT) p q)
+          ∙ from-same text n _ _ (then_bind open_bracket (word_in (bytes "i3 i4") 2) (λ z. corners_by m z g i table))
+          ∙ onto_then text n o tt open_bracket (word_in (bytes "i3 i4") 2 >>= λ z. corners_by m z g i table) u
+
+      pub face_balked : {j p : ℕ} → from text o (word_in (bytes "i3 i4") 2) ≡ refused j p → from text c (face_into g i table) ≡ refused j p
+      face_balked h = face_on ∙ halt text o (word_in (bytes "i3 i4") 2) h _
+
+      pub face-joined : (w : Cursor) (z : ℤ) {x : Got (List ℤ)} → reads text w z ≡ from text o (word_in (bytes "i3 i4") 2) → x ≡ from text w (corners_by m z g i table) → x ≡ from text c (face_into g i table)
+      face-joined w z v e = join text o w z (word_in (bytes "i3 i4") 2) (λ y. corners_by m y g i table) v e ∙ sym face_on
 
 pub face_opens : (ms : List Lexeme) → face ms ≡ (open_bracket >> face_tail) ms
 unfolding face face_tail opened opened_of keyword after ◌>>=◌ ◌>>◌

@@ -22,9 +22,9 @@ fn corners(
 {
     let mut row = [-1i64; 11];
     row[0] = material;
-    row[1] = size as i64;
+    row[1] = i64::from(size);
     row[10] = group;
-    let width = size as usize;
+    let width = usize::from(size);
     let vertices = parse_rows::numbers(text, c, Form::Int, width, &mut row, 2);
     let d = parse_cursor::closing(text, vertices);
     let uvs = parse_rows::row(text, d, word, 0, Form::Int, width, &mut row, 6);
@@ -37,13 +37,12 @@ fn corners(
 pub fn face_tail(text: &[u8], c: Cursor, group: i64, out: &mut [i64], to: usize) -> Cursor
     ensures { reads text.now result out.new ≡ from text.now c (face_into group to out.old) }
 {
-    let m = parse_numbers::number(text, parse_cursor::keyword(text, c, b"face"), Form::Int);
-    let material = m.value;
-    let d = m.cursor;
-    let k = parse_words::one_of(text, parse_cursor::opening(text, d), b"i3 i4", 2);
-    let e = k.cursor;
-    if k.value == 0 {
-        return corners(text, e, material, b"i3", 3, group, out, to);
+    let d = parse_cursor::keyword(text, c, b"face");
+    let (material, at) = parse_numbers::number(text, d, Form::Int)?;
+    let e = parse_cursor::opening(text, Ok(at));
+    let (k, inside) = parse_words::one_of(text, e, b"i3 i4", 2)?;
+    if k == 0 {
+        return corners(text, Ok(inside), material, b"i3", 3, group, out, to);
     }
-    corners(text, e, material, b"i4", 4, group, out, to)
+    corners(text, Ok(inside), material, b"i4", 4, group, out, to)
 }

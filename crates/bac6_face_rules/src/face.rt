@@ -1,15 +1,12 @@
 // Rule 13: a face's material, vertices and texture coordinates.
-ghost use Rattle.std.specs.Prelude.{◌≡◌, ◌&&◌, ◌≤◌, length};
+ghost use Rattle.std.specs.Prelude.{◌≡◌, ◌≤◌, length};
 ghost use Rattle.refusal.specs.Internal.Answers.{refusal};
 ghost use Rattle.refusal.specs.FirstBad.{first_bad};
-ghost use Rattle.table_references.specs.References.{is_row, is_none};
 ghost use Rattle.table_columns.specs.Parts.{rows_of};
 ghost use Rattle.bac6_face_rules.specs.Internal.Rows.{face_row_fine, corners_known};
 
-use refusal::Checked;
-use table_columns::{
-    FACE_CORNERS, FACE_MATERIAL, FACE_SIZE, UvRow, VertexRow, face_uv, face_vertex,
-};
+use refusal::Refusal;
+use table_columns::{FACE_CORNERS, FACE_MATERIAL, FACE_SIZE, face_uv, face_vertex};
 use table_counts::FACE_WIDTH;
 use table_references::{is_none, is_row};
 
@@ -20,39 +17,27 @@ pub fn face_fault(
     materials: usize,
     points: usize,
     uvs: usize,
-) -> Checked
+) -> Result<(), Refusal>
     ensures { refusal result ≡ first_bad 13 (face_row_fine materials points uvs) 0 (rows_of 11 count table.now) }
 {
-    let mut base = 0;
-    let mut row = 0;
-    while row < count {
-        if table.len() - base < FACE_WIDTH {
-            return Checked::Clear;
-        }
-        let next = base + FACE_WIDTH;
-        if !is_fine(&table[base..next], materials, points, uvs) {
-            return Checked::Refused {
+    for row in 0..count.min(table.len() / FACE_WIDTH) {
+        let base = row * FACE_WIDTH;
+        if !is_fine(&table[base..base + FACE_WIDTH], materials, points, uvs) {
+            return Err(Refusal {
                 number: 13,
                 place: row,
-            };
+            });
         }
-        base = next;
-        row += 1;
     }
-    Checked::Clear
+    Ok(())
 }
 
 fn is_fine(f: &[i64], materials: usize, points: usize, uvs: usize) -> bool
     requires { length f.now ≡ 11 }
     ensures { result ≡ face_row_fine materials points uvs f.now }
 {
-    if !is_row(materials, f[FACE_MATERIAL]) {
-        return false;
-    }
-    if f[FACE_SIZE] == 4 {
-        return are_corners(f, FACE_CORNERS, points, uvs);
-    }
-    are_corners(f, 3, points, uvs)
+    let used = if f[FACE_SIZE] == 4 { FACE_CORNERS } else { 3 };
+    is_row(materials, f[FACE_MATERIAL]) && are_corners(f, used, points, uvs)
 }
 
 // So many corners, each with a vertex: all with a texture coordinate, or none.
@@ -62,42 +47,14 @@ fn are_corners(f: &[i64], used: usize, points: usize, uvs: usize) -> bool
 {
     let mut rows = true;
     let mut none = true;
-    let mut k = 0;
-    while k < used {
-        if !is_vertex(face_vertex(f, k), points) {
+    for k in 0..used {
+        let v = face_vertex(f, k).0;
+        if !is_row(points, v) {
             return false;
         }
-        let u = face_uv(f, k);
-        rows = still_uvs(rows, u, uvs);
-        none = still_none(none, u);
-        k += 1;
+        let u = face_uv(f, k).0;
+        rows = rows && is_row(uvs, u);
+        none = none && is_none(u);
     }
-    if none {
-        return true;
-    }
-    rows
-}
-
-fn is_vertex(v: VertexRow, points: usize) -> bool
-    ensures { result ≡ is_row points v.0 }
-{
-    is_row(points, v.0)
-}
-
-fn still_uvs(rows: bool, u: UvRow, uvs: usize) -> bool
-    ensures { result ≡ (rows && is_row uvs u.0) }
-{
-    if !rows {
-        return false;
-    }
-    is_row(uvs, u.0)
-}
-
-fn still_none(none: bool, u: UvRow) -> bool
-    ensures { result ≡ (none && is_none u.0) }
-{
-    if !none {
-        return false;
-    }
-    is_none(u.0)
+    none || rows
 }

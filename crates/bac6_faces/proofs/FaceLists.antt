@@ -1,17 +1,16 @@
 -- Faces one after the other, each a row more in the table.
-use mathlib.Core.Path.{◌≡◌, refl, ap, ◌∙◌}
+use mathlib.Core.Path.{◌≡◌, refl, ap, sym, ◌∙◌}
 use mathlib.Core.List.{List, [], ◌∷◌}
 use Prim.Native.Nat.{ℕ, zero, suc, ◌+◌, ◌*◌, min}
 use lib.IntN.{ℤ}
 use lib.ListN.{length}
 use Rattle.text_numerals.specs.Numbers.{INT}
 use Rattle.text_tokens.specs.Tokens.{Lexeme}
-use Rattle.parse_cursor.specs.declared.cursor.Cursor.{Cursor}
-use Rattle.parse_spec.specs.Readers.{got, after, ◌>>=◌, ◌>>◌, pure, open_bracket, one_of}
-use Rattle.parse_cursor.specs.Internal.Cursors.{reads, from}
+use Rattle.parse_spec.specs.Readers.{got, refused, after, ◌>>=◌, ◌>>◌, pure, open_bracket, one_of}
+use Rattle.parse_cursor.specs.Internal.Cursors.{Cursor, reads, from}
 use Rattle.table_rows.specs.Internal.Overlay.{overlay_at}
 use Rattle.parse_rows.specs.Internal.Folds.{stepped, row_step}
-use Rattle.parse_cursor.proofs.Steps.{join, from-same}
+use Rattle.parse_cursor.proofs.Steps.{join, halt, from-same}
 use Rattle.parse_spec.proofs.Binds.{after-after, after_same}
 use Rattle.table_rows.proofs.Tables.{overlay_at-same}
 use Rattle.parse_spec.proofs.Many.{Keeps, Takes, takes_keeps, pure_keeps, bind_keeps, bind_takes, then_keeps, then_takes, keyword_takes, opened_takes, open_takes, close_takes, closed_keeps, number_takes, numbers_keeps, one_of_takes, row_takes}
@@ -48,5 +47,7 @@ module _ (g : ℤ) (n i : ℕ) (t : List ℤ) (h : min i (length t) ≡ min (n *
       ∙ after_same (face_tail ms) _ _ (λ f l. ap (λ (y : List ℤ). got (n + 1, y) l) (overlay_at-same i (n * 11) (face_row g f) t h))
 
   pub face-stepped : (text : List ℕ) (d e : Cursor) (t' : List ℤ) → reads text e t' ≡ from text d (face_into g i t) → reads text e (n + 1, t') ≡ from text d (stepped (face_step g) face_tail (n, t))
-  unfolding reads
-  face-stepped text d e t' q = join text d e e t' (n + 1, t') (face_into g i t) (λ (y : List ℤ). pure (n + 1, y)) q refl ∙ from-same text d _ _ face-same
+  face-stepped text d e t' q = join text d e t' (face_into g i t) (λ (y : List ℤ). pure (n + 1, y)) q refl ∙ from-same text d _ _ face-same
+
+  pub face_stopped : (text : List ℕ) (d : Cursor) {k p : ℕ} → from text d (face_into g i t) ≡ refused k p → from text d (stepped (face_step g) face_tail (n, t)) ≡ refused k p
+  face_stopped text d h = sym (from-same text d _ _ face-same) ∙ halt text d (face_into g i t) h (λ (y : List ℤ). pure (n + 1, y))

@@ -6,14 +6,17 @@ use Prim.Native.Nat.{ℕ}
 use lib.IntN.{ℤ, negsuc}
 use Rattle.text_bytes.specs.Bytes.{bytes}
 use Rattle.text_tokens.specs.Tokens.{Lexeme}
-use Rattle.parse_cursor.specs.declared.cursor.Cursor.{Cursor}
-use Rattle.parse_spec.specs.Readers.{Got, got, Reader, after, ◌>>=◌, ◌>>◌, pure, opened_of, opened, trailing, many}
+use Rattle.std.proofs.Common.{Result}
+use Rattle.refusal.specs.declared.checked.Refusal.{Refusal}
+use Rattle.bac6_faces.specs.declared.group.Polygons.{Polygons}
+use Rattle.parse_spec.specs.Readers.{Got, got, refused, Reader, after, ◌>>=◌, ◌>>◌, pure, opened_of, opened, trailing, many}
 use Rattle.parse_spec.specs.Internal.Branches.{last_of}
-use Rattle.parse_cursor.specs.Internal.Cursors.{reads, from}
+use Rattle.parse_cursor.specs.Internal.Cursors.{Cursor, reads, from, parsed}
 use Rattle.parse_rows.specs.Internal.Folds.{fold, folded}
-use Rattle.parse_cursor.proofs.Steps.{join, seq, from-same}
+use Rattle.parse_cursor.proofs.Forms.{parsed-map}
+use Rattle.parse_cursor.proofs.Steps.{join, seq, onto_then, halt, halt_then, from-bind, after-reads, from-same}
 use Rattle.parse_spec.proofs.Binds.{after-after, after_same, then_bind}
-use Rattle.parse_cursor.proofs.Branches.{trailing_yes, trailing_no, trailing-map}
+use Rattle.parse_cursor.proofs.Branches.{trailing_yes, trailing_no, trailing_off, trailing-map}
 use Rattle.bac6_text.specs.Figure.{Face, Figure}
 use Rattle.bac6_text.specs.Grammar.{face, group}
 use Rattle.bac6_text.specs.Layout.{face_rows}
@@ -43,22 +46,47 @@ module _ (faces names : List ℤ) where
       ∙ after-after ((opened "Polygons" >> many face) ms) _ _
       ∙ after_same ((opened "Polygons" >> many face) ms) _ _ groups_parts
 
-  module _ (text : List ℕ) (c o d : Cursor) (s : ℕ × List ℤ) (p : reads text o tt ≡ from text c (opened_of (bytes "Polygons"))) (q : reads text d s ≡ from text o (folded (face_step (negsuc 0)) face (0, faces))) where
-    polygons-joined : (r : Cursor) (x : State) → reads text r x ≡ from text d (groups_after ((0, names), s)) → reads text r (arrange x) ≡ from text c (polygons_into faces names)
-    unfolding reads opened
-    polygons-joined r x e =
-        join text c r r x (arrange x) (opened "Polygons" >> folded (face_step (negsuc 0)) face (0, faces) >>= λ u. groups_after ((0, names), u)) (λ y. pure (arrange y))
-        (join text c d r s x (opened "Polygons" >> folded (face_step (negsuc 0)) face (0, faces)) (λ u. groups_after ((0, names), u)) (seq text c o d tt s (opened "Polygons") (folded (face_step (negsuc 0)) face (0, faces)) p q) e) refl
-        ∙ from-same text c _ _ polygons_parts
+  abbrev polygons_shaped : Reader State
+  polygons_shaped = opened "Polygons" >> folded (face_step (negsuc 0)) face (0, faces) >>= λ u. groups_after ((0, names), u)
 
-    module _ (e : Cursor) (v : Bool) (u : reads text e v ≡ from text d (last_of (bytes "DynamicPolygons"))) where
-      pub polygons-groups : v ≡ true → (r : Cursor) (i n : ℕ) (ns t : List ℤ) → reads text r ((i, ns), (n, t)) ≡ from text e (folded group_step group ((0, names), s)) → reads text r (n, t, i, ns) ≡ from text c (polygons_into faces names)
-      unfolding groups_after arrange
-      polygons-groups h r i n ns t g = polygons-joined r ((i, ns), (n, t)) (trailing_yes "DynamicPolygons" ((0, names), s) (folded group_step group ((0, names), s)) text d e v u h r ((i, ns), (n, t)) g)
+  module _ (text : List ℕ) (c : Cursor) where
+    polygons-by : from text c (polygons_into faces names) ≡ after (from text c polygons_shaped) (λ x. pure (arrange x))
+    polygons-by = sym (from-same text c _ _ polygons_parts) ∙ from-bind text (λ x. pure (arrange x)) c polygons_shaped
 
-      pub polygons_alone : v ≡ false → reads text e (s.0, s.1, 0, names) ≡ from text c (polygons_into faces names)
-      unfolding groups_after arrange
-      polygons_alone h = polygons-joined e ((0, names), s) (trailing_no "DynamicPolygons" ((0, names), s) (folded group_step group ((0, names), s)) text d e v u h)
+    shaped_stopped : {k p : ℕ} → from text c polygons_shaped ≡ refused k p → from text c (polygons_into faces names) ≡ refused k p
+    unfolding after
+    shaped_stopped h = rw h at polygons-by
+
+    pub polygons_unopened : {k p : ℕ} → from text c (opened_of (bytes "Polygons")) ≡ refused k p → from text c (polygons_into faces names) ≡ refused k p
+    unfolding opened
+    polygons_unopened h = shaped_stopped (halt text c (opened "Polygons" >> folded (face_step (negsuc 0)) face (0, faces)) (halt_then text c (opened "Polygons") h _) _)
+
+    module _ (o : Cursor) (p : reads text o tt ≡ from text c (opened_of (bytes "Polygons"))) where
+      pub polygons_stopped : {k q : ℕ} → from text o (folded (face_step (negsuc 0)) face (0, faces)) ≡ refused k q → from text c (polygons_into faces names) ≡ refused k q
+      unfolding opened
+      polygons_stopped h = shaped_stopped (halt text c (opened "Polygons" >> folded (face_step (negsuc 0)) face (0, faces)) (onto_then text c o tt (opened "Polygons") _ p ∙ h) _)
+
+      module _ (d : Cursor) (s : ℕ × List ℤ) (q : reads text d s ≡ from text o (folded (face_step (negsuc 0)) face (0, faces))) where
+        shaped-on : {x : Got State} → x ≡ from text d (groups_after ((0, names), s)) → after x (λ y. pure (arrange y)) ≡ from text c (polygons_into faces names)
+        unfolding opened
+        shaped-on e =
+            ap (λ (g : Got State). after g (λ y. pure (arrange y))) (join text c d s (opened "Polygons" >> folded (face_step (negsuc 0)) face (0, faces)) (λ u. groups_after ((0, names), u)) (seq text c o tt (opened "Polygons") (folded (face_step (negsuc 0)) face (0, faces)) p q) e)
+            ∙ sym polygons-by
+
+        pub polygons_balked : {k n : ℕ} → from text d (last_of (bytes "DynamicPolygons")) ≡ refused k n → from text c (polygons_into faces names) ≡ refused k n
+        unfolding groups_after after
+        polygons_balked h = sym (shaped-on (sym (trailing_off "DynamicPolygons" ((0, names), s) (folded group_step group ((0, names), s)) text d h)))
+
+        module _ (e : Cursor) (v : Bool) (u : reads text e v ≡ from text d (last_of (bytes "DynamicPolygons"))) where
+          pub polygons-groups : v ≡ true → (r : Result (Polygons × ℕ) Refusal) (ns t : List ℤ) → parsed {A = State} text r (λ x. ((x.groups, ns), (x.faces, t))) ≡ from text e (folded group_step group ((0, names), s)) → parsed {A = ℕ × List ℤ × ℕ × List ℤ} text r (λ x. (x.faces, t, x.groups, ns)) ≡ from text c (polygons_into faces names)
+          unfolding groups_after arrange
+          polygons-groups h r ns t g =
+              parsed-map text r (λ (x : Polygons). ((x.groups, ns), (x.faces, t))) arrange
+              ∙ shaped-on (trailing_yes "DynamicPolygons" ((0, names), s) (folded group_step group ((0, names), s)) text d e v u h g)
+
+          pub polygons_alone : v ≡ false → reads text e (s.0, s.1, 0, names) ≡ from text c (polygons_into faces names)
+          unfolding groups_after arrange
+          polygons_alone h = sym (after-reads text (λ y. pure (arrange y)) e ((0, names), s)) ∙ shaped-on (trailing_no "DynamicPolygons" ((0, names), s) (folded group_step group ((0, names), s)) text d e v u h)
 
 -- ---- for a figure
 

@@ -17,12 +17,10 @@ fn put_lists(table: &mut [i64], at: usize, rows: &[i64], begin: usize, sizes: &[
 {
     let mut to = at;
     let mut from = begin;
-    let mut k = 0;
-    while k < sizes.len() {
-        let end = from + sizes[k];
+    for size in sizes {
+        let end = from + *size;
         to = put(table, to, &rows[from..end]);
         from = end;
-        k += 1;
     }
     to
 }

@@ -1,36 +1,23 @@
--- A list put is the next of those left, and where its word ends.
-use mathlib.Core.Path.{◌≡◌, refl, ap, sym}
-use mathlib.Core.List.{List, [], ◌∷◌}
-use mathlib.Core.Bool.{Bool, true, false, true≢false}
-use Prim.Native.Nat.{ℕ, zero, suc, ◌+◌, ◌-◌, ◌≤◌, ◌<◌}
-use native.Mathlib.Omega.{arith}
-use borrow.Author.Tests.{leb-true}
-use lib.Dec.{leb}
-use lib.ListN.{get_or}
-use Rattle.report_lists.specs.Lists.{RowList, Listing, listed}
+-- The code's array of lists, gone through: a list that is put is the next of those left.
+use Rattle.std.proofs.Common.{◌≡◌, ◌<◌, ◌≤◌, ◌+◌, ℕ, List, length, drop, get_or, map, refl, add-one}
+use denote.Bor.{Bor}
+use lib.ListN.{drop_of_length-le}
+use lib.Seq.{drop-cons}
+use Rattle.report_lists.specs.Lists.{RowList, row_list, Listing, listed}
 use Rattle.report_lists.proofs.Texts.{all_listed}
-use Rattle.bac6_listing.specs.Internal.Rows.{lists_from, sizes, words_fit}
 
-pub next_row : (f : ℕ → RowList) (i : ℕ) (s u : Listing) → i < 11 → u ≡ listed s (f i) → all_listed u (lists_from f (11 - (i + 1)) (i + 1)) ≡ all_listed s (lists_from f (11 - i) i)
-unfolding all_listed lists_from
-next_row f i s u h e =
-    let k : 11 - i ≡ suc (11 - (i + 1)) = omega arith in
-    rw k (ap (λ (x : Listing). all_listed x (lists_from f (11 - (i + 1)) (i + 1))) e)
+-- a word, how many numbers a row has, and how many rows there are
+abbrev pub Item : Type 0
+Item = Bor (List ℕ) × ℕ × ℕ
 
-pub all-rows : (f : ℕ → RowList) (i : ℕ) (s t : Listing) → 11 ≤ i → all_listed s (lists_from f (11 - i) i) ≡ t → s ≡ t
-unfolding all_listed lists_from
-all-rows f i s t h e = let k : 11 - i ≡ 0 = omega arith in rw k at e
+abbrev pub list_of : Item → RowList
+list_of x = row_list x.0.now x.1 x.2
 
-short-at : (ss : List ℕ) (i : ℕ) → words_fit ss ≡ true → get_or ss i 0 ≤ 8
-unfolding words_fit
-short-at [] i e = omega arith
-short-at (s ∷ ss) i e = go (leb s 8) refl i (λ j. short-at ss j)
-  where
-    go : (v : Bool) → leb s 8 ≡ v → (i : ℕ) → ((j : ℕ) → words_fit ss ≡ true → get_or ss j 0 ≤ 8) → get_or (s ∷ ss) i 0 ≤ 8
-    go true t zero ih = leb-true s 8 t
-    go true t (suc i) ih = ih i (rw (t, words_fit) at e)
-    go false t i ih = absurd (true≢false (sym (rw (t, words_fit) at e)))
+pub next_item : (xs : List Item) (i : ℕ) (d : Item) (s u : Listing) → i < length xs → u ≡ listed s (list_of (get_or xs i d)) → all_listed u (map list_of (drop (i + 1) xs)) ≡ all_listed s (map list_of (drop i xs))
+unfolding all_listed
+next_item xs i d s u h e = rw (e, add-one i, drop-cons xs i d h) refl
 
-pub size-most : (i : ℕ) → get_or sizes i 0 ≤ 8
-unfolding words_fit
-size-most i = short-at sizes i refl
+-- once none is left, all are put
+pub all_put : (xs : List Item) (i : ℕ) (s t : Listing) → length xs ≤ i → all_listed s (map list_of (drop i xs)) ≡ t → s ≡ t
+unfolding all_listed
+all_put xs i s t h e = rw (drop_of_length-le xs h) at e

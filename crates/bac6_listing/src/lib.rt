@@ -9,38 +9,30 @@ use bac6::FigureAnswer;
 use report_lists::{Progress, append_list, first_line};
 use table_counts::FigureCounts;
 
-// Puts the lines of the lists after the first `start` bytes of buf, and answers how many bytes are filled then. The lists go by index, so that one call
-// serves them all: each has a word, which begins at a multiple of 8, its size, how many numbers a row has and how many rows there are.
+// Puts the lines of the lists after the first `start` bytes of buf, and answers how many bytes are filled then. Each list has a word,
+// how many numbers a row has and how many rows there are.
 fn append_lists(n: FigureCounts, table: &[i64], buf: &mut [u8], start: usize) -> usize
     ensures { output result buf.new ≡ appended_each (output start buf.old) (list_lines (figure_lists n) table.now) }
 {
-    let words: &[u8] =
-        b"name    texture colour  materialpoint   normal  bone    owner   uv      face    group   ";
-    let sizes: [usize; 11] = [4, 7, 6, 8, 5, 6, 4, 5, 2, 4, 5];
-    let widths: [usize; 11] = [2, 2, 3, 9, 3, 3, 14, 1, 2, 11, 2];
-    let counts = [
-        1,
-        n.textures,
-        n.colours,
-        n.materials,
-        n.points,
-        n.normals,
-        n.bones,
-        n.points,
-        n.uvs,
-        n.faces,
-        n.groups,
+    let lists: [(&[u8], usize, usize); 11] = [
+        (b"name", 2, 1),
+        (b"texture", 2, n.textures),
+        (b"colour", 3, n.colours),
+        (b"material", 9, n.materials),
+        (b"point", 3, n.points),
+        (b"normal", 3, n.normals),
+        (b"bone", 14, n.bones),
+        (b"owner", 1, n.points),
+        (b"uv", 2, n.uvs),
+        (b"face", 11, n.faces),
+        (b"group", 2, n.groups),
     ];
     let mut p = Progress {
         filled: start,
         at: 0,
     };
-    let mut i = 0;
-    while i < 11 {
-        let from = i * 8;
-        let end = from + sizes[i];
-        p = append_list(buf, p, &words[from..end], widths[i], counts[i], table);
-        i += 1;
+    for (word, width, count) in lists {
+        p = append_list(buf, p, word, width, count, table);
     }
     p.filled
 }

@@ -1,5 +1,5 @@
 -- Rule 11 of one entry, test by test.
-use mathlib.Core.Path.{◌≡◌, refl, ap}
+use mathlib.Core.Path.{◌≡◌, refl, ap, ◌∙◌}
 use mathlib.Core.List.{List}
 use mathlib.Core.Bool.{Bool, true, false, ◌&&◌, false≢true}
 use Prim.Native.Nat.{ℕ, ◌<◌, min}
@@ -26,23 +26,18 @@ unfolding is_row
 row_below n (pos k) e = ltb-true k n e
 row_below n (negsuc k) e = absurd (false≢true e)
 
-ltb-min : (k n m : ℕ) → ltb k (min n m) ≡ (ltb k n && ltb k m)
-ltb-min k n m = go (ltb k n) (ltb k m) refl refl
-  where
-    go : (u v : Bool) → ltb k n ≡ u → ltb k m ≡ v → ltb k (min n m) ≡ (ltb k n && ltb k m)
-    go true true e f = let h = ltb-true k n e in let g = ltb-true k m f in rw (e, f) (lt-ltb k (min n m) (omega arith))
-    go true false e f = let g = ltb-false k m f in rw (e, f) (le-ltb k (min n m) (omega arith))
-    go false v e f = let h = ltb-false k n e in rw e (le-ltb k (min n m) (omega arith))
-
-pub row-min : (n m : ℕ) (z : ℤ) → is_row (min n m) z ≡ (is_row n z && is_row m z)
-unfolding is_row
-row-min n m (pos k) = ltb-min k n m
-row-min n m (negsuc k) = refl
-
 module _ (n : ℕ) (z : ℤ) (owners : List ℤ) where
-  pub free_tests : is_free n z owners ≡ (is_row n z && (is_row (length owners) z && is_none (get_or owners (nat_abs z) (pos 0))))
+  -- what the test of the row says, of the number that was passed
+  pub row_told : {m : ℕ} {r : Bool} → SFits w64 z → m ≡ min n (length owners) → r ≡ is_row m (to_z w64 (of_z w64 z)) → r ≡ is_row (min n (length owners)) z
+  row_told f e told = told ∙ rw (e, to_z-of_z f)
+
+  pub no_row : is_row (min n (length owners)) z ≡ false → is_free n z owners ≡ false
   unfolding is_free
-  free_tests = rw (row-min n (length owners) z) (and3 (is_row n z) (is_row (length owners) z) (is_none (get_or owners (nat_abs z) (pos 0))))
+  no_row e = rw e
+
+  pub row_free : is_row (min n (length owners)) z ≡ true → {b : Bool} → is_none (get_or owners (nat_abs z) (pos 0)) ≡ b → is_free n z owners ≡ b
+  unfolding is_free
+  row_free e f = rw e f
 
   pub claim_free : (bone : ℤ) → is_free n z owners ≡ true → after_claim n bone z owners ≡ set owners (nat_abs z) bone
   unfolding after_claim

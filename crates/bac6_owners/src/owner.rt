@@ -10,20 +10,10 @@ pub fn claim(owners: &mut [i64], points: usize, v: VertexRow, bone: i64) -> bool
     ensures answer { result ≡ is_free points v.0 owners.old }
     ensures content { owners.new ≡ after_claim points bone v.0 owners.old }
 {
-    claim_row(owners, points, v.0, bone)
-}
-
-fn claim_row(owners: &mut [i64], points: usize, z: i64, bone: i64) -> bool
-    ensures answer { result ≡ is_free points z owners.old }
-    ensures content { owners.new ≡ after_claim points bone z owners.old }
-{
-    if !is_row(points, z) {
+    if !is_row(points.min(owners.len()), v.0) {
         return false;
     }
-    if !is_row(owners.len(), z) {
-        return false;
-    }
-    let at = z as usize;
+    let at = v.0 as usize;
     if !is_none(owners[at]) {
         return false;
     }

@@ -12,7 +12,6 @@ use Rattle.refusal.specs.Rules.{or_else, too_many}
 use Rattle.bac6_text.specs.Rules.{faces_of, counts_of, figure_counts, normals_fault, flags_of, bones_fault, whole_list, parents_in, vertices_fault, material_fine, face_fine, figure_fault}
 use Rattle.refusal.specs.FirstBad.{first_bad}
 use Rattle.refusal.proofs.Rules.{or-fault, or_assoc, or-first, or_second}
-use Rattle.table_counts.specs.declared.counts.FigureCounts.{FigureCounts}
 use Rattle.bac6_bone_rules.specs.Internal.Bones.{flags_in, Settled}
 use Rattle.bac6_rules.specs.Internal.Order.{counts_fault, later_fault, tables_fault}
 use Rattle.parse_rows.proofs.Widths.{Wide}

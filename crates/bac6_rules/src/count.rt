@@ -3,17 +3,17 @@ ghost use Rattle.std.specs.Prelude.{◌≡◌};
 ghost use Rattle.refusal.specs.Internal.Answers.{refusal};
 ghost use Rattle.bac6_text.specs.Rules.{normals_fault};
 
-use refusal::Checked;
+use refusal::Refusal;
 
 // Whether there are as many normals as points.
-pub(crate) fn normals_fault(points: usize, normals: usize) -> Checked
+pub(crate) fn normals_fault(points: usize, normals: usize) -> Result<(), Refusal>
     ensures { refusal result ≡ normals_fault points normals }
 {
     if points != normals {
-        return Checked::Refused {
+        return Err(Refusal {
             number: 9,
             place: normals,
-        };
+        });
     }
-    Checked::Clear
+    Ok(())
 }

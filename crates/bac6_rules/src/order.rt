@@ -6,14 +6,14 @@ ghost use Rattle.bac6_rules.specs.Internal.Order.{counts_fault, later_fault};
 use crate::count::normals_fault;
 use bac6_face_rules::face_fault;
 use bac6_material_rules::material_fault;
-use refusal::Checked;
+use refusal::Refusal;
 use table_counts::{
     FigureCounts, MOST_BONES, MOST_COLOURS, MOST_FACES, MOST_GROUPS, MOST_MATERIALS, MOST_NORMALS,
     MOST_POINTS, MOST_TEXTURES, MOST_UVS,
 };
 
 // Rules 8 and 9: the first fault of the row counts.
-pub fn counts_fault(n: FigureCounts) -> Checked
+pub fn counts_fault(n: FigureCounts) -> Result<(), Refusal>
     ensures { refusal result ≡ counts_fault n }
 {
     let counts = [
@@ -38,23 +38,20 @@ pub fn counts_fault(n: FigureCounts) -> Checked
         MOST_FACES,
         MOST_GROUPS,
     ];
-    match refusal::too_many(&counts, &mosts) {
-        Checked::Refused { number, place } => Checked::Refused { number, place },
-        Checked::Clear => normals_fault(n.points, n.normals),
-    }
+    refusal::too_many(&counts, &mosts)?;
+    normals_fault(n.points, n.normals)
 }
 
 // Rules 11 to 13: the first fault, where `claims` is what reading the vertex entries found of rule 11.
-pub fn later_fault(n: FigureCounts, claims: Checked, materials: &[i64], faces: &[i64]) -> Checked
+pub fn later_fault(
+    n: FigureCounts,
+    claims: Result<(), Refusal>,
+    materials: &[i64],
+    faces: &[i64],
+) -> Result<(), Refusal>
     ensures { refusal result ≡ later_fault n (refusal claims) materials.now faces.now }
 {
-    match claims {
-        Checked::Refused { number, place } => Checked::Refused { number, place },
-        Checked::Clear => {
-            match material_fault(materials, n.materials, n.textures, n.colours) {
-                Checked::Refused { number, place } => Checked::Refused { number, place },
-                Checked::Clear => face_fault(faces, n.faces, n.materials, n.points, n.uvs),
-            }
-        }
-    }
+    claims?;
+    material_fault(materials, n.materials, n.textures, n.colours)?;
+    face_fault(faces, n.faces, n.materials, n.points, n.uvs)
 }

@@ -1,4 +1,4 @@
-#![tactic(auto)]
+#![tactic(auto, unfolding(parse_cursor::specs::Internal::Cursors::from))]
 // Lists of rows of a figure, each after the one before it in one table.
 mod rows;
 

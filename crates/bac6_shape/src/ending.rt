@@ -1,10 +1,10 @@
 // The end of a figure's text: its faces and groups, and nothing after them.
 ghost use Rattle.std.specs.Prelude.{◌≡◌, ◌≤◌, length};
-ghost use Rattle.parse_cursor.specs.Internal.Cursors.{reads, from};
+ghost use Rattle.parse_cursor.specs.Internal.Cursors.{from, parsed};
 ghost use Rattle.bac6_shape.specs.Internal.Steps.{end_step};
 
 use bac6_faces::Polygons;
-use parse_cursor::Cursor;
+use parse_cursor::{Cursor, Parsed};
 
 pub(crate) fn read_end(
     text: &[u8],
@@ -12,15 +12,11 @@ pub(crate) fn read_end(
     rows: &mut [i64],
     at: usize,
     names: &mut [i64],
-) -> Polygons
+) -> Parsed<Polygons>
     requires { at ≤ length rows.old }
-    ensures { reads text.now result.cursor (result.faces, rows.new, result.groups, names.new) ≡ from text.now c (end_step (at, rows.old) names.old) }
+    ensures { parsed text.now result (λ q. (q.faces, rows.new, q.groups, names.new)) ≡ from text.now c (end_step (at, rows.old) names.old) }
 {
-    let q = bac6_faces::polygons(text, c, &mut rows[at..], names);
-    let d = q.cursor;
-    Polygons {
-        cursor: parse_text::text_end(text, parse_cursor::closing(text, d)),
-        faces: q.faces,
-        groups: q.groups,
-    }
+    let (polygons, read) = bac6_faces::polygons(text, c, &mut rows[at..], names)?;
+    let past = parse_text::text_end(text, parse_cursor::closing(text, Ok(read)))?;
+    Ok((polygons, past))
 }

@@ -1,4 +1,4 @@
-#![tactic(auto)]
+#![tactic(auto, unfolding(parse_cursor::specs::Internal::Cursors::from))]
 // Reads the shape of a figure's text into a table of rows.
 mod bones;
 mod ending;

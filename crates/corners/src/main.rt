@@ -10,13 +10,10 @@ const STDOUT_FILENO: i32 = 1;
 // 32 faces at a time, for which 25,088 bytes are enough. What is written to a file no contract can say.
 fn tell_faces(table: &[i64], n: FigureCounts) {
     let mut out = [0u8; 25088];
-    let faces = n.faces;
-    let mut face = 0;
-    while face < faces {
-        let end = if 32 < faces - face { face + 32 } else { faces };
+    for face in (0..n.faces).step_by(32) {
+        let end = face + n.faces.saturating_sub(face).min(32);
         let filled = corner_listing::list_corners(&mut out, table, n, face, end);
         io::write_all(STDOUT_FILENO, &out[..filled]);
-        face = end;
     }
 }
 

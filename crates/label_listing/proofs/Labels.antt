@@ -9,17 +9,13 @@ use borrow.Author.Tests.{leb-true}
 use lib.Dec.{leb}
 use lib.IntN.{ℤ, pos, negsuc, nat_abs}
 use lib.ListN.{length}
-use Rattle.text_runs.specs.Runs.{part}
 use Rattle.text_runs.proofs.Parts.{part_length}
 use Rattle.text_numerals.proofs.Numerals.{and_true}
-use Rattle.report_text.specs.Output.{output}
-use Rattle.report_lists.specs.Lists.{appended_each, text_of}
 use Rattle.table_counts.specs.declared.counts.FigureCounts.{FigureCounts}
 use Rattle.table_counts.specs.declared.counts.MovementCounts.{MovementCounts}
 use Rattle.player_spec.specs.Lookups.{only_if}
 use Rattle.player_names.specs.Names.{is_name, name_span, part_at, figure_span, figure_name, movement_span, movement_name, if_true}
 use Rattle.player_label.specs.Labels.{label_of, label_from, label_in, or_empty}
-use Rattle.label_listing.specs.Lines.{label_parts}
 
 long_most : (size : ℕ) (place long : ℤ) → is_name size place long ≡ true → nat_abs long ≤ 255
 unfolding is_name
@@ -54,14 +50,3 @@ only_most false o h = omega arith
 pub label-most : (F : List ℕ) (n : FigureCounts) (T : List ℤ) (M : List ℕ) (m : MovementCounts) (U : List ℤ) (bone : ℕ) → length (or_empty (label_in F n T M m U bone)) ≤ 255
 unfolding label_in figure_name figure_span movement_name movement_span
 label-most F n T M m U bone = only_most _ _ (from-most _ _ (span_most F _ _) (span_most M _ _))
-
--- a label's parts that are put are those of the definition, and short
-pub label-put :
-    (k bone r : ℕ) (buf buf' name wanted : List ℕ) →
-    name ≡ wanted →
-    length wanted ≤ 255 →
-    (output r buf' ≡ appended_each (output k buf) (label_parts bone name)) × (length (text_of (label_parts bone name)) ≤ 28 + length name) →
-    (output r buf' ≡ appended_each (output k buf) (label_parts bone wanted)) × (length (text_of (label_parts bone wanted)) ≤ 283)
-label-put k bone r buf buf' name wanted e h p =
-    let q : (output r buf' ≡ appended_each (output k buf) (label_parts bone wanted)) × (length (text_of (label_parts bone wanted)) ≤ 28 + length wanted) = rw e at p in
-    (q.0, omega (arith, q.1))

@@ -38,12 +38,9 @@ pub fn append_labels<'a>(
     ensures most { length (text_of (labels_in figure.now n table.now movement.now m moves.now)) ≤ n.bones * 283 }
 {
     let mut at = filled;
-    let mut bone = 0;
-    let bones = n.bones;
-    while bone < bones {
+    for bone in 0..n.bones {
         let name = label(figure, table, n, movement, moves, m, bone);
         at = append_label(buf, at, bone, name);
-        bone += 1;
     }
     at
 }

@@ -12,8 +12,7 @@ use lib.Seq.{take-take, length-take-le}
 use Rattle.pair_head.specs.Division.{figure, refused, head_of, divided_at, divided_by, divided}
 use Rattle.pair_head.proofs.Heads.{head-size}
 use Rattle.pair_head.specs.Answers.{length_named}
-use Rattle.pair_head.specs.declared.division.Head.{Head}
-use Rattle.pair_head.specs.declared.division.Head.TheVariants.{Length, Wrong}
+use Rattle.std.proofs.Common.{Option as Optional, Some, None}
 
 module _ (left more n : ℕ) where
   pub held : n ≤ 65536 → n ≤ left → divided_at left more n ≡ figure (9 + n)
@@ -38,14 +37,14 @@ module _ (text : List ℕ) (more : ℕ) where
   too_short h = rw (head-size (take 9 text) (λ e. omega (arith, length-take 9 text)))
 
   -- by what is read of the first nine bytes
-  module _ (h : Head) (e : length_named h ≡ head_of (take 9 text)) where
-    pub by_length : (n : ℕ) → h ≡ Length n → divided text more ≡ divided_at (length text - 9) more n
+  module _ (h : Optional ℕ) (e : length_named h ≡ head_of (take 9 text)) where
+    pub by_length : (n : ℕ) → h ≡ Some n → divided text more ≡ divided_at (length text - 9) more n
     unfolding divided divided_by length_named
     by_length n q = rw (sym e, q)
 
-    pub by_wrong : h ≡ Wrong → divided text more ≡ refused 2
+    pub by_none : h ≡ None → divided text more ≡ refused 2
     unfolding divided divided_by length_named
-    by_wrong q = rw (sym e, q)
+    by_none q = rw (sym e, q)
 
 -- a figure's length that the head gives, where k bytes of an input of size are at hand
 cut_at : (k size n : ℕ) → 65545 ≤ k → k ≤ size → divided_at (k - 9) (size - k) n ≡ divided_at (size - 9) 0 n

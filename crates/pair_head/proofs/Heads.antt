@@ -16,14 +16,13 @@ use Rattle.text_numerals.specs.Numbers.{INT, value, beyond, wrong, number_of, in
 use Rattle.text_numbers.specs.Internal.Answers.{number_named}
 use Rattle.text_runs.specs.Internal.Answers.{test_named}
 use Rattle.text_runs.specs.declared.run.Run.TheVariants.{Digits}
-use Rattle.text_numbers.specs.declared.number.Parsed.{Parsed}
-use Rattle.text_numbers.specs.declared.number.Parsed.TheVariants.{Value, Beyond, Malformed}
+use Rattle.text_numbers.specs.declared.number.NumberError.{NumberError}
+use Rattle.text_numbers.specs.declared.number.NumberError.TheVariants.{Beyond, Malformed}
 use Rattle.text_runs.proofs.Runs.{run_length, run_take}
 use Rattle.text_numerals.proofs.Numerals.{and_true, negative-first, digits-at, digit-range, digits-short, digits-run, unsigned_no, lead_int, int_value, decimal-below}
 use Rattle.pair_head.specs.Division.{is_head, head_of}
 use Rattle.pair_head.specs.Answers.{length_named}
-use Rattle.pair_head.specs.declared.division.Head.{Head}
-use Rattle.pair_head.specs.declared.division.Head.TheVariants.{Length}
+use Rattle.std.proofs.Common.{Option as Optional, Some, Result, Ok, Err}
 
 module _ (bs : List ℕ) where
   pub head-size : (length bs ≡ 9 → ⊥) → head_of bs ≡ none
@@ -43,7 +42,7 @@ module _ (bs : List ℕ) where
   head-is l d h = rw (eq-eqb (length bs) 9 l, d, eq-eqb (get_or bs 8 0) 10 h, head_of)
 
 -- eight digits say less than a hundred million
-pub head-below : (bs : List ℕ) (h : Head) (n : ℕ) → length_named h ≡ head_of bs → h ≡ Length n → n < 100000000
+pub head-below : (bs : List ℕ) (h : Optional ℕ) (n : ℕ) → length_named h ≡ head_of bs → h ≡ Some n → n < 100000000
 unfolding length_named head_of is_head
 head-below bs h n e q = go (is_head bs) refl
   where
@@ -106,23 +105,18 @@ module _ (bs : List ℕ) (l : length bs ≡ 9) (e : ℕ) (r : e ≡ 0 + length (
     no_feed n = head_feed bs l (eight_digits (take 8 bs) first_eight run-whole) n
 
     -- what INT gives of the digits is their value
-    pub head-value : (p : Parsed) (z : ℤ) (m : ℕ) → get_or bs 8 0 ≡ 10 → number_named p ≡ number_of INT (take 8 bs) → p ≡ Value z → m ≡ nat_abs z → head_of bs ≡ some m
+    pub head-value : (p : Result ℤ NumberError) (z : ℤ) (m : ℕ) → get_or bs 8 0 ≡ 10 → number_named p ≡ number_of INT (take 8 bs) → p ≡ Ok z → m ≡ nat_abs z → head_of bs ≡ some m
     unfolding number_named
     head-value p z m f n q a =
         let v : value z ≡ value (pos (decimal (take 8 bs))) = sym (ap number_named q) ∙ n ∙ eight_value (take 8 bs) first_eight run-whole in
         let w : z ≡ pos (decimal (take 8 bs)) = cc in
         head-is bs l (eight_digits (take 8 bs) first_eight run-whole) f ∙ ap some (sym (a ∙ ap nat_abs w))
 
-    pub never_beyond : (p : Parsed) → number_named p ≡ number_of INT (take 8 bs) → p ≡ Beyond → ⊥
+    pub never_refused : (p : Result ℤ NumberError) (e : NumberError) → number_named p ≡ number_of INT (take 8 bs) → p ≡ Err e → ⊥
     unfolding number_named
-    never_beyond p n q =
+    never_refused p Beyond n q =
         let v : beyond ≡ value (pos (decimal (take 8 bs))) = sym (ap number_named q) ∙ n ∙ eight_value (take 8 bs) first_eight run-whole in
-        let w : ◌≡◌ {A = ℕ} 0 1 = cc in
-        omega arith
-
-    pub never_wrong : (p : Parsed) → number_named p ≡ number_of INT (take 8 bs) → p ≡ Malformed → ⊥
-    unfolding number_named
-    never_wrong p n q =
+        cc
+    never_refused p Malformed n q =
         let v : wrong ≡ value (pos (decimal (take 8 bs))) = sym (ap number_named q) ∙ n ∙ eight_value (take 8 bs) first_eight run-whole in
-        let w : ◌≡◌ {A = ℕ} 0 1 = cc in
-        omega arith
+        cc

@@ -1,16 +1,13 @@
 -- What each answer of the code says in the definitions' terms.
 use Rattle.std.proofs.Math.Option.{Option, none, some}
-use Rattle.std.specs.Prelude.{ℕ}
+use Rattle.std.specs.Prelude.{ℕ, Option as Optional, Some, None, Result, Ok, Err}
+use Rattle.refusal.specs.declared.checked.Refusal.{Refusal}
 use Rattle.pair_head.specs.Division.{Divided, figure, refused}
-use Rattle.pair_head.specs.declared.division.Head.{Head}
-use Rattle.pair_head.specs.declared.division.Head.TheVariants.{Length, Wrong}
-use Rattle.pair_head.specs.declared.division.Division.{Division}
-use Rattle.pair_head.specs.declared.division.Division.TheVariants.{Figure, Refused}
 
-unfoldable pub length_named : Head → Option ℕ
-length_named (Length n) = some n
-length_named Wrong = none
+unfoldable pub length_named : Optional ℕ → Option ℕ
+length_named (Some n) = some n
+length_named None = none
 
-unfoldable pub division_named : Division → Divided
-division_named (Figure end) = figure end
-division_named (Refused n) = refused n
+unfoldable pub division_named : Result ℕ Refusal → Divided
+division_named (Ok end) = figure end
+division_named (Err e) = refused e.number

@@ -3,72 +3,64 @@ ghost use Rattle.std.specs.Prelude.{◌≡◌};
 ghost use Rattle.pair_head.specs.Division.{head_of, divided_at, divided};
 ghost use Rattle.pair_head.specs.Answers.{length_named, division_named};
 
-use text_numbers::Parsed;
+use refusal::Refusal;
 use text_runs::Run;
 
-// The figure's length, or no head.
-#[derive(Clone, Copy)]
-pub enum Head {
-    Length(usize),
-    Wrong,
-}
+// A figure of more than 65,536 bytes, all at hand or following.
+const LONG: Refusal = Refusal {
+    number: 1,
+    place: 0,
+};
 
-// Where the figure ends, or a refusal's number.
-#[derive(Clone, Copy)]
-pub enum Division {
-    Figure(usize),
-    Refused(usize),
-}
+// No head, or an input that ends before its figure does.
+const SHORT: Refusal = Refusal {
+    number: 2,
+    place: 0,
+};
 
-// Nine bytes as a head: eight digits and a line feed.
-pub fn parse_head(bytes: &[u8]) -> Head
+// Nine bytes as a head, eight digits and a line feed: the figure's length.
+pub fn parse_head(bytes: &[u8]) -> Option<usize>
     ensures { length_named result ≡ head_of bytes.now }
 {
     if bytes.len() != 9 {
-        return Head::Wrong;
+        return None;
     }
     let digits = &bytes[..8];
-    if text_runs::run_end(digits, 0, Run::Digits) < 8 {
-        return Head::Wrong;
-    }
-    if bytes[8] != b'\n' {
-        return Head::Wrong;
+    if text_runs::run_end(digits, 0, Run::Digits) < 8 || bytes[8] != b'\n' {
+        return None;
     }
     match text_numbers::int(digits) {
-        Parsed::Value(value) => Head::Length(signed::magnitude(value) as usize),
-        Parsed::Beyond => Head::Wrong,
-        Parsed::Malformed => Head::Wrong,
+        Ok(value) => Some(signed::magnitude(value) as usize),
+        Err(_) => None,
     }
 }
 
-// A figure of so many bytes, where left bytes after the head are at hand and more follow.
-fn divide_at(left: usize, more: usize, length: usize) -> Division
+// Where a figure of so many bytes ends, where left bytes after the head are at hand and more follow.
+fn divide_at(left: usize, more: usize, length: usize) -> Result<usize, Refusal>
     ensures { division_named result ≡ divided_at left more length }
 {
     if length <= 65536 {
-        if length <= left {
-            return Division::Figure(9 + length);
-        }
-        return Division::Refused(2);
+        return if length <= left {
+            Ok(9 + length)
+        } else {
+            Err(SHORT)
+        };
     }
-    if length <= left {
-        return Division::Refused(1);
+    if length <= left || length - left <= more {
+        return Err(LONG);
     }
-    if length - left <= more {
-        return Division::Refused(1);
-    }
-    Division::Refused(2)
+    Err(SHORT)
 }
 
 // Where the figure ends in an input of which a text is at hand and more bytes follow.
-pub fn divide(text: &[u8], more: usize) -> Division
+pub fn divide(text: &[u8], more: usize) -> Result<usize, Refusal>
     ensures { division_named result ≡ divided text.now more }
 {
     if text.len() < 9 {
-        return Division::Refused(2);
+        return Err(SHORT);
     }
-    match parse_head(&text[..9]) {
-        Head::Length(length) => divide_at(text.len() - 9, more, length),
-        Head::Wrong => Division::Refused(2),
-    }
+    let Some(length) = parse_head(&text[..9]) else {
+        return Err(SHORT);
+    };
+    divide_at(text.len() - 9, more, length)
 }

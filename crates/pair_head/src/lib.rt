@@ -2,4 +2,4 @@
 // The head of a pair on standard input: eight digits giving the figure's length, and a line feed.
 mod division;
 
-pub use division::{Division, Head, divide, parse_head};
+pub use division::{divide, parse_head};

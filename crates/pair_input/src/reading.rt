@@ -9,7 +9,7 @@ pub struct Input {
     pub more: usize,
 }
 
-// How many bytes are left to read, a block at a time. A hundred million are as good as more, since a head says less.
+// How many bytes are left to read, a block at a time, until one is not full: how many blocks there are is not known before. A hundred million are as good as more, since a head says less.
 fn count_rest(fd: i32) -> usize
     ensures { result < 100004096 }
 {

@@ -4,7 +4,6 @@ ghost use Rattle.pair_text.specs.Answer.{refused as refused_at, movement_left};
 ghost use Rattle.pair_movement.specs.Moved.{moved_reply, moving};
 
 use pair_rules::{has_names, pair_fault};
-use refusal::Checked;
 use table_counts::{FigureCounts, no_movement};
 use table_rows::put;
 use tra4::MovementAnswer;
@@ -49,8 +48,8 @@ pub fn load_movement(
     }
     let m = answer.counts;
     match pair_fault(figure, table, n, movement, &rows, m) {
-        Checked::Refused { number, place } => refused(number as usize, place, 2),
-        Checked::Clear => {
+        Err(r) => refused(r.number as usize, r.place, 2),
+        Ok(()) => {
             put(moves, 0, &rows[..total]);
             answer
         }

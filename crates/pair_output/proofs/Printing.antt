@@ -28,8 +28,8 @@ use Rattle.pair_laws.proofs.Parts.{parts_taken}
 use Rattle.pair_laws.proofs.Loaded.{every_label}
 use Rattle.pair_head.specs.Division.{divided}
 use Rattle.pair_head.specs.Answers.{division_named}
-use Rattle.pair_head.specs.declared.division.Division.{Division}
-use Rattle.pair_head.specs.declared.division.Division.TheVariants as division
+use Rattle.std.proofs.Common.{Result, Ok, Err}
+use Rattle.refusal.specs.declared.checked.Refusal.{Refusal}
 use Rattle.pair_listing.specs.Lines.{reply_line}
 use Rattle.pair_listing.proofs.Replies.{reply-most}
 use Rattle.label_listing.specs.Lines.{label_parts, labels_in}
@@ -129,25 +129,26 @@ told lines r buf buf' e h =
     let w = each_within 0 r buf buf' lines e (omega arith) in
     (e, ((w, sym (length-take-le r buf' w)), λ k. each_whole r buf buf' lines e (omega arith)))
 
-module _ (text : List ℕ) (more r : ℕ) (buf buf' : List ℕ) (d : Division) (e : division_named d ≡ divided text more) where
+module _ (text : List ℕ) (more r : ℕ) (buf buf' : List ℕ) (d : Result ℕ Refusal) (e : division_named d ≡ divided text more) where
   abbrev Said : Type 0
   Said = (output r buf' ≡ appended_each (output 0 buf) (input_lines text more)) × (IsPrefixLen r buf' × (36295 ≤ length buf → take r buf' ≡ input_text text more))
 
-  input_refused : (n : ℕ) → d ≡ division.Refused n → input_lines text more ≡ reply_line n 0 0 0 0 ∷ []
+  input_refused : (x : Refusal) → d ≡ Err x → input_lines text more ≡ reply_line x.number 0 0 0 0 ∷ []
   unfolding input_lines divided_lines division_named
-  input_refused n q = rw (sym e, q)
+  input_refused x q = rw (sym e, q)
 
-  input_figure : (end : ℕ) → d ≡ division.Figure end → input_lines text more ≡ texts_lines (part text 9 end) (part text end (length text))
+  input_figure : (end : ℕ) → d ≡ Ok end → input_lines text more ≡ texts_lines (part text 9 end) (part text end (length text))
   unfolding input_lines divided_lines division_named
   input_figure end q = rw (sym e, q)
 
-  pub said_refused : (n : ℕ) → d ≡ division.Refused n → output r buf' ≡ appended (output 0 buf) (reply_line n 0 0 0 0) → Said
+  pub said_refused : (x : Refusal) → d ≡ Err x → output r buf' ≡ appended (output 0 buf) (reply_line x.number 0 0 0 0) → Said
   unfolding input_text appended_each text_of
-  said_refused n q p =
+  said_refused x q p =
+      let n = x.number in
       let short : length (text_of (reply_line n 0 0 0 0 ∷ [])) ≤ 36295 = omega (arith, length-append (reply_line n 0 0 0 0) [], reply-most n 0 0 0 0) in
-      rw (input_refused n q) (told (reply_line n 0 0 0 0 ∷ []) r buf buf' p short)
+      rw (input_refused x q) (told (reply_line n 0 0 0 0 ∷ []) r buf buf' p short)
 
-  pub said_figure : (end : ℕ) → d ≡ division.Figure end → (F M : List ℕ) → F ≡ part text 9 end → M ≡ part text end (length text) → (output r buf' ≡ appended_each (output 0 buf) (texts_lines F M)) × (length (text_of (texts_lines F M)) ≤ 36295) → Said
+  pub said_figure : (end : ℕ) → d ≡ Ok end → (F M : List ℕ) → F ≡ part text 9 end → M ≡ part text end (length text) → (output r buf' ≡ appended_each (output 0 buf) (texts_lines F M)) × (length (text_of (texts_lines F M)) ≤ 36295) → Said
   unfolding input_text
   said_figure end q F M f m p =
       let s : Told (texts_lines F M) r buf buf' = told (texts_lines F M) r buf buf' p.0 p.1 in

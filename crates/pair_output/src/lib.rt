@@ -7,7 +7,7 @@ ghost use Rattle.report_lists.specs.Lists.{appended_each, text_of};
 ghost use Rattle.pair_output.specs.Printing.{texts_lines, input_lines, input_text};
 
 use label_listing::append_labels;
-use pair_head::{Division, divide};
+use pair_head::divide;
 use pair_listing::list_reply;
 
 // Loads two texts as a pair, and puts the reply and each bone's label at the start of buf.
@@ -38,8 +38,8 @@ pub fn list_input(buf: &mut [u8], text: &[u8], more: usize) -> usize
     ensures whole { 36295 ≤ length buf.old → take result buf.new ≡ input_text text.now more }
 {
     match divide(text, more) {
-        Division::Refused(number) => list_reply(buf, number, 0, 0, 0, 0),
-        Division::Figure(end) => list_texts(
+        Err(e) => list_reply(buf, e.number as usize, 0, 0, 0, 0),
+        Ok(end) => list_texts(
             buf,
             text_parts::part(text, 9, end),
             text_parts::part(text, end, text.len()),

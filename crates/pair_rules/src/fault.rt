@@ -8,26 +8,24 @@ ghost use Rattle.pair_text.specs.Rules.{groups_fault};
 ghost use Rattle.pair_rules.specs.Internal.Tables.{rows_fault, tables_fault};
 
 use crate::names::names_fault;
-use refusal::Checked;
+use refusal::Refusal;
 use table_counts::{FigureCounts, KEY_WIDTH, MOVEMENT_BONE_WIDTH, MovementCounts, PATTERN_WIDTH};
 
 // 20, at the first pattern line whose group is none of so many; lines are rows of three numbers.
-fn groups_fault(lines: &[i64], count: usize, groups: usize) -> Checked
+fn groups_fault(lines: &[i64], count: usize, groups: usize) -> Result<(), Refusal>
     requires { (length lines.now ≡ count * 3) × (count ≤ 256) }
     ensures { refusal result ≡ groups_fault groups (rows_at 3 lines.now 0 count) }
 {
-    let mut row = 0;
-    while row < count {
+    for row in 0..count {
         let group = lines[row * 3 + 1];
         if !table_references::is_row(groups, group) {
-            return Checked::Refused {
+            return Err(Refusal {
                 number: 20,
                 place: row,
-            };
+            });
         }
-        row += 1;
     }
-    Checked::Clear
+    Ok(())
 }
 
 // In tables that hold what their counts say.
@@ -38,26 +36,21 @@ fn rows_fault(
     movement: &[u8],
     moves: &[i64],
     m: MovementCounts,
-) -> Checked
+) -> Result<(), Refusal>
     requires { (holds_figure n table.now ≡ true) × (holds_movement m moves.now ≡ true) }
     ensures { refusal result ≡ rows_fault figure.now n table.now movement.now m moves.now }
 {
     let bones = m.bones;
-    let keys = m.keys;
-    let count = m.patterns;
     if n.bones != bones {
-        return Checked::Refused {
+        return Err(Refusal {
             number: 18,
             place: bones,
-        };
+        });
     }
-    match names_fault(figure, table, n, movement, moves, m) {
-        Checked::Refused { number, place } => Checked::Refused { number, place },
-        Checked::Clear => {
-            let from = 3 + bones * MOVEMENT_BONE_WIDTH + keys * KEY_WIDTH;
-            groups_fault(&moves[from..from + count * PATTERN_WIDTH], count, n.groups)
-        }
-    }
+    names_fault(figure, table, n, movement, moves, m)?;
+    let count = m.patterns;
+    let from = 3 + bones * MOVEMENT_BONE_WIDTH + m.keys * KEY_WIDTH;
+    groups_fault(&moves[from..from + count * PATTERN_WIDTH], count, n.groups)
 }
 
 // The first fault of a pair; 21 where a table does not hold what its counts say.
@@ -68,20 +61,14 @@ pub fn pair_fault(
     movement: &[u8],
     moves: &[i64],
     m: MovementCounts,
-) -> Checked
+) -> Result<(), Refusal>
     ensures { refusal result ≡ tables_fault figure.now n table.now movement.now m moves.now }
 {
-    if !table_figure::holds_figure(table, n) {
-        return Checked::Refused {
+    if !table_figure::holds_figure(table, n) || !table_movement::holds_movement(moves, m) {
+        return Err(Refusal {
             number: 21,
             place: 0,
-        };
-    }
-    if !table_movement::holds_movement(moves, m) {
-        return Checked::Refused {
-            number: 21,
-            place: 0,
-        };
+        });
     }
     rows_fault(figure, table, n, movement, moves, m)
 }

@@ -10,18 +10,15 @@ ghost use Rattle.player_label.specs.Labels.{or_empty};
 ghost use Rattle.pair_text.specs.Rules.{names_agree, names_fault};
 ghost use Rattle.player_label.specs.BoneNames.{names_from, names_in};
 
-use player_names::{Found, figure_name, movement_name};
-use refusal::Checked;
+use player_names::{NameSpan, figure_name, movement_name};
+use refusal::Refusal;
 use table_counts::{FigureCounts, MovementCounts};
 use text_parts::{part, same};
 
 fn has_name(figure: &[u8], table: &[i64], n: FigureCounts, row: usize) -> bool
     ensures { result ≡ is_some (figure_named (length figure.now) n table.now row) }
 {
-    match figure_name(figure, table, n, row) {
-        Found::Refused => false,
-        Found::At { start, end } => true,
-    }
+    figure_name(figure, table, n, row).is_some()
 }
 
 // Whether the table holds what its counts say and every bone's pair is a name.
@@ -31,23 +28,20 @@ pub fn has_names(figure: &[u8], table: &[i64], n: FigureCounts) -> bool
     if !table_figure::holds_figure(table, n) {
         return false;
     }
-    let bones = n.bones;
-    let mut row = 0;
-    while row < bones {
+    for row in 0..n.bones {
         if !has_name(figure, table, n, row) {
             return false;
         }
-        row += 1;
     }
     true
 }
 
-fn name_of<'a>(text: &'a [u8], name: Found) -> &'a [u8]
+fn name_of<'a>(text: &'a [u8], name: Option<NameSpan>) -> &'a [u8]
     ensures { result.now ≡ or_empty (part_at text.now (found name)) }
 {
     match name {
-        Found::Refused => part(text, 0, 0),
-        Found::At { start, end } => part(text, start, end),
+        None => part(text, 0, 0),
+        Some(span) => part(text, span.start, span.end),
     }
 }
 
@@ -55,10 +49,7 @@ fn name_of<'a>(text: &'a [u8], name: Found) -> &'a [u8]
 fn names_agree(a: &[u8], b: &[u8]) -> bool
     ensures { result ≡ names_agree a.now b.now }
 {
-    if a.len() == 0 {
-        return true;
-    }
-    if b.len() == 0 {
+    if a.is_empty() || b.is_empty() {
         return true;
     }
     same(a, b)
@@ -89,20 +80,18 @@ pub(crate) fn names_fault(
     movement: &[u8],
     moves: &[i64],
     m: MovementCounts,
-) -> Checked
+) -> Result<(), Refusal>
     requires { (holds_figure n table.now ≡ true) × (holds_movement m moves.now ≡ true) × (n.bones ≡ m.bones) }
     ensures { refusal result ≡ names_fault 0 (names_from (figure_name figure.now n table.now) 0 n.bones) (names_from (movement_name movement.now moves.now) 0 m.bones) }
 {
     let bones = n.bones;
-    let mut row = 0;
-    while row < bones {
+    for row in 0..bones {
         if !bone_agrees(figure, table, n, movement, moves, m, row) {
-            return Checked::Refused {
+            return Err(Refusal {
                 number: 19,
                 place: row,
-            };
+            });
         }
-        row += 1;
     }
-    Checked::Clear
+    Ok(())
 }

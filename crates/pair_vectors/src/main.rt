@@ -4,7 +4,6 @@
 // line feed.
 ghost use Rattle.std.specs.Prelude.{◌<◌, ◌≤◌, length};
 
-use pair_head::Head;
 use text_parts::part;
 use text_runs::Run;
 
@@ -24,10 +23,7 @@ fn tell(label: &[u8], input: &[u8], more: usize) {
 fn number(bytes: &[u8]) -> usize
     ensures { result < 100000000 }
 {
-    match pair_head::parse_head(bytes) {
-        Head::Length(n) => n,
-        Head::Wrong => 0,
-    }
+    pair_head::parse_head(bytes).unwrap_or(0)
 }
 
 fn line_end(text: &[u8], at: usize) -> usize

@@ -1,5 +1,5 @@
-#![tactic(auto)]
+#![tactic(auto, unfolding(parse_cursor::specs::Internal::Cursors::from))]
 // Chunks in a free order, each at most once.
 mod chunk;
 
-pub use chunk::{Chunk, next_chunk};
+pub use chunk::next_chunk;

@@ -10,12 +10,12 @@ use Rattle.text_bytes.specs.Bytes.{bytes}
 use Rattle.text_tokens.specs.Tokens.{Lexeme, lex_at, lexeme, is_keyword}
 use Rattle.text_tokens.specs.declared.token.Span.{Span}
 use Rattle.text_tokens.specs.Internal.Answers.{Next, lexeme_of}
-use Rattle.parse_cursor.specs.declared.cursor.Cursor.{Cursor}
+use Rattle.std.proofs.Common.{Ok}
 use Rattle.parse_spec.specs.Readers.{Got, got, refused, Reader, after, ◌>>=◌, ◌>>◌, pure, token_of, rest, open_bracket, take_if, word_of, opened_of, opened, starts, optional, trailing, many}
 use Rattle.text_kinds.specs.Kinds.{is_opening, is_closing}
-use Rattle.parse_cursor.specs.Internal.Cursors.{reads, from}
+use Rattle.parse_cursor.specs.Internal.Cursors.{Cursor, reads, from}
 use Rattle.parse_spec.specs.Internal.Branches.{item_of, start_of, last_of}
-use Rattle.parse_cursor.proofs.Steps.{from_on, from_off, reads_on, next_token, next_rest, live, taken, not_taken, from-same, from-bind, after-reads, seq}
+use Rattle.parse_cursor.proofs.Steps.{next_token, next_rest, live, took, balked, from-same, onto, halt}
 use Rattle.parse_spec.proofs.Binds.{after-after, after_same}
 use Rattle.parse_spec.proofs.Many.{Keeps, Takes, not-got, got-rest, takes_keeps, pure_keeps, then_keeps, then_takes, open_takes, opened_of_takes, many_end, many_more}
 
@@ -27,7 +27,7 @@ pick false r s = s
 -- a choice from cursor c to d, and then what it picks
 module _ {A : Type 0} (text : List ℕ) (c d : Cursor) (b : Reader Bool) (v : Bool) (p : reads text d v ≡ from text c b) (r s : Reader A) where
   chosen : from text c (b >>= λ x. pick x r s) ≡ from text d (pick v r s)
-  chosen = from-bind text c (λ x. pick x r s) b ∙ ap (λ (g : Got Bool). after g (λ x. pick x r s)) (sym p) ∙ after-reads text d (λ x. pick x r s) v
+  chosen = onto text c d v b (λ x. pick x r s) p
 
   pub chosen_yes : v ≡ true → from text c (b >>= λ x. pick x r s) ≡ from text d r
   unfolding pick
@@ -47,18 +47,18 @@ item_open : (ms : List Lexeme) → is_closing (token_of ms) ≡ false → item_o
 unfolding item_of ◌>>◌
 item_open ms e = rw (e, item_of)
 
-module _ (text : List ℕ) (c : Cursor) (t : Span) (n : Next text c.at t) (o : c.refusal ≡ 0) where
-  pub item_ends : is_closing (lexeme_of text t).token ≡ true → reads text (record { refusal = 0; at = t.end }) true ≡ from text c item_of
-  unfolding lexeme_of lexeme is_closing
-  item_ends e = reads_on text _ true refl ∙ sym (from_on text c item_of o ∙ item_closed _ (rw (next_token text c.at t n) e) ∙ ap (got true) (next_rest text c.at t n (live is_closing refl t.kind _ e)))
+module _ (text : List ℕ) (at : ℕ) (t : Span) (n : Next text at t) where
+  pub item_ends : is_closing (lexeme_of text t).token ≡ true → reads text (Ok t.end) true ≡ from text (Ok at) item_of
+  unfolding from lexeme_of lexeme is_closing pure
+  item_ends e = sym (item_closed _ (rw (next_token text at t n) e) ∙ ap (got true) (next_rest text at t n (live is_closing refl t.kind _ e)))
 
-  pub item_opens : is_closing (lexeme_of text t).token ≡ false → is_opening (lexeme_of text t).token ≡ true → reads text (record { refusal = 0; at = t.end }) false ≡ from text c item_of
-  unfolding open_bracket after pure is_opening
-  item_opens e f = reads_on text _ false refl ∙ sym (from_on text c item_of o ∙ item_open _ (rw (next_token text c.at t n) e) ∙ ap (λ (g : Got (Unit {0})). after g (λ _. pure false)) (taken text c.at t n is_opening refl f))
+  pub item_opens : is_closing (lexeme_of text t).token ≡ false → is_opening (lexeme_of text t).token ≡ true → reads text (Ok t.end) false ≡ from text (Ok at) item_of
+  unfolding from open_bracket after pure is_opening
+  item_opens e f = sym (item_open _ (rw (next_token text at t n) e) ∙ ap (λ (g : Got (Unit {0})). after g (λ _. pure false)) (sym (took text at t n is_opening refl f)))
 
-  pub item_stops : is_closing (lexeme_of text t).token ≡ false → is_opening (lexeme_of text t).token ≡ false → reads text (record { refusal = 5; at = t.start }) false ≡ from text c item_of
-  unfolding open_bracket after reads is_opening
-  item_stops e f = from_off text _ (pure false) (λ h. omega arith) ∙ sym (from_on text c item_of o ∙ item_open _ (rw (next_token text c.at t n) e) ∙ ap (λ (g : Got (Unit {0})). after g (λ _. pure false)) (not_taken text c.at t n is_opening refl f))
+  pub item_stops : is_closing (lexeme_of text t).token ≡ false → is_opening (lexeme_of text t).token ≡ false → refused 5 t.start ≡ from text (Ok at) item_of
+  unfolding from open_bracket after is_opening
+  item_stops e f = sym (item_open _ (rw (next_token text at t n) e) ∙ ap (λ (g : Got (Unit {0})). after g (λ _. pure false)) (sym (balked text at t n is_opening refl f)))
 
 -- a list of items that begin with (, where s reads what stands after that: each by one choice
 module _ {A B : Type 0} (r s : Reader A) (t : Takes r) (opens : (ms : List Lexeme) → r ms ≡ (open_bracket >> s) ms) (h : List A → Reader B) where
@@ -75,12 +75,17 @@ module _ {A B : Type 0} (r s : Reader A) (t : Takes r) (opens : (ms : List Lexem
           ∙ after_same (open_bracket ms) _ _ (λ _ l. after_same (s l) _ _ (λ a k. after-after (many r k) _ h))
           ∙ sym (after-after (open_bracket ms) (λ _. pure false) _))
 
-  module _ (text : List ℕ) (c d : Cursor) (v : Bool) (p : reads text d v ≡ from text c item_of) where
-    pub items_end : v ≡ true → from text c (many r >>= h) ≡ from text d (h [])
-    items_end e = from-same text c _ _ items ∙ chosen_yes text c d item_of v p (h []) (s >>= λ a. many r >>= λ l. h (a ∷ l)) e
+  module _ (text : List ℕ) (c : Cursor) where
+    module _ (d : Cursor) (v : Bool) (p : reads text d v ≡ from text c item_of) where
+      pub items_end : v ≡ true → from text c (many r >>= h) ≡ from text d (h [])
+      items_end e = from-same text c _ _ items ∙ chosen_yes text c d item_of v p (h []) (s >>= λ a. many r >>= λ l. h (a ∷ l)) e
 
-    pub items_more : v ≡ false → from text c (many r >>= h) ≡ from text d (s >>= λ a. many r >>= λ l. h (a ∷ l))
-    items_more e = from-same text c _ _ items ∙ chosen_no text c d item_of v p (h []) (s >>= λ a. many r >>= λ l. h (a ∷ l)) e
+      pub items_more : v ≡ false → from text c (many r >>= h) ≡ from text d (s >>= λ a. many r >>= λ l. h (a ∷ l))
+      items_more e = from-same text c _ _ items ∙ chosen_no text c d item_of v p (h []) (s >>= λ a. many r >>= λ l. h (a ∷ l)) e
+
+    -- a token that is neither the list's end nor an item's begin
+    pub items_off : {n p : ℕ} → from text c item_of ≡ refused n p → from text c (many r >>= h) ≡ refused n p
+    items_off e = from-same text c _ _ items ∙ halt text c item_of e _
 
 pub item_takes : Takes item_of
 unfolding item_of is_closing token_of rest
@@ -124,35 +129,35 @@ module _ (w : List ℕ) where
   unfolding last_of
   last_none ms e = rw (e, last_of)
 
-  module _ (text : List ℕ) (c : Cursor) (t : Span) (n : Next text c.at t) (o : c.refusal ≡ 0) where
-    pub start_no_bracket : is_opening (lexeme_of text t).token ≡ false → reads text c false ≡ from text c (start_of w)
-    start_no_bracket e = reads_on text c false o ∙ sym (from_on text c (start_of w) o ∙ start_none _ (rw (next_token text c.at t n) e))
+  module _ (text : List ℕ) (at : ℕ) (t : Span) (n : Next text at t) where
+    pub start_no_bracket : is_opening (lexeme_of text t).token ≡ false → reads text (Ok at) false ≡ from text (Ok at) (start_of w)
+    unfolding from pure
+    start_no_bracket e = sym (start_none _ (rw (next_token text at t n) e))
 
-    pub last_no_bracket : is_opening (lexeme_of text t).token ≡ false → reads text c false ≡ from text c (last_of w)
-    last_no_bracket e = reads_on text c false o ∙ sym (from_on text c (last_of w) o ∙ last_none _ (rw (next_token text c.at t n) e))
+    pub last_no_bracket : is_opening (lexeme_of text t).token ≡ false → reads text (Ok at) false ≡ from text (Ok at) (last_of w)
+    unfolding from pure
+    last_no_bracket e = sym (last_none _ (rw (next_token text at t n) e))
 
     module _ (e : is_opening (lexeme_of text t).token ≡ true) where
-      inside : rest (lex_at text c.at) ≡ lex_at text t.end
+      inside : rest (lex_at text at) ≡ lex_at text t.end
       unfolding lexeme_of lexeme is_opening
-      inside = next_rest text c.at t n (live is_opening refl t.kind _ e)
+      inside = next_rest text at t n (live is_opening refl t.kind _ e)
 
       module _ (k : Span) (m : Next text t.end k) where
-        pub start_no_word : is_keyword w (lexeme_of text k).token ≡ false → reads text c false ≡ from text c (start_of w)
-        start_no_word f = reads_on text c false o ∙ sym (from_on text c (start_of w) o ∙ start-other _ (rw (next_token text c.at t n) e) (rw (inside, next_token text t.end k m) f))
+        pub start_no_word : is_keyword w (lexeme_of text k).token ≡ false → reads text (Ok at) false ≡ from text (Ok at) (start_of w)
+        unfolding from pure
+        start_no_word f = sym (start-other _ (rw (next_token text at t n) e) (rw (inside, next_token text t.end k m) f))
 
-        pub start_word : is_keyword w (lexeme_of text k).token ≡ true → reads text (record { refusal = 0; at = k.end }) true ≡ from text c (start_of w)
-        unfolding lexeme_of lexeme is_keyword
+        pub start_word : is_keyword w (lexeme_of text k).token ≡ true → reads text (Ok k.end) true ≡ from text (Ok at) (start_of w)
+        unfolding from lexeme_of lexeme is_keyword pure
         start_word f =
-            reads_on text _ true refl
-            ∙ sym (from_on text c (start_of w) o ∙ start_yes _ (rw (next_token text c.at t n) e) (rw (inside, next_token text t.end k m) f)
+            sym (start_yes _ (rw (next_token text at t n) e) (rw (inside, next_token text t.end k m) f)
             ∙ rw inside (ap (got true) (next_rest text t.end k m (live (is_keyword w) refl k.kind _ f))))
 
-      pub last_bracket : (d : Cursor) → reads text d tt ≡ from text (record { refusal = 0; at = t.end }) (word_of w) → reads text d true ≡ from text c (last_of w)
-      unfolding reads ◌>>◌
-      last_bracket d p =
-          seq text (record { refusal = 0; at = t.end }) d d tt true (word_of w) (pure true) p refl
-          ∙ from_on text (record { refusal = 0; at = t.end }) (word_of w >> pure true) refl
-          ∙ sym (from_on text c (last_of w) o ∙ last_yes _ (rw (next_token text c.at t n) e) ∙ rw inside)
+      -- what stands after the bracket decides
+      pub last_bracket : from text (Ok t.end) (word_of w >> pure true) ≡ from text (Ok at) (last_of w)
+      unfolding from ◌>>◌
+      last_bracket = sym (last_yes _ (rw (next_token text at t n) e) ∙ rw inside)
 
 -- what a chunk that may be left out gives: where it stands, what its reader does after ( and keyword
 module _ {A : Type 0} (k : String) (a : A) (r : Reader A) where
@@ -172,22 +177,28 @@ module _ {A : Type 0} (k : String) (a : A) (r : Reader A) where
       go true e = rw (e, trailing, last_of) (sym (after-after (opened_of (bytes k) ms) (λ _. pure true) _))
       go false e = rw (e, trailing, last_of)
 
-  module _ (text : List ℕ) (c d : Cursor) (v : Bool) where
-    module _ (p : reads text d v ≡ from text c (start_of (bytes k))) where
-      pub optional_yes : v ≡ true → (e : Cursor) (b : A) → reads text e b ≡ from text d r → reads text e b ≡ from text c (optional k a r)
-      optional_yes h e b q = q ∙ sym (from-same text c _ _ optional_pick ∙ chosen_yes text c d (start_of (bytes k)) v p r (pure a) h)
+  module _ (text : List ℕ) (c : Cursor) where
+    module _ (d : Cursor) (v : Bool) where
+      module _ (p : reads text d v ≡ from text c (start_of (bytes k))) where
+        pub optional_yes : v ≡ true → {g : Got A} → g ≡ from text d r → g ≡ from text c (optional k a r)
+        optional_yes h q = q ∙ sym (from-same text c _ _ optional_pick ∙ chosen_yes text c d (start_of (bytes k)) v p r (pure a) h)
 
-      pub optional_no : v ≡ false → reads text d a ≡ from text c (optional k a r)
-      unfolding reads
-      optional_no h = sym (from-same text c _ _ optional_pick ∙ chosen_no text c d (start_of (bytes k)) v p r (pure a) h)
+        pub optional_no : v ≡ false → reads text d a ≡ from text c (optional k a r)
+        optional_no h = sym (from-same text c _ _ optional_pick ∙ chosen_no text c d (start_of (bytes k)) v p r (pure a) h)
 
-    module _ (p : reads text d v ≡ from text c (last_of (bytes k))) where
-      pub trailing_yes : v ≡ true → (e : Cursor) (b : A) → reads text e b ≡ from text d r → reads text e b ≡ from text c (trailing k a r)
-      trailing_yes h e b q = q ∙ sym (from-same text c _ _ trailing_pick ∙ chosen_yes text c d (last_of (bytes k)) v p r (pure a) h)
+      module _ (p : reads text d v ≡ from text c (last_of (bytes k))) where
+        pub trailing_yes : v ≡ true → {g : Got A} → g ≡ from text d r → g ≡ from text c (trailing k a r)
+        trailing_yes h q = q ∙ sym (from-same text c _ _ trailing_pick ∙ chosen_yes text c d (last_of (bytes k)) v p r (pure a) h)
 
-      pub trailing_no : v ≡ false → reads text d a ≡ from text c (trailing k a r)
-      unfolding reads
-      trailing_no h = sym (from-same text c _ _ trailing_pick ∙ chosen_no text c d (last_of (bytes k)) v p r (pure a) h)
+        pub trailing_no : v ≡ false → reads text d a ≡ from text c (trailing k a r)
+        trailing_no h = sym (from-same text c _ _ trailing_pick ∙ chosen_no text c d (last_of (bytes k)) v p r (pure a) h)
+
+    -- a refusal before it is known whether the chunk stands
+    pub optional_off : {n p : ℕ} → from text c (start_of (bytes k)) ≡ refused n p → from text c (optional k a r) ≡ refused n p
+    optional_off e = from-same text c _ _ optional_pick ∙ halt text c (start_of (bytes k)) e _
+
+    pub trailing_off : {n p : ℕ} → from text c (last_of (bytes k)) ≡ refused n p → from text c (trailing k a r) ≡ refused n p
+    trailing_off e = from-same text c _ _ trailing_pick ∙ halt text c (last_of (bytes k)) e _
 
 -- a value that is only put into another form
 pub optional-map : {A B : Type 0} (k : String) (a : A) (r : Reader A) (g : A → B) (ms : List Lexeme) → (optional k a r >>= λ x. pure (g x)) ms ≡ optional k (g a) (r >>= λ x. pure (g x)) ms

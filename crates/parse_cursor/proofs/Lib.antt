@@ -3,5 +3,6 @@ pub mod Behind
 pub mod Bounds
 pub mod Branches
 pub mod Counts
+pub mod Forms
 pub mod NumberSteps
 pub mod Steps

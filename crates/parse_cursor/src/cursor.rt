@@ -3,75 +3,55 @@ ghost use Rattle.std.specs.Prelude.{◌≡◌};
 ghost use Rattle.parse_spec.specs.Readers.{open_bracket, close_bracket, word_of, opened_of};
 ghost use Rattle.parse_cursor.specs.Internal.Cursors.{reads, from};
 
+use refusal::Refusal;
 use text_kinds::{is_closing, is_opening};
 
-// Where to read on, with `refusal` 0; or a refusal's number and offset. Where to read on is settled up to blanks and comments before the next token.
-#[derive(Clone, Copy)]
-pub struct Cursor {
-    pub refusal: u8,
-    pub at: usize,
-}
+// Where to read on, or the refusal. Where to read on is settled up to blanks and comments before the next token.
+pub type Cursor = Result<usize, Refusal>;
+
+// A value and where to read on, or the refusal.
+pub type Parsed<T> = Result<(T, usize), Refusal>;
 
 // (
 pub fn opening(text: &[u8], c: Cursor) -> Cursor
     ensures { reads text.now result tt ≡ from text.now c open_bracket }
 {
-    if c.refusal != 0 {
-        return c;
+    let t = text_tokens::next(text, c?);
+    if is_opening(t.kind) {
+        return Ok(t.end);
     }
-    let t = text_tokens::next(text, c.at);
-    let kind = t.kind;
-    if is_opening(kind) {
-        return Cursor {
-            refusal: 0,
-            at: t.end,
-        };
-    }
-    Cursor {
-        refusal: 5,
-        at: t.start,
-    }
+    Err(Refusal {
+        number: 5,
+        place: t.start,
+    })
 }
 
 // )
 pub fn closing(text: &[u8], c: Cursor) -> Cursor
     ensures { reads text.now result tt ≡ from text.now c close_bracket }
 {
-    if c.refusal != 0 {
-        return c;
+    let span = text_tokens::next(text, c?);
+    if is_closing(span.kind) {
+        return Ok(span.end);
     }
-    let span = text_tokens::next(text, c.at);
-    let kind = span.kind;
-    if is_closing(kind) {
-        return Cursor {
-            refusal: 0,
-            at: span.end,
-        };
-    }
-    Cursor {
-        refusal: 5,
-        at: span.start,
-    }
+    Err(Refusal {
+        number: 5,
+        place: span.start,
+    })
 }
 
 // A keyword.
 pub fn keyword(text: &[u8], c: Cursor, word: &[u8]) -> Cursor
     ensures { reads text.now result tt ≡ from text.now c (word_of word.now) }
 {
-    if c.refusal != 0 {
-        return c;
-    }
-    let word_span = text_tokens::next(text, c.at);
+    let word_span = text_tokens::next(text, c?);
     if text_tokens::is_keyword(text, word_span, word) {
-        return Cursor {
-            refusal: 0,
-            at: word_span.end,
-        };
+        return Ok(word_span.end);
     }
-    Cursor {
-        refusal: 5,
-        at: word_span.start,
-    }
+    Err(Refusal {
+        number: 5,
+        place: word_span.start,
+    })
 }
 
 // ( and a keyword.

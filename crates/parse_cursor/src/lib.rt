@@ -1,5 +1,5 @@
-#![tactic(auto)]
+#![tactic(auto, unfolding(crate::specs::Internal::Cursors::from))]
 // A cursor that goes from reader to reader: brackets and keywords.
 mod cursor;
 
-pub use cursor::{Cursor, closing, keyword, opened, opening};
+pub use cursor::{Cursor, Parsed, closing, keyword, opened, opening};

@@ -1,23 +1,20 @@
 -- How many items a list can have: no more than the tokens that it is read from.
-use mathlib.Core.Path.{◌≡◌, refl, ap, sym, ◌∙◌}
+use mathlib.Core.Path.{◌≡◌, refl, ap, sym}
 use mathlib.Core.List.{List, [], ◌∷◌}
 use mathlib.Core.Bool.{Bool, true, false}
 use Prim.Native.Nat.{ℕ, zero, suc, ◌≤◌}
 use native.Mathlib.Omega.{arith}
-use borrow.Author.Tests.{eqb-true, eqb-false}
-use lib.Dec.{eqb}
 use lib.IntN.{ℤ}
 use lib.ListN.{length}
 use Rattle.text_tokens.specs.Tokens.{Lexeme, lex_at}
 use Rattle.text_numerals.specs.Numbers.{Form}
-use Rattle.parse_cursor.specs.declared.cursor.Cursor.{Cursor}
+use Rattle.std.proofs.Common.{Ok, Err}
 use Rattle.parse_spec.specs.Readers.{Got, got, refused, Reader, after, ◌>>=◌, pure, token_of, rest, many_in, many, row_of}
 use Rattle.text_kinds.specs.Kinds.{is_closing}
-use Rattle.parse_cursor.specs.Internal.Cursors.{reads, from}
+use Rattle.parse_cursor.specs.Internal.Cursors.{Cursor, reads, from}
 use Rattle.table_rows.specs.Internal.Overlay.{overlay_at}
 use Rattle.parse_lists.specs.Internal.ListsInto.{rows_into}
 use Rattle.table_rows.specs.Flat.{flat}
-use Rattle.parse_cursor.proofs.Steps.{from_on, from_off, reads_on}
 use Rattle.parse_spec.proofs.Many.{not-got, got-value, stop-not}
 use Rattle.parse_spec.proofs.TokenCounts.{lex_at_count}
 
@@ -51,12 +48,8 @@ unfolding after pure
 valued (got l j) i n bound t t' k h e = let z = got-value _ _ j k e in let y : length l ≡ n = ap (λ (p : ℕ × List ℤ). p.0) z in rw (← y) (h l j refl)
 valued (refused a p) i n bound t t' k h e = absurd (not-got a p _ k e)
 
-pub rows-counted : (text : List ℕ) (c d : Cursor) (w : List ℕ) (lead : ℕ) (f : Form) (width i n : ℕ) (t t' : List ℤ) → reads text d (n, t') ≡ from text c (rows_into w lead f width i t) → d.refusal ≡ 0 → n ≤ suc (length text)
-unfolding rows_into ◌>>=◌
-rows-counted text c d w lead f width i n t t' e o = go (eqb c.refusal 0) refl
-  where
-    go : (v : Bool) → eqb c.refusal 0 ≡ v → n ≤ suc (length text)
-    go true q =
-        let h = sym (from_on text c (rows_into w lead f width i t) (eqb-true _ _ q)) ∙ sym e ∙ reads_on text d (n, t') o in
-        omega (arith, valued (many (row_of w lead f width) (lex_at text c.at)) i n (length (lex_at text c.at)) t t' _ (many_count (row_of w lead f width) (lex_at text c.at)) h, lex_at_count text c.at)
-    go false q = absurd (not-got c.refusal c.at _ _ (sym (from_off text c (rows_into w lead f width i t) (eqb-false _ _ q)) ∙ sym e ∙ reads_on text d (n, t') o))
+pub rows-counted : (text : List ℕ) (c : Cursor) (d : ℕ) (w : List ℕ) (lead : ℕ) (f : Form) (width i n : ℕ) (t t' : List ℤ) → reads text (Ok d) (n, t') ≡ from text c (rows_into w lead f width i t) → n ≤ suc (length text)
+unfolding from pure rows_into ◌>>=◌
+rows-counted text (Ok at) d w lead f width i n t t' e =
+    omega (arith, valued (many (row_of w lead f width) (lex_at text at)) i n (length (lex_at text at)) t t' _ (many_count (row_of w lead f width) (lex_at text at)) (sym e), lex_at_count text at)
+rows-counted text (Err x) d w lead f width i n t t' e = absurd (not-got _ _ _ _ (sym e))

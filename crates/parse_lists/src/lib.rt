@@ -1,5 +1,5 @@
-#![tactic(auto)]
+#![tactic(auto, unfolding(parse_cursor::specs::Internal::Cursors::from))]
 // Lists of rows of numbers, written to a lent table.
 mod lists;
 
-pub use lists::{Counted, rows, some_rows};
+pub use lists::{rows, some_rows};

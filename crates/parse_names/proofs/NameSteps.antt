@@ -10,12 +10,12 @@ use Rattle.text_tokens.specs.Tokens.{Token, opening, closing, ending, quoted, pl
 use Rattle.text_tokens.specs.declared.token.Span.{Span}
 use Rattle.text_tokens.specs.Internal.Answers.{Next, lexeme_of, span_at, span_of}
 use Rattle.text_tokens.proofs.Spans.{after_more}
-use Rattle.parse_cursor.specs.declared.cursor.Cursor.{Cursor}
-use Rattle.parse_spec.specs.Readers.{got, after, ◌>>=◌, pure, stop, token_of, closed, Name, absent, name_at, string, optional}
+use Rattle.std.proofs.Common.{Ok}
+use Rattle.parse_spec.specs.Readers.{got, refused, after, ◌>>=◌, pure, stop, token_of, closed, Name, absent, name_at, string, optional}
 use Rattle.parse_cursor.specs.Internal.Cursors.{reads, from}
 use Rattle.text_kinds.specs.Internal.Kinds.{is_quoted}
 use Rattle.parse_spec.specs.Internal.Places.{place_of, string_of, name_of, optional_name}
-use Rattle.parse_cursor.proofs.Steps.{from_on, from_off, reads_on, next_token, next_stop, live}
+use Rattle.parse_cursor.proofs.Steps.{next_token, next_stop, live}
 use Rattle.parse_spec.proofs.Binds.{closed-map}
 use Rattle.parse_spec.proofs.Many.{Keeps, takes_keeps, pure_keeps, bind_keeps, closed_keeps, string_takes, optional_keeps}
 use Rattle.parse_cursor.proofs.Branches.{optional-map}
@@ -41,23 +41,23 @@ name_no ending ms e = refl
 name_no (quoted bs) ms e = absurd (true≢false e)
 name_no (plain bs) ms e = refl
 
-module _ (text : List ℕ) (c : Cursor) (t : Span) (n : Next text c.at t) (o : c.refusal ≡ 0) where
-  string_next : is_quoted (lexeme_of text t).token ≡ true → string (lex_at text c.at) ≡ got (record { at = suc t.start; bytes = bytes_of (lexeme_of text t).token }) (lex_at text t.end)
+module _ (text : List ℕ) (at : ℕ) (t : Span) (n : Next text at t) where
+  string_next : is_quoted (lexeme_of text t).token ≡ true → string (lex_at text at) ≡ got (record { at = suc t.start; bytes = bytes_of (lexeme_of text t).token }) (lex_at text t.end)
   unfolding string token_of lexeme_of lexeme is_quoted
   string_next e = rw n.tokens (name_yes _ _ _ e ∙ rw (after_more text t (live is_quoted refl t.kind _ e)))
 
-  pub string-quoted : is_quoted (lexeme_of text t).token ≡ true → reads text (record { refusal = 0; at = t.end }) (t.start + 1, t.length) ≡ from text c string_of
-  unfolding string_of ◌>>=◌ after pure place_of
-  string-quoted e = reads_on text _ _ refl ∙ sym (from_on text c string_of o ∙ rw (string_next e, next_length text c.at t n, add-one))
+  pub string-quoted : is_quoted (lexeme_of text t).token ≡ true → reads text (Ok t.end) (t.start + 1, t.length) ≡ from text (Ok at) string_of
+  unfolding from string_of ◌>>=◌ after pure place_of
+  string-quoted e = sym (rw (string_next e, next_length text at t n, add-one))
 
   -- its first byte stands within the text
   pub string-inside : is_quoted (lexeme_of text t).token ≡ true → t.start + 1 ≤ length text
   unfolding lexeme_of lexeme is_quoted
   string-inside e = let m = n.moves (live is_quoted refl t.kind _ e) in omega (arith, n.within)
 
-  pub string-other : (v : ℕ × ℕ) → is_quoted (lexeme_of text t).token ≡ false → reads text (record { refusal = 5; at = t.start }) v ≡ from text c string_of
-  unfolding reads string_of ◌>>=◌ after string
-  string-other v e = from_off text _ (pure v) (λ h. omega arith) ∙ sym (from_on text c string_of o ∙ rw (next_token text c.at t n, name_no _ (lex_at text c.at) e, next_stop text c.at t n {A = Name} 5))
+  pub string-other : is_quoted (lexeme_of text t).token ≡ false → refused 5 t.start ≡ from text (Ok at) string_of
+  unfolding from string_of ◌>>=◌ after string
+  string-other e = sym (rw (next_token text at t n, name_no _ (lex_at text at) e, next_stop text at t n {A = Name} 5))
 
 -- a name is a string and )
 pub name_parts : (ms : List Lexeme) → name_of ms ≡ closed string_of ms

@@ -1,5 +1,5 @@
-#![tactic(auto)]
+#![tactic(auto, unfolding(parse_cursor::specs::Internal::Cursors::from))]
 // Names, and chunks of a name that may be left out.
 mod naming;
 
-pub use naming::{Named, name, optional_name};
+pub use naming::{Place, name, optional_name};

@@ -1,5 +1,5 @@
-#![tactic(auto)]
+#![tactic(auto, unfolding(parse_cursor::specs::Internal::Cursors::from))]
 // Chunks that may be left out.
 mod optionals;
 
-pub use optionals::{Start, optional, trailing};
+pub use optionals::{optional, trailing};

@@ -1,69 +1,36 @@
-// Chunks that may be left out.
+// Chunks that may be left out: whether they stand, and where to read on, past their ( and keyword or where they would stand.
 ghost use Rattle.std.specs.Prelude.{◌≡◌};
-ghost use Rattle.parse_cursor.specs.Internal.Cursors.{reads, from};
+ghost use Rattle.parse_cursor.specs.Internal.Cursors.{parsed, from};
 ghost use Rattle.parse_spec.specs.Internal.Branches.{start_of, last_of};
 
-use parse_cursor::{Cursor, keyword};
+use parse_cursor::{Cursor, Parsed, keyword};
 use text_kinds::is_opening;
 
-// Whether a chunk stands, and a cursor past its ( and keyword or where it was; where the cursor has refused, `present` is free.
-#[derive(Clone, Copy)]
-pub struct Start {
-    pub present: bool,
-    pub cursor: Cursor,
-}
-
 // A chunk that may be left out, before one that may not: it stands where its ( and keyword do.
-pub fn optional(text: &[u8], c: Cursor, word: &[u8]) -> Start
-    ensures { reads text.now result.cursor result.present ≡ from text.now c (start_of word.now) }
+pub fn optional(text: &[u8], c: Cursor, word: &[u8]) -> Parsed<bool>
+    ensures { parsed text.now result (λ z. z) ≡ from text.now c (start_of word.now) }
 {
-    let absent = Start {
-        present: false,
-        cursor: c,
-    };
-    if c.refusal != 0 {
-        return absent;
-    }
-    let t = text_tokens::next(text, c.at);
-    let kind = t.kind;
-    if !is_opening(kind) {
-        return absent;
+    let at = c?;
+    let t = text_tokens::next(text, at);
+    if !is_opening(t.kind) {
+        return Ok((false, at));
     }
     let k = text_tokens::next(text, t.end);
     if !text_tokens::is_keyword(text, k, word) {
-        return absent;
+        return Ok((false, at));
     }
-    Start {
-        present: true,
-        cursor: Cursor {
-            refusal: 0,
-            at: k.end,
-        },
-    }
+    Ok((true, k.end))
 }
 
 // A chunk that may be left out, as the last: it stands where a ( does, and its keyword must follow.
-pub fn trailing(text: &[u8], c: Cursor, word: &[u8]) -> Start
-    ensures { reads text.now result.cursor result.present ≡ from text.now c (last_of word.now) }
+pub fn trailing(text: &[u8], c: Cursor, word: &[u8]) -> Parsed<bool>
+    ensures { parsed text.now result (λ z. z) ≡ from text.now c (last_of word.now) }
 {
-    let absent = Start {
-        present: false,
-        cursor: c,
-    };
-    if c.refusal != 0 {
-        return absent;
+    let at = c?;
+    let t = text_tokens::next(text, at);
+    if !is_opening(t.kind) {
+        return Ok((false, at));
     }
-    let t = text_tokens::next(text, c.at);
-    let kind = t.kind;
-    if !is_opening(kind) {
-        return absent;
-    }
-    let inside = Cursor {
-        refusal: 0,
-        at: t.end,
-    };
-    Start {
-        present: true,
-        cursor: keyword(text, inside, word),
-    }
+    let inside = Ok(t.end);
+    Ok((true, keyword(text, inside, word)?))
 }

@@ -7,45 +7,52 @@ use Prim.Native.Nat.{ℕ, suc, ◌+◌, ◌*◌, ◌<◌, min}
 use lib.IntN.{ℤ}
 use lib.ListN.{length}
 use Rattle.text_tokens.specs.Tokens.{Lexeme, lex_at}
-use Rattle.parse_cursor.specs.declared.cursor.Cursor.{Cursor}
-use Rattle.parse_spec.specs.Readers.{Got, got, Reader, after, ◌>>=◌, ◌>>◌, pure, open_bracket, many}
-use Rattle.parse_cursor.specs.Internal.Cursors.{from, reads}
+use Rattle.std.proofs.Common.{Ok}
+use Rattle.parse_spec.specs.Readers.{Got, got, refused, Reader, after, ◌>>=◌, ◌>>◌, pure, open_bracket, many}
+use Rattle.parse_cursor.specs.Internal.Cursors.{Cursor, from, reads}
 use Rattle.table_rows.specs.Internal.Overlay.{overlay_at}
 use Rattle.parse_spec.specs.Internal.Branches.{item_of}
 use Rattle.parse_rows.specs.Internal.Folds.{fold, folded, stepped, row_step}
-use Rattle.parse_cursor.proofs.Steps.{join, seq, from-same, from-bind, after-reads}
+use Rattle.parse_cursor.proofs.Steps.{join, seq, from-same, onto, onto_then, halt, halt_then}
 use Rattle.parse_spec.proofs.Binds.{after-after, after_same, then_bind}
 use Rattle.parse_spec.proofs.Many.{Takes, Keeps, pure_keeps, bind_keeps, then_takes}
 use Rattle.table_rows.proofs.Tables.{overlay_at_none, overlay_at-append, overlay_at-same}
 use Rattle.table_rows.specs.Flat.{flat}
 use Rattle.parse_spec.proofs.Given.{Every}
 use Rattle.parse_cursor.proofs.Counts.{falls}
-use Rattle.parse_cursor.proofs.Branches.{items_end, items_more, item_takes}
+use Rattle.parse_cursor.proofs.Branches.{items_end, items_more, items_off, item_takes}
 
 -- items that begin with (, where u reads what stands after that
-module _ {A S : Type 0} (step : S → A → S) (r u : Reader A) (t : Takes r) (k : Keeps u) (opens : (ms : List Lexeme) → r ms ≡ (open_bracket >> u) ms) (text : List ℕ) (c d : Cursor) (v : Bool) (p : reads text d v ≡ from text c item_of) (s : S) where
-  pub folded_end : v ≡ true → from text c (folded step r s) ≡ reads text d s
-  unfolding folded fold reads
-  folded_end o = items_end r u t opens (λ l. pure (fold step s l)) text c d v p o
+module _ {A S : Type 0} (step : S → A → S) (r u : Reader A) (t : Takes r) (k : Keeps u) (opens : (ms : List Lexeme) → r ms ≡ (open_bracket >> u) ms) (text : List ℕ) (c : Cursor) where
+  -- neither the list's end nor an item's begin
+  pub folded_off : (s : S) {n p : ℕ} → from text c item_of ≡ refused n p → from text c (folded step r s) ≡ refused n p
+  unfolding folded
+  folded_off s e = items_off r u t opens (λ l. pure (fold step s l)) text c e
 
-  folded_turn : (ms : List Lexeme) → (u >>= λ a. many r >>= λ l. pure (fold step s (a ∷ l))) ms ≡ (stepped step u s >>= λ x. folded step r x) ms
-  unfolding folded fold stepped ◌>>=◌ pure after
-  folded_turn ms = sym (after-after (u ms) (λ a. pure (step s a)) (λ x. folded step r x))
+  module _ (d : Cursor) (v : Bool) (p : reads text d v ≡ from text c item_of) (s : S) where
+    pub folded_end : v ≡ true → from text c (folded step r s) ≡ reads text d s
+    unfolding folded fold
+    folded_end o = items_end r u t opens (λ l. pure (fold step s l)) text c d v p o
 
-  module _ (e : Cursor) (x : S) (q : reads text e x ≡ from text d (stepped step u s)) where
-    pub folded_more : v ≡ false → from text c (folded step r s) ≡ from text e (folded step r x)
+    folded_turn : (ms : List Lexeme) → (u >>= λ a. many r >>= λ l. pure (fold step s (a ∷ l))) ms ≡ (stepped step u s >>= λ x. folded step r x) ms
+    unfolding folded fold stepped ◌>>=◌ pure after
+    folded_turn ms = sym (after-after (u ms) (λ a. pure (step s a)) (λ x. folded step r x))
+
+    folded_into : v ≡ false → from text c (folded step r s) ≡ from text d (stepped step u s >>= λ x. folded step r x)
     unfolding folded
-    folded_more o =
-        items_more r u t opens (λ l. pure (fold step s l)) text c d v p o
-        ∙ from-same text d _ _ folded_turn
-        ∙ from-bind text d (λ y. folded step r y) (stepped step u s)
-        ∙ ap (λ (g : Got S). after g (λ y. folded step r y)) (sym q)
-        ∙ after-reads text e (λ y. folded step r y) x
+    folded_into o = items_more r u t opens (λ l. pure (fold step s l)) text c d v p o ∙ from-same text d _ _ folded_turn
 
-    -- fewer tokens are left
-    pub folded_fall : e.refusal ≡ 0 → length (lex_at text e.at) < length (lex_at text c.at)
-    unfolding stepped
-    folded_fall o = falls text c e (item_of >> stepped step u s) x (then_takes item_takes (bind_keeps k (λ a. pure_keeps (step s a)))) (seq text c d e v x item_of (stepped step u s) p q) o
+    -- an item that is refused
+    pub folded_stop : v ≡ false → {n q : ℕ} → from text d (stepped step u s) ≡ refused n q → from text c (folded step r s) ≡ refused n q
+    folded_stop o h = folded_into o ∙ halt text d (stepped step u s) h (λ y. folded step r y)
+
+    pub folded_more : (e : Cursor) (x : S) → reads text e x ≡ from text d (stepped step u s) → v ≡ false → from text c (folded step r s) ≡ from text e (folded step r x)
+    folded_more e x q o = folded_into o ∙ onto text d e x (stepped step u s) (λ y. folded step r y) q
+
+-- fewer tokens are left after an item
+pub folded_fall : {A S : Type 0} (step : S → A → S) (u : Reader A) → Keeps u → (text : List ℕ) (at to : ℕ) (d : Cursor) (v : Bool) → reads text d v ≡ from text (Ok at) item_of → (s x : S) → reads text (Ok to) x ≡ from text d (stepped step u s) → length (lex_at text to) < length (lex_at text at)
+unfolding stepped
+folded_fall step u k text at to d v p s x q = falls text at to (item_of >> stepped step u s) x (then_takes item_takes (bind_keeps k (λ a. pure_keeps (step s a)))) (seq text (Ok at) d v item_of (stepped step u s) p q)
 
 row_same : (u : Reader (List ℤ)) (w n i : ℕ) (t : List ℤ) (ms : List Lexeme) → min i (length t) ≡ min (n * w) (length t) → (u >>= (λ row. pure (overlay_at i row t)) >>= λ (y : List ℤ). pure (n + 1, y)) ms ≡ stepped (row_step w) u (n, t) ms
 unfolding stepped row_step ◌>>=◌ pure after
@@ -56,14 +63,14 @@ row_same u w n i t ms h =
 -- ---- rows of w numbers, one after the other in a table
 
 -- a row set down at an index that is as good as that of row n
-pub row-stepped : (u : Reader (List ℤ)) (w n i : ℕ) (t t' : List ℤ) (text : List ℕ) (d e : Cursor) → min i (length t) ≡ min (n * w) (length t) → reads text e t' ≡ from text d (u >>= λ row. pure (overlay_at i row t)) → reads text e (n + 1, t') ≡ from text d (stepped (row_step w) u (n, t))
-unfolding reads
-row-stepped u w n i t t' text d e h q =
-    join text d e e t' (n + 1, t') (u >>= λ row. pure (overlay_at i row t)) (λ (y : List ℤ). pure (n + 1, y)) q refl
-    ∙ from-same text d _ _ same
-  where
-    same : (ms : List Lexeme) → (u >>= (λ row. pure (overlay_at i row t)) >>= λ (y : List ℤ). pure (n + 1, y)) ms ≡ stepped (row_step w) u (n, t) ms
-    same ms = row_same u w n i t ms h
+module _ (u : Reader (List ℤ)) (w n i : ℕ) (t : List ℤ) (text : List ℕ) (d : Cursor) (h : min i (length t) ≡ min (n * w) (length t)) where
+  pub row-stepped : (e : Cursor) (t' : List ℤ) → reads text e t' ≡ from text d (u >>= λ row. pure (overlay_at i row t)) → reads text e (n + 1, t') ≡ from text d (stepped (row_step w) u (n, t))
+  row-stepped e t' q =
+      join text d e t' (u >>= λ row. pure (overlay_at i row t)) (λ (y : List ℤ). pure (n + 1, y)) q refl
+      ∙ from-same text d _ _ (λ ms. row_same u w n i t ms h)
+
+  pub row_refused : {m p : ℕ} → from text d (u >>= λ row. pure (overlay_at i row t)) ≡ refused m p → from text d (stepped (row_step w) u (n, t)) ≡ refused m p
+  row_refused q = sym (from-same text d _ _ (λ ms. row_same u w n i t ms h)) ∙ halt text d (u >>= λ row. pure (overlay_at i row t)) q (λ (y : List ℤ). pure (n + 1, y))
 
 -- all of them
 
@@ -85,8 +92,20 @@ unfolding stepped ◌>>=◌
 stepped_opens step r u opens s ms = ap (λ (g : Got _). after g (λ a. pure (step s a))) (opens ms) ∙ then_bind open_bracket u (λ a. pure (step s a)) ms
 
 -- the first item after its (, and then the others
-pub folded-first : {A S : Type 0} (step : S → A → S) (r u : Reader A) → ((ms : List Lexeme) → r ms ≡ (open_bracket >> u) ms) → (text : List ℕ) (c d e f : Cursor) (s x y : S) → reads text d tt ≡ from text c open_bracket → reads text e x ≡ from text d (stepped step u s) → reads text f y ≡ from text e (folded step r x) → reads text f y ≡ from text c (stepped step r s >>= λ z. folded step r z)
-folded-first step r u opens text c d e f s x y p q o =
-    join text c e f x y (stepped step r s) (λ z. folded step r z)
-    (seq text c d e tt x open_bracket (stepped step u s) p q ∙ sym (from-same text c _ _ (stepped_opens step r u opens s)))
-    o
+module _ {A S : Type 0} (step : S → A → S) (r u : Reader A) (opens : (ms : List Lexeme) → r ms ≡ (open_bracket >> u) ms) (text : List ℕ) (c : Cursor) (s : S) where
+  first_opens : from text c (stepped step r s) ≡ from text c (open_bracket >> stepped step u s)
+  first_opens = from-same text c _ _ (stepped_opens step r u opens s)
+
+  pub folded-first : (d e : Cursor) (x : S) {g : Got S} → reads text d tt ≡ from text c open_bracket → reads text e x ≡ from text d (stepped step u s) → g ≡ from text e (folded step r x) → g ≡ from text c (stepped step r s >>= λ z. folded step r z)
+  folded-first d e x p q o =
+      join text c e x (stepped step r s) (λ z. folded step r z)
+      (seq text c d tt open_bracket (stepped step u s) p q ∙ sym first_opens)
+      o
+
+  -- no item
+  pub first_closed : {n p : ℕ} → from text c open_bracket ≡ refused n p → from text c (stepped step r s >>= λ z. folded step r z) ≡ refused n p
+  first_closed h = halt text c (stepped step r s) (first_opens ∙ halt_then text c open_bracket h (stepped step u s)) (λ z. folded step r z)
+
+  -- a first item that is refused
+  pub first_stop : (d : Cursor) {n p : ℕ} → reads text d tt ≡ from text c open_bracket → from text d (stepped step u s) ≡ refused n p → from text c (stepped step r s >>= λ z. folded step r z) ≡ refused n p
+  first_stop d o h = halt text c (stepped step r s) (first_opens ∙ onto_then text c d tt open_bracket (stepped step u s) o ∙ h) (λ z. folded step r z)

@@ -21,23 +21,17 @@ pub fn numbers(
     ensures meaning { reads text.now result out.new ≡ from text.now c (numbers_into (form_named form) width at out.old) }
     ensures before { take at out.new ≡ take at out.old }
 {
-    let mut d = c;
+    let mut d = c?;
     let mut i = at;
-    let mut left = width;
-    while 0 < left {
-        let n = number(text, d, form);
-        d = n.cursor;
-        if d.refusal != 0 {
-            return d;
-        }
-        let value = n.value;
-        left -= 1;
+    for _ in 0..width {
+        let (value, next) = number(text, Ok(d), form)?;
+        d = next;
         if i < out.len() {
             out[i] = value;
             i += 1;
         }
     }
-    d
+    Ok(d)
 }
 
 // What stands in a row after its (: a keyword, `lead` INT numbers, `width` of a form, and ), the numbers to the table from index `at` on.

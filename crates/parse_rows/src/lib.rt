@@ -1,4 +1,4 @@
-#![tactic(auto)]
+#![tactic(auto, unfolding(parse_cursor::specs::Internal::Cursors::from))]
 // Numbers and a row of them, written to a lent table.
 mod cells;
 

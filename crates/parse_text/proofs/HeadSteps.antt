@@ -3,16 +3,15 @@ use mathlib.Core.Path.{◌≡◌, refl, ap, sym, ◌∙◌}
 use mathlib.Core.List.{List}
 use mathlib.Core.Bool.{true, false, true≢false, false≢true}
 use Prim.Native.Nat.{ℕ}
-use native.Mathlib.Omega.{arith}
 use Rattle.text_tokens.specs.Tokens.{Token, opening, closing, ending, quoted, plain, Lexeme, lexeme, is_keyword}
 use Rattle.text_tokens.specs.declared.token.Span.{Span}
 use Rattle.text_tokens.specs.Internal.Answers.{Next, lexeme_of}
-use Rattle.parse_cursor.specs.declared.cursor.Cursor.{Cursor}
+use Rattle.std.proofs.Common.{Ok, Err}
 use Rattle.parse_spec.specs.Readers.{got, pure, stop, rest, version_at, version, text_end}
 use Rattle.text_kinds.specs.Internal.Kinds.{is_plain}
 use Rattle.text_kinds.specs.Kinds.{is_end}
 use Rattle.parse_cursor.specs.Internal.Cursors.{reads, from}
-use Rattle.parse_cursor.proofs.Steps.{from_on, from_off, reads_on, next_token, next_stop, next_rest, live}
+use Rattle.parse_cursor.proofs.Steps.{next_token, next_stop, next_rest, live}
 
 module _ (v : List ℕ) (ms : List Lexeme) where
   version_yes : (t : Token) → is_keyword v t ≡ true → version_at v t ms ≡ got tt (rest ms)
@@ -39,24 +38,24 @@ module _ (v : List ℕ) (ms : List Lexeme) where
   version_none (quoted bs) e = refl
   version_none (plain bs) e = absurd (true≢false e)
 
-module _ (text : List ℕ) (c : Cursor) (t : Span) (n : Next text c.at t) (o : c.refusal ≡ 0) where
+module _ (text : List ℕ) (at : ℕ) (t : Span) (n : Next text at t) where
   module _ (v : List ℕ) where
-    pub version_right : is_keyword v (lexeme_of text t).token ≡ true → reads text (record { refusal = 0; at = t.end }) tt ≡ from text c (version v)
-    unfolding version lexeme_of lexeme is_keyword
-    version_right e = reads_on text _ tt refl ∙ sym (from_on text c (version v) o ∙ rw (next_token text c.at t n) (version_yes v _ _ e) ∙ ap (got tt) (next_rest text c.at t n (live (is_keyword v) refl t.kind _ e)))
+    pub version_right : is_keyword v (lexeme_of text t).token ≡ true → reads text (Ok t.end) tt ≡ from text (Ok at) (version v)
+    unfolding from version pure lexeme_of lexeme is_keyword
+    version_right e = sym (rw (next_token text at t n) (version_yes v _ _ e) ∙ ap (got tt) (next_rest text at t n (live (is_keyword v) refl t.kind _ e)))
 
-    pub version-wrong : is_keyword v (lexeme_of text t).token ≡ false → is_plain (lexeme_of text t).token ≡ true → reads text (record { refusal = 7; at = t.start }) tt ≡ from text c (version v)
-    unfolding version reads
-    version-wrong e f = from_off text _ (pure tt) (λ h. omega arith) ∙ sym (from_on text c (version v) o ∙ rw (next_token text c.at t n) (version-other v _ _ e f) ∙ next_stop text c.at t n 7)
+    pub version-wrong : is_keyword v (lexeme_of text t).token ≡ false → is_plain (lexeme_of text t).token ≡ true → reads text (Err (record { number = 7; place = t.start })) tt ≡ from text (Ok at) (version v)
+    unfolding from version
+    version-wrong e f = sym (rw (next_token text at t n) (version-other v _ _ e f) ∙ next_stop text at t n 7)
 
-    pub version_missing : is_plain (lexeme_of text t).token ≡ false → reads text (record { refusal = 5; at = t.start }) tt ≡ from text c (version v)
-    unfolding version reads
-    version_missing e = from_off text _ (pure tt) (λ h. omega arith) ∙ sym (from_on text c (version v) o ∙ rw (next_token text c.at t n) (version_none v _ _ e) ∙ next_stop text c.at t n 5)
+    pub version_missing : is_plain (lexeme_of text t).token ≡ false → reads text (Err (record { number = 5; place = t.start })) tt ≡ from text (Ok at) (version v)
+    unfolding from version
+    version_missing e = sym (rw (next_token text at t n) (version_none v _ _ e) ∙ next_stop text at t n 5)
 
-  pub end_here : is_end (lexeme_of text t).token ≡ true → reads text c tt ≡ from text c text_end
-  unfolding text_end
-  end_here e = reads_on text c tt o ∙ sym (from_on text c text_end o ∙ rw (next_token text c.at t n, e, text_end))
+  pub end_here : is_end (lexeme_of text t).token ≡ true → reads text (Ok at) tt ≡ from text (Ok at) text_end
+  unfolding from text_end pure
+  end_here e = sym (rw (next_token text at t n, e, text_end))
 
-  pub end_later : is_end (lexeme_of text t).token ≡ false → reads text (record { refusal = 5; at = t.start }) tt ≡ from text c text_end
-  unfolding text_end reads
-  end_later e = from_off text _ (pure tt) (λ h. omega arith) ∙ sym (from_on text c text_end o ∙ rw (next_token text c.at t n, e, text_end) (next_stop text c.at t n 5))
+  pub end_later : is_end (lexeme_of text t).token ≡ false → reads text (Err (record { number = 5; place = t.start })) tt ≡ from text (Ok at) text_end
+  unfolding from text_end
+  end_later e = sym (rw (next_token text at t n, e, text_end) (next_stop text at t n 5))

@@ -5,33 +5,27 @@ ghost use Rattle.parse_spec.specs.Readers.{version as version_of};
 ghost use Rattle.parse_cursor.specs.Internal.Cursors.{reads, from};
 
 use parse_cursor::{Cursor, closing, opened};
+use refusal::Refusal;
 use text_kinds::{is_ending, is_plain};
 
 // A version: another plain word is refusal 7.
 fn version(text: &[u8], c: Cursor, wanted: &[u8]) -> Cursor
     ensures { reads text.now result tt ≡ from text.now c (version_of wanted.now) }
 {
-    if c.refusal != 0 {
-        return c;
-    }
-    let t = text_tokens::next(text, c.at);
-    let kind = t.kind;
+    let t = text_tokens::next(text, c?);
     if text_tokens::is_keyword(text, t, wanted) {
-        return Cursor {
-            refusal: 0,
-            at: t.end,
-        };
+        return Ok(t.end);
     }
-    if is_plain(kind) {
-        return Cursor {
-            refusal: 7,
-            at: t.start,
-        };
+    if is_plain(t.kind) {
+        return Err(Refusal {
+            number: 7,
+            place: t.start,
+        });
     }
-    Cursor {
-        refusal: 5,
-        at: t.start,
-    }
+    Err(Refusal {
+        number: 5,
+        place: t.start,
+    })
 }
 
 // ( Head ( a keyword and a version ) )
@@ -46,16 +40,13 @@ pub fn head(text: &[u8], c: Cursor, word: &[u8], wanted: &[u8]) -> Cursor
 pub fn text_end(text: &[u8], c: Cursor) -> Cursor
     ensures { reads text.now result tt ≡ from text.now c text_end }
 {
-    if c.refusal != 0 {
-        return c;
+    let at = c?;
+    let left = text_tokens::next(text, at);
+    if is_ending(left.kind) {
+        return Ok(at);
     }
-    let left = text_tokens::next(text, c.at);
-    let kind = left.kind;
-    if is_ending(kind) {
-        return c;
-    }
-    Cursor {
-        refusal: 5,
-        at: left.start,
-    }
+    Err(Refusal {
+        number: 5,
+        place: left.start,
+    })
 }

@@ -12,21 +12,21 @@ use lib.ListN.{length, drop, length-drop}
 use lib.Seq.{drop-drop}
 use Rattle.text_bytes.specs.Bytes.{bytes, in_word}
 use Rattle.text_runs.specs.Runs.{same, run, part}
-use lib.IntN.{ℤ, pos}
+use lib.IntN.{pos}
 use Rattle.text_tokens.specs.Tokens.{Token, plain, Lexeme, lexeme, is_keyword}
 use Rattle.text_tokens.specs.declared.token.Span.{Span}
 use Rattle.text_tokens.specs.Internal.Answers.{Next, lexeme_of}
 use Rattle.text_runs.proofs.Runs.{run_yes, run_no, run_take}
 use Rattle.text_numerals.proofs.Numerals.{and_true}
-use Rattle.parse_cursor.specs.declared.cursor.Cursor.{Cursor}
-use Rattle.parse_spec.specs.Readers.{got, after, ◌>>=◌, pure, stop, token_of, rest, one_from, one_of}
+use Rattle.std.proofs.Common.{Ok}
+use Rattle.parse_spec.specs.Readers.{got, refused, after, ◌>>=◌, pure, stop, token_of, rest, one_from, one_of}
 use Rattle.text_kinds.specs.Internal.Kinds.{is_plain}
 use Rattle.parse_cursor.specs.Internal.Cursors.{reads, from}
 use Rattle.parse_spec.specs.Fields.{Kind}
 use Rattle.parse_spec.specs.Internal.Fields.{hits, single}
 use Rattle.parse_words.specs.Internal.Words.{onto, words, index_in, keys_of, differs, apart, among, word_in}
 use Rattle.parse_spec.proofs.Choices.{after_stop, keyword-is, one_yes, one_no}
-use Rattle.parse_cursor.proofs.Steps.{from_on, from_off, reads_on, next_token, next_stop, next_rest, live}
+use Rattle.parse_cursor.proofs.Steps.{next_token, next_stop, next_rest, live}
 
 -- ---- a token that is a keyword
 
@@ -159,17 +159,16 @@ among_far list n t h = go (is_plain t) refl
 
 -- ---- a cursor past one of some words, or refused at another token
 
-module _ (text : List ℕ) (c : Cursor) (t : Span) (n : Next text c.at t) (o : c.refusal ≡ 0) (list : List ℕ) (count : ℕ) where
-  pub word_took : among list count (lexeme_of text t).token ≡ true → reads text (record { refusal = 0; at = t.end }) (pos (index_in (lexeme_of text t).token (words list))) ≡ from text c (word_in list count)
-  unfolding word_in among is_plain lexeme_of lexeme
+module _ (text : List ℕ) (at : ℕ) (t : Span) (n : Next text at t) (list : List ℕ) (count : ℕ) where
+  pub word_took : among list count (lexeme_of text t).token ≡ true → reads text (Ok t.end) (pos (index_in (lexeme_of text t).token (words list))) ≡ from text (Ok at) (word_in list count)
+  unfolding from pure word_in among is_plain lexeme_of lexeme
   word_took e =
-      let f = ap (among list count) (next_token text c.at t n) ∙ e in
-      reads_on text _ _ refl
-      ∙ sym (from_on text c (word_in list count) o ∙ rw (f, word_in, next_token text c.at t n) (ap (got (pos (index_in (lexeme_of text t).token (words list)))) (next_rest text c.at t n (live (among list count) refl t.kind _ e))))
+      let f = ap (among list count) (next_token text at t n) ∙ e in
+      sym (rw (f, word_in, next_token text at t n) (ap (got (pos (index_in (lexeme_of text t).token (words list)))) (next_rest text at t n (live (among list count) refl t.kind _ e))))
 
-  pub word_balked : (z : ℤ) → among list count (lexeme_of text t).token ≡ false → reads text (record { refusal = 5; at = t.start }) z ≡ from text c (word_in list count)
-  unfolding word_in reads
-  word_balked z e = from_off text _ (pure z) (λ q. omega arith) ∙ sym (from_on text c (word_in list count) o ∙ rw (next_token text c.at t n, e, word_in) (next_stop text c.at t n 5))
+  pub word_balked : among list count (lexeme_of text t).token ≡ false → refused 5 t.start ≡ from text (Ok at) (word_in list count)
+  unfolding from word_in
+  word_balked e = sym (rw (next_token text at t n, e, word_in) (next_stop text at t n 5))
 
 -- ---- the same in the grammar's words
 

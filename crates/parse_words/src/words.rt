@@ -2,10 +2,10 @@
 ghost use Rattle.std.specs.Prelude.{◌≡◌};
 ghost use Rattle.text_tokens.specs.Internal.Answers.{lexeme_of};
 ghost use Rattle.parse_words.specs.Internal.Words.{words, index_in, word_in};
-ghost use Rattle.parse_cursor.specs.Internal.Cursors.{reads, from};
+ghost use Rattle.parse_cursor.specs.Internal.Cursors.{parsed, from};
 
-use parse_cursor::Cursor;
-use parse_numbers::Numeric;
+use parse_cursor::{Cursor, Parsed};
+use refusal::Refusal;
 use text_kinds::is_plain;
 use text_runs::Run;
 use text_tokens::Span;
@@ -29,37 +29,17 @@ pub fn word_index(text: &[u8], t: Span, list: &[u8]) -> usize
     }
 }
 
-// One of the first `count` words of a list, by its row; where the cursor has refused, the value is free.
-pub fn one_of(text: &[u8], c: Cursor, list: &[u8], count: u8) -> Numeric
-    ensures { reads text.now result.cursor result.value ≡ from text.now c (word_in list.now count) }
+// One of the first `count` words of a list, by its row.
+pub fn one_of(text: &[u8], c: Cursor, list: &[u8], count: u8) -> Parsed<i64>
+    ensures { parsed text.now result (λ z. z) ≡ from text.now c (word_in list.now count) }
 {
-    if c.refusal != 0 {
-        return Numeric {
-            cursor: c,
-            value: 0,
-        };
-    }
-    let t = text_tokens::next(text, c.at);
-    let refused = Numeric {
-        cursor: Cursor {
-            refusal: 5,
-            at: t.start,
-        },
-        value: 0,
-    };
-    let kind = t.kind;
-    if !is_plain(kind) {
-        return refused;
-    }
+    let t = text_tokens::next(text, c?);
     let row = word_index(text, t, list);
-    if count as usize <= row {
-        return refused;
+    if is_plain(t.kind) && row < count as usize {
+        return Ok((row as i64, t.end));
     }
-    Numeric {
-        cursor: Cursor {
-            refusal: 0,
-            at: t.end,
-        },
-        value: row as i64,
-    }
+    Err(Refusal {
+        number: 5,
+        place: t.start,
+    })
 }

@@ -1,8 +1,8 @@
 -- What the test of `channel_sample` says of its definition, and what a finished pass answers.
-use mathlib.Core.Path.{◌≡◌}
+use mathlib.Core.Path.{◌≡◌, refl}
 use mathlib.Core.List.{List}
 use mathlib.Core.Bool.{true, false}
-use mathlib.Core.Option.{none, some}
+use mathlib.Core.Option.{none}
 use Prim.Native.Nat.{ℕ, ◌/◌}
 use native.Mathlib.Omega.{arith}
 use lib.IntN.{ℤ}
@@ -12,10 +12,12 @@ use Rattle.player_spec.specs.Fractions.{whole}
 use Rattle.player_spec.specs.Samples.{key_value}
 use Rattle.player_spec.specs.Lookups.{only_if, is_asked}
 use Rattle.player_tests.proofs.Numbers.{asked_total}
+use Rattle.player_channel.specs.declared.channel.Sample.{Sample}
 use Rattle.player_channel.specs.declared.pass.Pass.{Pass}
 use Rattle.player_channel.specs.Internal.Answers.{sample_by}
 use Rattle.player_channel.specs.Internal.Pass.{or_last, pass_over}
-use Rattle.player_channel.specs.Internal.Passing.{KeyRows, key_of, known_as, state_of, if_fine, finished}
+use Rattle.player_channel.specs.Internal.Passing.{KeyRows, key_of, fraction, known, state_of, said}
+use Rattle.std.specs.Prelude.{Option as Answer, Some, None, unwrap_or}
 use Rattle.player_channel.proofs.Passes.{pass_is}
 
 module _ (total : ℤ) (at : ℕ) where
@@ -32,16 +34,12 @@ module _ (total : ℤ) (at : ℕ) where
 
 -- ---- what a finished pass answers
 
-module _ (p : Pass) where
-  pub at-fault : p.fine ≡ false → none ≡ finished p
-  unfolding finished if_fine
-  at-fault h = rw h
+-- the sample, or the last key's value
+known_or : (d : Answer Sample) (p : Pass) → fraction (unwrap_or d (record { numerator = p.value; denominator = 1 })) ≡ or_last (known d) (key_of p)
+unfolding fraction known or_last key_of key_value whole
+known_or (Some s) p = refl
+known_or None p = refl
 
-  module _ (fine : p.fine ≡ true) where
-    pub by_line_lem : p.known ≡ true → some (record { numerator = p.numerator; denominator = p.denominator }) ≡ finished p
-    unfolding finished if_fine state_of known_as or_last
-    by_line_lem h = rw (fine, h)
-
-    pub by_last : p.known ≡ false → some (record { numerator = p.value; denominator = 1 }) ≡ finished p
-    unfolding finished if_fine state_of known_as or_last key_of key_value whole
-    by_last h = rw (fine, h)
+pub by_last : (p : Pass) → fraction (unwrap_or p.sample (record { numerator = p.value; denominator = 1 })) ≡ said p
+unfolding said state_of
+by_last p = known_or p.sample p

@@ -2,7 +2,7 @@
 use mathlib.Core.Path.{◌≡◌, refl, ap, sym, ◌∙◌}
 use mathlib.Core.List.{List, [], ◌∷◌}
 use mathlib.Core.Bool.{Bool, true, false, ◌&&◌, and-false}
-use mathlib.Core.Option.{Option, none, some}
+use mathlib.Core.Option.{Option, none}
 use Prim.Native.Nat.{ℕ, suc, ◌+◌, ◌*◌, ◌-◌, ◌≤◌, ◌<◌}
 use native.Mathlib.Omega.{arith}
 use borrow.Author.Tests.{lt-ltb, eqb-true}
@@ -17,7 +17,8 @@ use Rattle.player_spec.specs.Samples.{key_value, standing}
 use Rattle.table_columns.specs.Parts.{numbers_at, rows_at}
 use Rattle.player_spec.specs.Lookups.{is_float}
 use Rattle.player_channel.specs.Internal.Pass.{may_follow, or_last, pass_from, pass_over}
-use Rattle.player_channel.specs.Internal.Passing.{key_of, known_as, state_of, if_fine, then_from, finished, Begun, KeyRows}
+use Rattle.player_channel.specs.Internal.Passing.{key_of, known, state_of, then_from, said, finished, Begun, KeyRows}
+use Rattle.std.specs.Prelude.{Some, None}
 use Rattle.table_columns.proofs.Parts.{two_at}
 use Rattle.tra4_text.proofs.Zero.{zero_is}
 
@@ -39,17 +40,19 @@ first_fine (pos t) (pos n) v e h = go (eqb n 0) refl
     go true o = rw (eqb-true n 0 o) (rw (lt-ltb 0 t h))
     go false o = rw o (and-false (leb 0 n && ltb n t))
 
-not-fine : (r : Pass) → r.fine ≡ false → finished r ≡ none
-unfolding finished if_fine
-not-fine r e = ap (λ (b : Bool). if_fine b (some (or_last (state_of r) (key_of r)))) e
+-- the keys after a first that may be one
+unfoldable if_true : Bool → Option Fraction → Option Fraction
+if_true true a = a
+if_true false a = none
 
 -- a step that ends the pass, or goes on
-pub stopped : (total : ℤ) (at : ℕ) (r : Pass) (ks : List Key) → r.fine ≡ false → finished r ≡ then_from total at r ks
-stopped total at r ks e = not-fine r e ∙ sym (unfold then_from if_fine in (ap (λ (b : Bool). if_fine b (pass_from total at (key_of r) (state_of r) ks)) e))
+pub stopped : (total : ℤ) (at : ℕ) (ks : List Key) → none ≡ then_from total at None ks
+unfolding then_from
+stopped total at ks = refl
 
-pub goes_on : (total : ℤ) (at : ℕ) (r : Pass) (ks : List Key) → r.fine ≡ true → then_from total at r ks ≡ pass_from total at (key_of r) (state_of r) ks
-unfolding then_from if_fine
-goes_on total at r ks e = ap (λ (b : Bool). if_fine b (pass_from total at (key_of r) (state_of r) ks)) e
+pub goes_on : (total : ℤ) (at : ℕ) (r : Pass) (ks : List Key) → then_from total at (Some r) ks ≡ pass_from total at (key_of r) (state_of r) ks
+unfolding then_from
+goes_on total at r ks = refl
 
 module _ (keys : List ℤ) (count : ℕ) (total : ℤ) (at : ℕ) (k : KeyRows keys count total) where
   abbrev pub left : ℕ → List Key
@@ -71,14 +74,15 @@ module _ (keys : List ℤ) (count : ℕ) (total : ℤ) (at : ℕ) (k : KeyRows k
 
   -- ---- the end
 
-  pub ended : (p : Pass) (i : ℕ) → p.fine ≡ true → count ≤ i → finished p ≡ pass_from total at (key_of p) (state_of p) (left i)
-  ended p i e h = unfold finished if_fine in (ap (λ (b : Bool). if_fine b (some (or_last (state_of p) (key_of p)))) e) ∙ sym (ap (pass_from total at (key_of p) (state_of p)) (left_none i h) ∙ unfold pass_from in refl)
+  pub ended : (p : Pass) (i : ℕ) → count ≤ i → finished (Some p) ≡ pass_from total at (key_of p) (state_of p) (left i)
+  unfolding finished said
+  ended p i h = sym (ap (pass_from total at (key_of p) (state_of p)) (left_none i h) ∙ unfold pass_from in refl)
 
   module _ (channel : ℕ) where
     -- no key
-    pub at_rest : (p : Pass) → count ≡ 0 → Begun p (standing channel) → finished p ≡ pass_over total channel at (rows_at 2 keys 0 count)
-    unfolding finished if_fine state_of known_as or_last key_of key_value pass_over rows_at
-    at_rest p e b = rw (e, b.is_fine, b.unknown, b.here) refl
+    pub at_rest : (p : Pass) → count ≡ 0 → Begun p (standing channel) → finished (Some p) ≡ pass_over total channel at (rows_at 2 keys 0 count)
+    unfolding finished said state_of known or_last key_of key_value pass_over rows_at
+    at_rest p e b = rw (e, b.unknown, b.here) refl
 
     module _ (some-row : count ≡ 0 → ⊥) where
       pub all-rows : rows_at 2 keys 0 count ≡ first ∷ left 1
@@ -86,27 +90,27 @@ module _ (keys : List ℤ) (count : ℕ) (total : ℤ) (at : ℕ) (k : KeyRows k
 
       -- ---- the first key
 
-      over_first : pass_over total channel at (rows_at 2 keys 0 count) ≡ if_fine (may_follow total none first) (pass_from total at first none (left 1))
+      over_first : pass_over total channel at (rows_at 2 keys 0 count) ≡ if_true (may_follow total none first) (pass_from total at first none (left 1))
       over_first = ap (pass_over total channel at) all-rows ∙ branch (may_follow total none first) refl
         where
-          branch : (b : Bool) → may_follow total none first ≡ b → pass_over total channel at (first ∷ left 1) ≡ if_fine (may_follow total none first) (pass_from total at first none (left 1))
-          branch true e = unfold pass_over if_fine in (rw (e, pass_over))
-          branch false e = unfold pass_over if_fine in (rw (e, pass_over))
+          branch : (b : Bool) → may_follow total none first ≡ b → pass_over total channel at (first ∷ left 1) ≡ if_true (may_follow total none first) (pass_from total at first none (left 1))
+          branch true e = unfold pass_over if_true in (rw (e, pass_over))
+          branch false e = unfold pass_over if_true in (rw (e, pass_over))
 
       may_first : may_follow total none first ≡ (is_zero (get_or keys 0 (pos 0)) && is_float (get_or keys 1 (pos 0)))
       may_first = unfold may_follow key_value in (ap (λ (b : Bool). b && is_float (get_or keys 1 (pos 0))) (first_fine total (get_or keys 0 (pos 0)) (get_or keys 1 (pos 0)) k.positive k.above))
 
-      pub first_late : (r : Pass) → r.fine ≡ false → is_zero (get_or keys 0 (pos 0)) ≡ false → finished r ≡ pass_over total channel at (rows_at 2 keys 0 count)
-      first_late r e h = not-fine r e ∙ sym (over_first ∙ ap (λ (b : Bool). if_fine b (pass_from total at first none (left 1))) (may_first ∙ ap (λ (b : Bool). b && is_float (get_or keys 1 (pos 0))) h) ∙ unfold if_fine in refl)
+      pub first_late : is_zero (get_or keys 0 (pos 0)) ≡ false → none ≡ pass_over total channel at (rows_at 2 keys 0 count)
+      first_late h = sym (over_first ∙ ap (λ (b : Bool). if_true b (pass_from total at first none (left 1))) (may_first ∙ ap (λ (b : Bool). b && is_float (get_or keys 1 (pos 0))) h) ∙ unfold if_true in refl)
 
-      pub first_wide : (r : Pass) → r.fine ≡ false → is_zero (get_or keys 0 (pos 0)) ≡ true → is_float (get_or keys 1 (pos 0)) ≡ false → finished r ≡ pass_over total channel at (rows_at 2 keys 0 count)
-      first_wide r e h g = not-fine r e ∙ sym (over_first ∙ ap (λ (b : Bool). if_fine b (pass_from total at first none (left 1))) (may_first ∙ ap (λ (b : Bool). b && is_float (get_or keys 1 (pos 0))) h ∙ ap (λ (b : Bool). true && b) g) ∙ unfold if_fine in refl)
+      pub first_wide : is_zero (get_or keys 0 (pos 0)) ≡ true → is_float (get_or keys 1 (pos 0)) ≡ false → none ≡ pass_over total channel at (rows_at 2 keys 0 count)
+      first_wide h g = sym (over_first ∙ ap (λ (b : Bool). if_true b (pass_from total at first none (left 1))) (may_first ∙ ap (λ (b : Bool). b && is_float (get_or keys 1 (pos 0))) h ∙ ap (λ (b : Bool). true && b) g) ∙ unfold if_true in refl)
 
       pub first_on : (p : Pass) → Begun p (get_or keys 1 (pos 0)) → is_zero (get_or keys 0 (pos 0)) ≡ true → is_float (get_or keys 1 (pos 0)) ≡ true → pass_over total channel at (rows_at 2 keys 0 count) ≡ pass_from total at (key_of p) (state_of p) (left 1)
       first_on p b h g =
           over_first
-          ∙ ap (λ (x : Bool). if_fine x (pass_from total at first none (left 1))) (may_first ∙ ap (λ (x : Bool). x && is_float (get_or keys 1 (pos 0))) h ∙ ap (λ (x : Bool). true && x) g)
-          ∙ unfold if_fine in refl
+          ∙ ap (λ (x : Bool). if_true x (pass_from total at first none (left 1))) (may_first ∙ ap (λ (x : Bool). x && is_float (get_or keys 1 (pos 0))) h ∙ ap (λ (x : Bool). true && x) g)
+          ∙ unfold if_true in refl
           ∙ ap (λ (x : Key). pass_from total at x none (left 1)) (sym key)
           ∙ ap (λ (x : Option Fraction). pass_from total at (key_of p) x (left 1)) (sym state)
         where
@@ -114,4 +118,4 @@ module _ (keys : List ℤ) (count : ℕ) (total : ℤ) (at : ℕ) (k : KeyRows k
           key = unfold key_of in (ap (λ (x : ℕ). pos x ∷ p.value ∷ []) b.start ∙ ap (λ (x : ℤ). pos 0 ∷ x ∷ []) b.here ∙ ap (λ (x : ℤ). x ∷ get_or keys 1 (pos 0) ∷ []) (sym (zero_is (get_or keys 0 (pos 0)) h)))
 
           state : state_of p ≡ none
-          state = unfold state_of known_as in (ap (λ (x : Bool). known_as x p.numerator p.denominator) b.unknown)
+          state = unfold state_of known in (ap known b.unknown)

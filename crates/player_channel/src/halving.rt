@@ -14,10 +14,7 @@ fn is_even(x: u64) -> bool
 fn both_even(a: u64, d: u64) -> bool
     ensures { result ≡ both_even a d }
 {
-    if !is_even(a) {
-        return false;
-    }
-    is_even(d)
+    is_even(a) && is_even(d)
 }
 
 // A common factor, and the steps left once it is found.

@@ -6,4 +6,4 @@ mod halving;
 mod line;
 mod pass;
 
-pub use channel::{Sampled, channel_sample};
+pub use channel::{Sample, channel_sample};

@@ -1,23 +1,18 @@
 -- Where the numbers of a vertex and of a texture coordinate stand, by the sections that were found: within the table, at a small index.
-use mathlib.Core.Path.{◌≡◌, refl, ap, sym, ◌∙◌}
+use mathlib.Core.Path.{◌≡◌, ap, ◌∙◌}
 use mathlib.Core.List.{List}
 use mathlib.Core.Bool.{true}
-use Prim.Native.Nat.{ℕ, ◌+◌, ◌*◌, ◌-◌, ◌≤◌, ◌<◌}
-use native.Mathlib.Omega.{arith}
-use lib.IntN.{ℤ, pos, nat_abs}
-use lib.ListN.{length, get_or, take, drop}
-use lib.Seq.{get_or-drop}
+use Prim.Native.Nat.{ℕ, ◌+◌, ◌*◌, ◌≤◌, ◌<◌}
+use lib.IntN.{ℤ, nat_abs}
+use lib.ListN.{length}
 use mir.Syntax.{w64}
 use mir.Val.{SFits, to_z, of_z}
 use mir.Facts.{to_z-of_z}
 use Rattle.table_references.specs.References.{is_row}
 use Rattle.table_counts.specs.declared.counts.FigureCounts.{FigureCounts}
-use Rattle.table_columns.specs.Parts.{number_at}
-use Rattle.table_columns.proofs.Rows.{part-rest}
 use Rattle.table_figure.specs.declared.sections.FigureSections.{FigureSections}
-use Rattle.table_figure.specs.Sections.{points_begin, owners_begin, uvs_begin, faces_begin, figure_sections}
-use Rattle.table_figure.proofs.Indices.{owner-place, point_place, uv-place, owners_place}
-use Rattle.player_spec.specs.Lookups.{owner_at}
+use Rattle.table_figure.specs.Sections.{points_begin, uvs_begin, figure_sections}
+use Rattle.table_figure.proofs.Indices.{point_place, uv-place}
 use Rattle.player_face_tests.proofs.Corners.{row_is}
 use Rattle.table_figure.specs.Internal.Found.{Found}
 

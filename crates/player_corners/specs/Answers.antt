@@ -1,11 +1,18 @@
 -- What a corner that the code answers means.
-use Rattle.std.specs.Prelude.{[], ◌∷◌, ℕ}
+use Rattle.std.specs.Prelude.{List, [], ◌∷◌, ℕ, ℤ, Option as Answer, Some, None}
 use Rattle.std.proofs.Math.Option.{Option, none, some}
 use Rattle.player_spec.specs.Faces.{CornerOf}
-use Rattle.player_corners.specs.declared.corners.Cornered.{Cornered}
-use Rattle.player_corners.specs.declared.corners.Cornered.TheVariants as corners
+use Rattle.player_corners.specs.declared.point.Uv.{Uv}
+use Rattle.player_corners.specs.declared.corners.FaceCorner.{FaceCorner}
 
-unfoldable pub cornered : Cornered → ℕ × ℕ × ℕ × Option CornerOf
-cornered corners.Refused = (21, 0, 0, none)
-cornered (corners.Plain x y z o m) = (0, 0, 0, some (record { position = x ∷ y ∷ z ∷ []; owner = o; uv = none; material = m }))
-cornered (corners.Textured x y z o m u v) = (0, 0, 0, some (record { position = x ∷ y ∷ z ∷ []; owner = o; uv = some (u ∷ v ∷ []); material = m }))
+-- a texture coordinate's two numbers, if there is one
+abbrev pub uv_told : Answer Uv → Option (List ℤ)
+uv_told None = none
+uv_told (Some t) = some (t.u ∷ t.v ∷ [])
+
+abbrev pub corner_named : FaceCorner → CornerOf
+corner_named c = record { position = c.x ∷ c.y ∷ c.z ∷ []; owner = c.owner; uv = uv_told c.uv; material = c.material }
+
+abbrev pub cornered : Answer FaceCorner → ℕ × ℕ × ℕ × Option CornerOf
+cornered None = (21, 0, 0, none)
+cornered (Some c) = (0, 0, 0, some (corner_named c))

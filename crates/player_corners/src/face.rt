@@ -11,10 +11,7 @@ use table_references::{is_index, is_row};
 fn uvs_fine(corners: &[i64], n: usize, used: usize) -> bool
     ensures { result ≡ (all_none corners.now || corners_fine n used corners.now) }
 {
-    if corners_fine(corners, n, 0) {
-        return true;
-    }
-    corners_fine(corners, n, used)
+    corners_fine(corners, n, 0) || corners_fine(corners, n, used)
 }
 
 pub(crate) fn face_sound(row: &[i64], n: FigureCounts) -> bool

@@ -4,4 +4,5 @@ mod corners;
 mod face;
 mod point;
 
-pub use corners::{Cornered, corner};
+pub use corners::{FaceCorner, corner};
+pub use point::Uv;

@@ -8,8 +8,6 @@ use lib.IntN.{ℤ, pos, negsuc}
 use Rattle.text_bytes.specs.Bytes.{bytes}
 use Rattle.text_runs.specs.Runs.{part}
 use Rattle.refusal.specs.Rules.{too_many}
-use Rattle.bac6_text.specs.Rules as bac6
-use Rattle.tra4_text.specs.Rules as tra4
 use Rattle.table_counts.specs.declared.counts.MovementCounts.{MovementCounts}
 use Rattle.table_counts.specs.declared.counts.FigureCounts.{FigureCounts}
 use Rattle.table_movement.specs.Sections.{few_in_movement, keys_begin, patterns_begin, movement_end, holds_movement}

@@ -4,46 +4,28 @@ ghost use Rattle.player_spec.specs.Answers.{numbered};
 ghost use Rattle.player_label.specs.Labels.{label_in, or_empty};
 ghost use Rattle.player_label.specs.Internal.Answers.{named};
 
-use player_names::{Found, figure_name, movement_name};
+use player_names::{figure_name, movement_name};
 use table_counts::{FigureCounts, MovementCounts};
 use text_parts::part;
 
-// Which text holds the name, and from where to where; or refusal 21.
-#[derive(Clone, Copy)]
-pub(crate) enum Named {
-    Refused,
-    Figure { start: usize, end: usize },
-    Movement { start: usize, end: usize },
-}
-
-fn find(
-    figure: &[u8],
+// Both names have to be there; none is refusal 21.
+fn find<'a>(
+    figure: &'a [u8],
     table: &[i64],
     n: FigureCounts,
-    movement: &[u8],
+    movement: &'a [u8],
     moves: &[i64],
     m: MovementCounts,
     bone: usize,
-) -> Named
-    ensures { named figure.now movement.now result ≡ label_in figure.now n table.now movement.now m moves.now bone }
+) -> Option<&'a [u8]>
+    ensures { named result ≡ label_in figure.now n table.now movement.now m moves.now bone }
 {
-    let Found::At { start, end } = figure_name(figure, table, n, bone) else {
-        return Named::Refused;
-    };
-    let Found::At {
-        start: from,
-        end: to,
-    } = movement_name(movement, moves, m, bone)
-    else {
-        return Named::Refused;
-    };
-    if from < to {
-        return Named::Movement {
-            start: from,
-            end: to,
-        };
+    let f = figure_name(figure, table, n, bone)?;
+    let v = movement_name(movement, moves, m, bone)?;
+    if v.start < v.end {
+        return Some(part(movement, v.start, v.end));
     }
-    Named::Figure { start, end }
+    Some(part(figure, f.start, f.end))
 }
 
 // A bone's name: a part of one of the two lent texts, and an empty one at 21.
@@ -58,14 +40,10 @@ pub fn label<'a>(
 ) -> &'a [u8]
     ensures { result.now ≡ or_empty (label_in figure.now n table.now movement.now m moves.now bone) }
 {
-    match find(figure, table, n, movement, moves, m, bone) {
-        Named::Refused => part(figure, 0, 0),
-        Named::Figure { start, end } => part(figure, start, end),
-        Named::Movement { start, end } => part(movement, start, end),
-    }
+    find(figure, table, n, movement, moves, m, bone).unwrap_or(&figure[..0])
 }
 
-// Label's number: 0 or 21.
+// Label's number, 0 or 21: a number of document 01, as the clause says, and no enum.
 pub fn label_number(
     figure: &[u8],
     table: &[i64],
@@ -78,8 +56,7 @@ pub fn label_number(
     ensures { result ≡ (numbered (label_in figure.now n table.now movement.now m moves.now bone)).0 }
 {
     match find(figure, table, n, movement, moves, m, bone) {
-        Named::Refused => 21,
-        Named::Figure { start, end } => 0,
-        Named::Movement { start, end } => 0,
+        Some(_) => 0,
+        None => 21,
     }
 }

@@ -2,8 +2,9 @@
 use mathlib.Core.Path.{◌≡◌, refl, ap, ◌∙◌}
 use mathlib.Core.List.{List}
 use mathlib.Core.Bool.{Bool, true, false, ◌&&◌}
+use mathlib.Core.Logic.{◌⊎◌, inl, inr}
 use mathlib.Core.Option.{Option, none, some}
-use Prim.Native.Nat.{ℕ, ◌+◌, ◌*◌, ◌^◌, ◌≤◌, ◌<◌}
+use Prim.Native.Nat.{ℕ, ◌+◌, ◌*◌, ◌≤◌, ◌<◌}
 use native.Mathlib.Omega.{arith}
 use borrow.Author.Tests.{ltb-true, ltb-false, leb-true, le-leb, lt-leb}
 use lib.Dec.{leb, ltb}
@@ -11,8 +12,6 @@ use lib.IntN.{ℤ, pos, negsuc, nat_abs}
 use lib.ListN.{length, get_or, drop, length-take, length-drop}
 use lib.Seq.{get_or-take, get_or-drop}
 use lib.Signed.{lt_z}
-use mir.Syntax.{w64}
-use mir.Val.{Fits, SFits}
 use Rattle.text_numerals.proofs.Numerals.{and_true}
 use Rattle.table_counts.specs.declared.counts.MovementCounts.{MovementCounts}
 use Rattle.table_counts.specs.declared.counts.FigureCounts.{FigureCounts}
@@ -27,20 +26,6 @@ use Rattle.table_movement.proofs.Mosts.{movement-room}
 use Rattle.player_names.specs.Names.{is_name, name_span, figure_span, movement_span, if_true, figure_named, movement_named}
 
 -- ---- the tests on a pair
-
-natural_small : (z : ℤ) → SFits w64 z → lt_z z (pos 0) ≡ false → nat_abs z < 2 ^ 63
-natural_small (pos n) f e = let h = f.sfits in omega arith
-natural_small (negsuc n) f e = let z : ◌≡◌ {A = ℕ} 0 1 = cc in absurd (omega (arith, z))
-
-at_most : (z : ℤ) → lt_z z (pos 0) ≡ false → lt_z (pos 255) z ≡ false → nat_abs z ≤ 255
-at_most (pos n) e h = ltb-false 255 n h
-at_most (negsuc n) e h = let z : ◌≡◌ {A = ℕ} 0 1 = cc in absurd (omega (arith, z))
-
-pub end_fits : (place long : ℤ) → SFits w64 place → lt_z place (pos 0) ≡ false → lt_z long (pos 0) ≡ false → lt_z (pos 255) long ≡ false → Fits w64 (nat_abs place + nat_abs long)
-end_fits place long f d e g =
-    let p : nat_abs place < 2 ^ 63 = natural_small place f d in
-    let l : nat_abs long ≤ 255 = at_most long e g in
-    record { fits = omega arith }
 
 module _ (size : ℕ) where
   pub place-below : (place long : ℤ) → lt_z place (pos 0) ≡ true → none ≡ name_span size place long
@@ -112,16 +97,17 @@ number_in_lem : (table : List ℤ) (i w k : ℕ) → k < w → get_or (numbers_a
 unfolding numbers_at number_at
 number_in_lem table i w k h = get_or-take w (drop i table) k (pos 0) h ∙ get_or-drop i table k (pos 0)
 
+-- such a row is whole, where it is there
+row_wide : (b : Bool) (table : List ℤ) (i w : ℕ) → (b ≡ true → i + w ≤ length table) → (length (row_if b (numbers_at table i w)) ≡ 0) ⊎ (length (row_if b (numbers_at table i w)) ≡ w)
+unfolding row_if
+row_wide true table i w within = inr (numbers-length table i w (within refl))
+row_wide false table i w within = inl refl
+
 -- a test and a width above 0, and the pair of a row that begins at i
 module _ (b : Bool) (table : List ℤ) (i w : ℕ) (some-width : 0 < w) (within : b ≡ true → i + w ≤ length table) where
   pub no_row : (s : Option (ℕ × ℕ)) → length (row_if b (numbers_at table i w)) ≡ 0 → none ≡ if_true b s
   unfolding if_true
   no_row s h = rw (row_none b (numbers_at table i w) (λ e. let l = numbers-length table i w (within e) in omega arith) h)
-
-  pub row-length : (length (row_if b (numbers_at table i w)) ≡ 0 → ⊥) → length (row_if b (numbers_at table i w)) ≡ w
-  row-length h =
-      let r = row_some b (numbers_at table i w) h in
-      ap length r.1 ∙ numbers-length table i w (within r.0)
 
   pub row-pair : (size k : ℕ) → k + 1 < w → (length (row_if b (numbers_at table i w)) ≡ 0 → ⊥) → name_span size (get_or (row_if b (numbers_at table i w)) k (pos 0)) (get_or (row_if b (numbers_at table i w)) (k + 1) (pos 0)) ≡ if_true b (name_span size (number_at table (i + k)) (number_at table (i + k + 1)))
   unfolding if_true
@@ -142,16 +128,20 @@ movement-within m table bone e =
     let l = ltb-true bone m.bones h.1 in
     omega arith
 
+pub figure_wide : (n : FigureCounts) (table : List ℤ) (bone : ℕ) → (length (figure_bone n table bone) ≡ 0) ⊎ (length (figure_bone n table bone) ≡ 14)
+unfolding figure_bone
+figure_wide n table bone = row_wide _ table _ 14 (figure-within n table bone)
+
+pub movement_wide : (m : MovementCounts) (table : List ℤ) (bone : ℕ) → (length (movement_bone m table bone) ≡ 0) ⊎ (length (movement_bone m table bone) ≡ 22)
+unfolding movement_bone
+movement_wide m table bone = row_wide _ table _ 22 (movement-within m table bone)
+
 module _ (size : ℕ) (n : FigureCounts) (table : List ℤ) (bone : ℕ) where
   pub figure_none : length (figure_bone n table bone) ≡ 0 → none ≡ figure_named size n table bone
   unfolding figure_bone figure_named
   figure_none h = no_row _ table _ 14 (omega arith) (figure-within n table bone) _ h
 
   module _ (there : length (figure_bone n table bone) ≡ 0 → ⊥) where
-    pub figure-length : length (figure_bone n table bone) ≡ 14
-    unfolding figure_bone
-    figure-length = row-length _ table _ 14 (omega arith) (figure-within n table bone) there
-
     pub figure-pair : name_span size (get_or (figure_bone n table bone) 12 (pos 0)) (get_or (figure_bone n table bone) 13 (pos 0)) ≡ figure_named size n table bone
     unfolding figure_bone figure_named figure_span
     figure-pair = row-pair _ table _ 14 (omega arith) (figure-within n table bone) size 12 (omega arith) there
@@ -162,10 +152,6 @@ module _ (size : ℕ) (m : MovementCounts) (table : List ℤ) (bone : ℕ) where
   movement_none h = no_row _ table _ 22 (omega arith) (movement-within m table bone) _ h
 
   module _ (there : length (movement_bone m table bone) ≡ 0 → ⊥) where
-    pub movement-length : length (movement_bone m table bone) ≡ 22
-    unfolding movement_bone
-    movement-length = row-length _ table _ 22 (omega arith) (movement-within m table bone) there
-
     pub movement-pair : name_span size (get_or (movement_bone m table bone) 0 (pos 0)) (get_or (movement_bone m table bone) 1 (pos 0)) ≡ movement_named size m table bone
     unfolding movement_bone movement_named movement_span
     movement-pair = row-pair _ table _ 22 (omega arith) (movement-within m table bone) size 0 (omega arith) there

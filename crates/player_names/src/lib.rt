@@ -2,4 +2,4 @@
 // Where a bone's name stands in its text.
 mod names;
 
-pub use names::{Found, figure_name, movement_name};
+pub use names::{NameSpan, figure_name, movement_name};

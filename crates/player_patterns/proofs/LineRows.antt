@@ -6,9 +6,8 @@ use mathlib.Core.Option.{Option, none, some}
 use Prim.Native.Nat.{ℕ, zero, suc, ◌+◌, ◌*◌, ◌-◌, ◌≤◌, ◌<◌}
 use native.Mathlib.Omega.{arith}
 use native.Mathlib.Numerals.{add-one}
-use borrow.Author.Tests.{eq-eqb, ne_eqb}
 use lib.Dec.{leb, eqb}
-use lib.IntN.{ℤ, pos, nat_abs}
+use lib.IntN.{ℤ, pos}
 use lib.ListN.{length, get_or}
 use Rattle.tra4_text.specs.Movement.{Pattern, frame_of}
 use Rattle.tra4_text.specs.Rules.{is_zero}
@@ -52,28 +51,6 @@ module _ (rows : List ℤ) (count : ℕ) where
   left-all : rows_at 3 rows 0 count ≡ left 0
   left-all = ap (λ (n : ℕ). rows_at 3 rows 0 n) (let z : count ≡ count - 0 = omega arith in z)
 
-  -- ---- the line of a row, or none at the count
-
-  unfoldable pub best_in : ℕ → Option Line
-  best_in best = elim (eqb best count) [ true ↦ none | false ↦ some (best, line_at rows (best * 3)) ]
-
-  pub best_none : (best : ℕ) → best ≡ count → best_in best ≡ none
-  unfolding best_in
-  best_none best e = rw (eq-eqb best count e, best_in)
-
-  pub best_some : (best : ℕ) → (best ≡ count → ⊥) → best_in best ≡ some (best, line_at rows (best * 3))
-  unfolding best_in
-  best_some best h = rw (ne_eqb best count h, best_in)
-
-  -- its frame
-  pub best_frame_lem : 0 ≡ best_frame (best_in count)
-  unfolding best_frame
-  best_frame_lem = rw (best_none count refl)
-
-  pub here_frame : (i : ℕ) → i < count → nat_abs (get_or rows (i * 3) (pos 0)) ≡ best_frame (best_in i)
-  unfolding best_frame line_frame frame_of
-  here_frame i h = rw (best_some i (λ e. omega arith))
-
   -- ---- the pass
 
   module _ (total : ℤ) (groups g at : ℕ) where
@@ -81,28 +58,28 @@ module _ (rows : List ℤ) (count : ℕ) where
     unfoldable pub from : ℕ → Bool → Option Line → Option (Option Line)
     from i started best = lines_from total groups g at i started best (left i)
 
-    pub begun : decided_in total groups g at (rows_at 3 rows 0 count) ≡ answer_by (from 0 (eqb count 0) (best_in count))
+    pub begun : decided_in total groups g at (rows_at 3 rows 0 count) ≡ answer_by (from 0 (eqb count 0) none)
     unfolding from lines_over
-    begun = pass_is total groups g at (rows_at 3 rows 0 count) ∙ rw (rows_count rows 0 count, best_none count refl, left-all)
+    begun = pass_is total groups g at (rows_at 3 rows 0 count) ∙ rw (rows_count rows 0 count, left-all)
 
     pub ended : (started : Bool) (best : Option Line) (i : ℕ) → count ≤ i → from i started best ≡ only_if started best
     unfolding from
     ended started best i h = ap (lines_from total groups g at i started best) (left_none i h) ∙ unfold lines_from in refl
 
-    module _ (r : count * 3 ≤ length rows) (started : Bool) (i best : ℕ) (h : i < count) where
+    module _ (r : count * 3 ≤ length rows) (started : Bool) (i : ℕ) (best : Option Line) (h : i < count) where
       abbrev this : Pattern
       this = line_at rows (i * 3)
 
-      pub turn_fault : line_fine total groups this ≡ false → from i started (best_in best) ≡ none
+      pub turn_fault : line_fine total groups this ≡ false → from i started best ≡ none
       unfolding from
-      turn_fault e = ap (lines_from total groups g at i started (best_in best)) (left_more r i h) ∙ pass_fault total groups g at i started (best_in best) _ _ e
+      turn_fault e = ap (lines_from total groups g at i started best) (left_more r i h) ∙ pass_fault total groups g at i started best _ _ e
 
-      turn_on : line_fine total groups this ≡ true → from i started (best_in best) ≡ from (i + 1) (started || is_zero (get_or rows (i * 3) (pos 0))) (better g at i (best_in best) this)
+      turn_on : line_fine total groups this ≡ true → from i started best ≡ from (i + 1) (started || is_zero (get_or rows (i * 3) (pos 0))) (better g at i best this)
       unfolding from frame_of
-      turn_on e = ap (lines_from total groups g at i started (best_in best)) (left_more r i h) ∙ pass_on total groups g at i started (best_in best) _ _ e ∙ rw (add-one i)
+      turn_on e = ap (lines_from total groups g at i started best) (left_more r i h) ∙ pass_on total groups g at i started best _ _ e ∙ rw (add-one i)
 
-      pub turn_taken : line_fine total groups this ≡ true → (applies g at this && leb (best_frame (best_in best)) (line_frame this)) ≡ true → from i started (best_in best) ≡ from (i + 1) (started || is_zero (get_or rows (i * 3) (pos 0))) (best_in i)
-      turn_taken e k = turn_on e ∙ rw (taken g at i (best_in best) this k, best_some i (λ d. omega arith))
+      pub turn_taken : line_fine total groups this ≡ true → (applies g at this && leb (best_frame best) (line_frame this)) ≡ true → from i started best ≡ from (i + 1) (started || is_zero (get_or rows (i * 3) (pos 0))) (some (i, this))
+      turn_taken e k = turn_on e ∙ rw (taken g at i best this k)
 
-      pub turn_kept : line_fine total groups this ≡ true → (applies g at this && leb (best_frame (best_in best)) (line_frame this)) ≡ false → from i started (best_in best) ≡ from (i + 1) (started || is_zero (get_or rows (i * 3) (pos 0))) (best_in best)
-      turn_kept e k = turn_on e ∙ rw (kept g at i (best_in best) this k)
+      pub turn_kept : line_fine total groups this ≡ true → (applies g at this && leb (best_frame best) (line_frame this)) ≡ false → from i started best ≡ from (i + 1) (started || is_zero (get_or rows (i * 3) (pos 0))) best
+      turn_kept e k = turn_on e ∙ rw (kept g at i best this k)

@@ -11,7 +11,6 @@ use lib.IntN.{ℤ, pos, negsuc, nat_abs}
 use mir.Syntax.{w64}
 use mir.Val.{SFits, of_z}
 use Rattle.text_numerals.proofs.Numerals.{and_true}
-use Rattle.signed.proofs.Tests.{and3}
 use Rattle.table_references.specs.References.{is_row}
 use Rattle.tra4_text.specs.Movement.{Pattern, frame_of, group_of}
 use Rattle.tra4_text.specs.Rules.{is_zero, pattern_fine}
@@ -29,9 +28,18 @@ line_naturals total groups f g flag e =
     let p = and_true _ _ (and_true _ _ (and_true _ _ e).0).0 in
     (frame_is total f p.0, from-zero_on g p.1)
 
-pub line_split : (total : ℤ) (groups : ℕ) (f g flag : ℤ) → line_fine total groups (f ∷ g ∷ flag ∷ []) ≡ (pattern_fine total (f ∷ g ∷ flag ∷ []) && (is_row groups g && is_row 2 flag))
-unfolding line_fine group_of
-line_split total groups f g flag = and3 (pattern_fine total (f ∷ g ∷ flag ∷ [])) (is_row groups g) (is_row 2 flag)
+module _ (total : ℤ) (groups : ℕ) (f g flag : ℤ) where
+  pub pattern_bad : pattern_fine total (f ∷ g ∷ flag ∷ []) ≡ false → false ≡ line_fine total groups (f ∷ g ∷ flag ∷ [])
+  unfolding line_fine
+  pattern_bad h = rw h
+
+  pub group_bad : pattern_fine total (f ∷ g ∷ flag ∷ []) ≡ true → is_row groups g ≡ false → false ≡ line_fine total groups (f ∷ g ∷ flag ∷ [])
+  unfolding line_fine group_of
+  group_bad h e = rw (h, e)
+
+  pub by_flag : pattern_fine total (f ∷ g ∷ flag ∷ []) ≡ true → is_row groups g ≡ true → is_row 2 flag ≡ line_fine total groups (f ∷ g ∷ flag ∷ [])
+  unfolding line_fine group_of
+  by_flag h e = rw (h, e)
 
 -- the flag by its bits
 zero-size : (z : ℤ) → is_zero z ≡ eqb (nat_abs z) 0

@@ -3,4 +3,4 @@
 mod deciding;
 mod line;
 
-pub use deciding::{Deciding, deciding_line};
+pub use deciding::{Line, deciding_line};

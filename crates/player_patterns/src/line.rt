@@ -1,6 +1,5 @@
 // One pattern line.
-ghost use Rattle.std.specs.Prelude.{◌≡◌, [], ◌∷◌, ◌&&◌, ◌||◌, leb, ℤ, pos, nat_abs};
-ghost use Rattle.tra4_text.specs.Rules.{is_zero};
+ghost use Rattle.std.specs.Prelude.{◌≡◌, [], ◌∷◌, ◌&&◌, leb, ℤ, pos, nat_abs};
 ghost use Rattle.player_spec.specs.Deciding.{line_frame, applies};
 ghost use Rattle.player_patterns.specs.Internal.Pass.{line_fine};
 
@@ -11,23 +10,7 @@ use tra4_tests::pattern_fits;
 pub(crate) fn line_fine(total: i64, groups: usize, f: i64, g: i64, flag: i64) -> bool
     ensures { result ≡ line_fine total groups (f ∷ g ∷ flag ∷ []) }
 {
-    if !pattern_fits(total, f, g) {
-        return false;
-    }
-    if !is_row(groups, g) {
-        return false;
-    }
-    is_row(2, flag)
-}
-
-// Whether a line with frame 0 was met, once this one is.
-pub(crate) fn starts(started: bool, f: i64) -> bool
-    ensures { result ≡ (started || is_zero f) }
-{
-    if started {
-        return true;
-    }
-    f == 0
+    pattern_fits(total, f, g) && is_row(groups, g) && is_row(2, flag)
 }
 
 // Whether a line decides over one at the frame `best`: it is of the group, not after `at`, and not before `best`.
@@ -35,12 +18,6 @@ pub(crate) fn replaces(f: i64, g: i64, group: usize, at: usize, best: usize) -> 
     requires { (f ≡ pos (nat_abs f)) × (g ≡ pos (nat_abs g)) }
     ensures { (flag : ℤ) → result ≡ (applies group at (f ∷ g ∷ flag ∷ []) && leb best (line_frame (f ∷ g ∷ flag ∷ []))) }
 {
-    if g as usize != group {
-        return false;
-    }
     let frame = f as usize;
-    if at < frame {
-        return false;
-    }
-    best <= frame
+    g as usize == group && frame <= at && best <= frame
 }

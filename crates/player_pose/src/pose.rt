@@ -9,8 +9,9 @@ const POSE: [i64; 10] = [0, 0, 0, 100000000, 100000000, 100000000, 0, 0, 1000000
 pub fn standing(channel: usize) -> i64
     ensures { result ≡ standing_of channel }
 {
-    if 10 <= channel {
-        return 0;
+    if channel < POSE.len() {
+        POSE[channel]
+    } else {
+        0
     }
-    POSE[channel]
 }

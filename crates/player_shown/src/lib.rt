@@ -2,4 +2,4 @@
 // Whether a face is shown at a frame.
 mod showing;
 
-pub use showing::{Visibility, shown};
+pub use showing::shown;

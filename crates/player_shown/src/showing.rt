@@ -4,18 +4,10 @@ ghost use Rattle.player_spec.specs.Lookups.{shown_in};
 ghost use Rattle.player_spec.specs.Answers.{numbered};
 ghost use Rattle.player_shown.specs.Answers.{showed};
 
-use player_why::{Explained, why};
+use player_why::{Reason, why};
 use table_counts::{FigureCounts, MovementCounts};
 
-// Whether it is shown, or refusal 21.
-#[derive(Clone, Copy)]
-pub enum Visibility {
-    Refused,
-    Shown,
-    Hidden,
-}
-
-// Whether a face is shown at a frame, in any tables with any counts: it is where the reason says so.
+// Whether a face is shown at a frame, in any tables with any counts: it is where the reason says so. None is refusal 21.
 pub fn shown(
     table: &[i64],
     n: FigureCounts,
@@ -23,14 +15,9 @@ pub fn shown(
     m: MovementCounts,
     face: usize,
     at: usize,
-) -> Visibility
+) -> Option<bool>
     ensures { showed result ≡ numbered (shown_in n table.now m moves.now face at) }
 {
-    match why(table, n, moves, m, face, at) {
-        Explained::Refused => Visibility::Refused,
-        Explained::Shown => Visibility::Shown,
-        Explained::Corner { .. } => Visibility::Hidden,
-        Explained::Unset => Visibility::Hidden,
-        Explained::Line { .. } => Visibility::Hidden,
-    }
+    let reason = why(table, n, moves, m, face, at)?;
+    Some(matches!(reason, Reason::Shown))
 }

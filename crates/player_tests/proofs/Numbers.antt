@@ -1,68 +1,49 @@
 -- What the code's tests on an `i64` say of the definitions' tests, by the number's sign.
 use mathlib.Core.Path.{◌≡◌, refl, sym, ◌∙◌}
 use mathlib.Core.Bool.{Bool, true, false, true≢false}
-use Prim.Native.Nat.{ℕ, zero, suc, ◌+◌, ◌-◌, ◌≤◌, ◌<◌}
+use Prim.Native.Nat.{ℕ, zero, suc, ◌+◌, ◌≤◌, ◌<◌}
 use native.Mathlib.Omega.{arith}
 use borrow.Author.Tests.{ltb-true, ltb-false, leb-true, leb-false, le-leb, lt-leb}
 use lib.Dec.{leb, ltb}
 use lib.IntN.{ℤ, pos, negsuc, nat_abs}
-use lib.Signed.{lt_z}
+use lib.Signed.{le_z, lt_z}
 use Rattle.tra4_text.specs.Rules.{total_fault, is_zero}
 use Rattle.refusal.specs.Faults.{is_clear}
 use Rattle.player_spec.specs.Lookups.{is_float, is_asked, is_range}
 use Rattle.text_numerals.specs.Numbers.{in_form}
 use Rattle.tra4_text.proofs.Zero.{zero_is}
 
--- ---- a number of at least one
-
-pub some_number : (z : ℤ) → lt_z z (pos 1) ≡ false → z ≡ pos (nat_abs z)
-some_number (pos n) e = refl
-some_number (negsuc n) e = let z : ◌≡◌ {A = ℕ} 0 1 = cc in absurd (omega (arith, z))
-
 -- ---- a total of frames
 
 module _ (at : ℕ) where
-  pub asked_low : (z : ℤ) → lt_z z (pos 1) ≡ true → is_asked z at ≡ false
+  pub asked_low : (z : ℤ) → le_z (pos 1) z ≡ false → false ≡ is_asked z at
   unfolding is_asked total_fault is_clear
-  asked_low (pos n) e = rw (lt-leb 1 n (ltb-true n 1 e))
+  asked_low (pos n) e = rw e
   asked_low (negsuc n) e = refl
 
-  pub asked_high : (z : ℤ) → lt_z z (pos 1) ≡ false → lt_z (pos 32767) z ≡ true → is_asked z at ≡ false
+  pub asked_high : (z : ℤ) → le_z (pos 1) z ≡ true → le_z z (pos 32767) ≡ false → false ≡ is_asked z at
   unfolding is_asked total_fault is_clear
-  asked_high (pos n) e h = rw (le-leb 1 n (let l = ltb-false n 1 e in omega arith), lt-leb n 32767 (ltb-true 32767 n h))
+  asked_high (pos n) e h = rw (e, h)
   asked_high (negsuc n) e h = refl
 
-  pub asked_fine : (z : ℤ) → lt_z z (pos 1) ≡ false → lt_z (pos 32767) z ≡ false → is_asked z at ≡ ltb at (nat_abs z)
+  pub asked_fine : (z : ℤ) → le_z (pos 1) z ≡ true → le_z z (pos 32767) ≡ true → ltb at (nat_abs z) ≡ is_asked z at
   unfolding is_asked total_fault is_clear
-  asked_fine (pos n) e h = rw (le-leb 1 n (let l = ltb-false n 1 e in omega arith), le-leb n 32767 (ltb-false 32767 n h))
-  asked_fine (negsuc n) e h = let z : ◌≡◌ {A = ℕ} 0 1 = cc in absurd (omega (arith, z))
+  asked_fine (pos n) e h = rw (e, h)
+  asked_fine (negsuc n) e h = absurd (true≢false (sym e))
 
   pub asked_total : (z : ℤ) → is_asked z at ≡ true → (z ≡ pos (nat_abs z)) × (0 < nat_abs z) × (nat_abs z ≤ 32767)
-  asked_total z h = go (lt_z z (pos 1)) (lt_z (pos 32767) z) refl refl
+  asked_total z h = go (le_z (pos 1) z) (le_z z (pos 32767)) refl refl
     where
-      sizes : (y : ℤ) → lt_z y (pos 1) ≡ false → lt_z (pos 32767) y ≡ false → (y ≡ pos (nat_abs y)) × (0 < nat_abs y) × (nat_abs y ≤ 32767)
-      sizes (pos n) e f = (refl, (let l = ltb-false n 1 e in omega arith), ltb-false 32767 n f)
-      sizes (negsuc n) e f = let z : ◌≡◌ {A = ℕ} 0 1 = cc in absurd (omega (arith, z))
+      sizes : (y : ℤ) → le_z (pos 1) y ≡ true → le_z y (pos 32767) ≡ true → (y ≡ pos (nat_abs y)) × (0 < nat_abs y) × (nat_abs y ≤ 32767)
+      sizes (pos n) e f = (refl, leb-true 1 n e, leb-true n 32767 f)
+      sizes (negsuc n) e f = absurd (true≢false (sym e))
 
-      go : (u v : Bool) → lt_z z (pos 1) ≡ u → lt_z (pos 32767) z ≡ v → (z ≡ pos (nat_abs z)) × (0 < nat_abs z) × (nat_abs z ≤ 32767)
-      go true v e f = absurd (true≢false (sym h ∙ asked_low z e))
-      go false true e f = absurd (true≢false (sym h ∙ asked_high z e f))
-      go false false e f = sizes z e f
+      go : (u v : Bool) → le_z (pos 1) z ≡ u → le_z z (pos 32767) ≡ v → (z ≡ pos (nat_abs z)) × (0 < nat_abs z) × (nat_abs z ≤ 32767)
+      go false v e f = absurd (true≢false (sym h ∙ sym (asked_low z e)))
+      go true false e f = absurd (true≢false (sym h ∙ sym (asked_high z e f)))
+      go true true e f = sizes z e f
 
 -- ---- a range
-
-pub range-first : (n : ℕ) (f c : ℤ) → lt_z f (pos 0) ≡ true → is_range n f c ≡ false
-unfolding is_range
-range-first n (pos f) c e = absurd (let l = ltb-true f 0 e in omega arith)
-range-first n (negsuc f) (pos zero) e = refl
-range-first n (negsuc f) (pos (suc c)) e = refl
-range-first n (negsuc f) (negsuc c) e = refl
-
-pub range_count : (n : ℕ) (f c : ℤ) → lt_z c (pos 0) ≡ true → is_range n f c ≡ false
-unfolding is_range
-range_count n f (pos c) e = absurd (let l = ltb-true c 0 e in omega arith)
-range_count n (pos f) (negsuc c) e = refl
-range_count n (negsuc f) (negsuc c) e = refl
 
 -- of no rows
 pub range_none : (n : ℕ) (f c : ℤ) → is_zero c ≡ true → is_zero f ≡ is_range n f c
@@ -74,23 +55,26 @@ range_none n f c e = rw (zero_is c e) (go f)
     go (negsuc z) = refl
 
 module _ (n : ℕ) where
-  pub range-beyond : (f c : ℤ) → lt_z f (pos 0) ≡ false → is_zero c ≡ false → n < nat_abs f → is_range n f c ≡ false
+  pub range-below : (f c : ℤ) → is_zero c ≡ false → le_z (pos 0) f ≡ false → false ≡ is_range n f c
   unfolding is_range is_zero
-  range-beyond (pos f) (pos zero) e h l = absurd (true≢false h)
-  range-beyond (pos f) (pos (suc c)) e h l = lt-leb (f + suc c) n (omega arith)
-  range-beyond (pos f) (negsuc c) e h l = refl
-  range-beyond (negsuc f) c e h l = let z : ◌≡◌ {A = ℕ} 0 1 = cc in absurd (omega (arith, z))
+  range-below (pos f) c h e = absurd (true≢false (sym (le-leb 0 f (omega arith)) ∙ e))
+  range-below (negsuc f) (pos zero) h e = absurd (true≢false h)
+  range-below (negsuc f) (pos (suc c)) h e = refl
+  range-below (negsuc f) (negsuc c) h e = refl
 
-  pub range-within : (f c : ℤ) → lt_z f (pos 0) ≡ false → lt_z c (pos 0) ≡ false → is_zero c ≡ false → nat_abs f ≤ n → is_range n f c ≡ leb (nat_abs c) (n - nat_abs f)
+  pub range_count : (f c : ℤ) → is_zero c ≡ false → lt_z (pos 0) c ≡ false → false ≡ is_range n f c
   unfolding is_range is_zero
-  range-within (pos f) (pos zero) e h z l = absurd (true≢false z)
-  range-within (pos f) (pos (suc c)) e h z l = go (leb (suc c) (n - f)) refl
-    where
-      go : (v : Bool) → leb (suc c) (n - f) ≡ v → leb (f + suc c) n ≡ leb (suc c) (n - f)
-      go true o = rw o (le-leb (f + suc c) n (let m = leb-true (suc c) (n - f) o in omega arith))
-      go false o = rw o (lt-leb (f + suc c) n (let m = leb-false (suc c) (n - f) o in omega arith))
-  range-within (pos f) (negsuc c) e h z l = absurd (true≢false h)
-  range-within (negsuc f) c e h z l = absurd (true≢false e)
+  range_count f (pos zero) h e = absurd (true≢false h)
+  range_count f (pos (suc c)) h e = absurd (let l = ltb-false 0 (suc c) e in omega arith)
+  range_count (pos f) (negsuc c) h e = refl
+  range_count (negsuc f) (negsuc c) h e = refl
+
+  pub range-end : (f c : ℤ) → le_z (pos 0) f ≡ true → lt_z (pos 0) c ≡ true → leb (nat_abs f + nat_abs c) n ≡ is_range n f c
+  unfolding is_range
+  range-end (pos f) (pos zero) e h = absurd (let l = ltb-true 0 0 h in omega arith)
+  range-end (pos f) (pos (suc c)) e h = refl
+  range-end (pos f) (negsuc c) e h = absurd (true≢false (sym h))
+  range-end (negsuc f) c e h = absurd (true≢false (sym e))
 
 -- ---- a float, by its size
 

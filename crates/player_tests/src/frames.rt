@@ -9,8 +9,5 @@ use tra4_tests::is_frame;
 pub fn follows(total: i64, before: usize, f: i64) -> bool
     ensures { (v : ℤ) → result ≡ key_fine total (some (pos before)) (f ∷ v ∷ []) }
 {
-    if !is_frame(total, f) {
-        return false;
-    }
-    before < f as usize
+    is_frame(total, f) && before < f as usize
 }

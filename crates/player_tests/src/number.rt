@@ -13,11 +13,5 @@ pub fn is_float(z: i64) -> bool
 pub fn is_asked(total: i64, at: usize) -> bool
     ensures { result ≡ is_asked total at }
 {
-    if total < 1 {
-        return false;
-    }
-    if 32767 < total {
-        return false;
-    }
-    at < total as usize
+    1 <= total && total <= 32767 && at < total as usize
 }

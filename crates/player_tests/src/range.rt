@@ -6,19 +6,8 @@ ghost use Rattle.player_spec.specs.Lookups.{is_range};
 pub fn is_range(n: usize, first: i64, count: i64) -> bool
     ensures { result ≡ is_range n first count }
 {
-    if first < 0 {
-        return false;
-    }
-    if count < 0 {
-        return false;
-    }
     if count == 0 {
         return first == 0;
     }
-    let f = first as usize;
-    let c = count as usize;
-    if n < f {
-        return false;
-    }
-    c <= n - f
+    0 <= first && 0 < count && first as usize + count as usize <= n
 }

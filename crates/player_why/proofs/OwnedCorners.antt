@@ -2,11 +2,9 @@
 use mathlib.Core.Path.{◌≡◌, refl, ap, sym, ◌∙◌}
 use mathlib.Core.List.{List, [], ◌∷◌, map}
 use mathlib.Core.Bool.{Bool, true, false, ◌&&◌}
-use mathlib.Core.Option.{Option, none, some}
-use Prim.Native.Nat.{ℕ, zero, suc, ◌-◌, ◌≤◌, ◌<◌}
+use mathlib.Core.Option.{none, some}
+use Prim.Native.Nat.{ℕ, zero, suc, ◌≤◌, ◌<◌}
 use native.Mathlib.Omega.{arith}
-use borrow.Author.Tests.{eq-eqb, ne_eqb}
-use lib.Dec.{eqb}
 use lib.IntN.{ℤ, pos, nat_abs}
 use lib.ListN.{length, get_or, take, drop, length-map, length-take}
 use lib.Seq.{drop-cons, drop-length, get_or-take}
@@ -16,7 +14,8 @@ use Rattle.table_counts.specs.declared.counts.FigureCounts.{FigureCounts}
 use Rattle.player_spec.specs.Reasons.{first_unowned}
 use Rattle.player_spec.proofs.Reasons.{first-here, first-after, map_at}
 use Rattle.player_spec.specs.Lookups.{only_if, size_fine, corners_fine, owner_at, owners_fine, corner_owners}
-use Rattle.player_why.specs.Internal.Rows.{owned_in, row_owned}
+use Rattle.std.specs.Prelude.{Option as Answer, Some, None}
+use Rattle.player_why.specs.Internal.Rows.{corner_told, owned_in, row_owned}
 
 -- ---- the first without a bone, from an index of the owners on
 
@@ -30,18 +29,6 @@ module _ (os : List ℤ) (i : ℕ) where
 
   owned_here : i < length os → is_none (get_or os i (pos 0)) ≡ false → first_unowned i (drop i os) ≡ first_unowned (suc i) (drop (suc i) os)
   owned_here h e = rw (drop-cons os i (pos 0) h) (first-after i _ _ e)
-
--- how the code holds it: so many corners where there is none
-unfoldable pub found : ℕ → ℕ → Option ℕ
-found used first = elim (eqb first used) [ true ↦ none | false ↦ some first ]
-
-pub found_none : (used first : ℕ) → first ≡ used → found used first ≡ none
-unfolding found
-found_none used first e = rw (eq-eqb first used e, found)
-
-pub found_some : (used first : ℕ) → (first ≡ used → ⊥) → found used first ≡ some first
-unfolding found
-found_some used first h = rw (ne_eqb first used h, found)
 
 module _ (n : FigureCounts) (table : List ℤ) where
   -- ---- the tests of the owners, the last first
@@ -67,19 +54,19 @@ module _ (n : FigureCounts) (table : List ℤ) where
     owners = map (owner_at n table) (take used vs)
 
     -- the corners from i on are looked at: the owners of those before are still to be tested
-    pub record Midway (first i : ℕ) : Type 0 where
+    pub record Midway (first : Answer ℕ) (i : ℕ) : Type 0 where
       pub within : i ≤ used
       pub tested : owners_fine n table used vs ≡ owners_fine n table i vs
-      pub first_is : found used first ≡ first_unowned i (drop i owners)
+      pub first_is : corner_told first ≡ first_unowned i (drop i owners)
 
     module _ (room : used ≤ length vs) where
       owners_length : length owners ≡ used
       owners_length = let a = length-map (take used vs) (owner_at n table) in let b = length-take used vs in omega arith
 
-      pub begins : Midway used used
-      begins = record { within = omega arith; tested = refl; first_is = found_none used used refl ∙ sym (none_left owners used owners_length) }
+      pub begins : Midway None used
+      begins = record { within = omega arith; tested = refl; first_is = sym (none_left owners used owners_length) }
 
-      module _ (first k i : ℕ) (next : k ≡ suc i) (mid : Midway first k) where
+      module _ (first : Answer ℕ) (k i : ℕ) (next : k ≡ suc i) (mid : Midway first k) where
         abbrev owner : ℤ
         owner = owner_at n table (get_or vs i (pos 0))
 
@@ -95,11 +82,11 @@ module _ (n : FigureCounts) (table : List ℤ) where
         turn_broken h = rw (last, h)
 
         -- a corner without a bone is now the first
-        pub turn_none : is_index n.bones owner ≡ true → is_none owner ≡ true → Midway i i
+        pub turn_none : is_index n.bones owner ≡ true → is_none owner ≡ true → Midway (Some i) i
         turn_none h e =
             let w = mid.within in
             let l = owners_length in
-            record { within = omega arith; tested = last ∙ rw h; first_is = found_some used i (λ q. omega arith) ∙ sym (unowned-here owners i (omega arith) (rw here e)) }
+            record { within = omega arith; tested = last ∙ rw h; first_is = sym (unowned-here owners i (omega arith) (rw here e)) }
 
         pub turn_owned : is_index n.bones owner ≡ true → is_none owner ≡ false → Midway first i
         turn_owned h e =
@@ -108,7 +95,7 @@ module _ (n : FigureCounts) (table : List ℤ) where
             record { within = omega arith; tested = last ∙ rw h; first_is = mid.first_is ∙ ap (λ (x : ℕ). first_unowned x (drop x owners)) next ∙ sym (owned_here owners i (omega arith) (rw here e)) }
 
       -- all are looked at
-      pub ends : (first : ℕ) → Midway first 0 → some (found used first) ≡ owned_in n table vs used
+      pub ends : (first : Answer ℕ) → Midway first 0 → some (corner_told first) ≡ owned_in n table vs used
       unfolding owned_in only_if owners_fine
       ends first mid = rw mid.tested (ap some mid.first_is)
 

@@ -1,13 +1,9 @@
 -- What each test of `why` says of its definition: a failed one refuses, and past them all it is the corners' answer, and then the group's.
-use mathlib.Core.Path.{◌≡◌, refl}
-use mathlib.Core.Logic.{⊎_elim}
-use mathlib.Core.List.{List, [], ◌∷◌}
+use mathlib.Core.Path.{◌≡◌, refl, ap, sym, ◌∙◌}
+use mathlib.Core.List.{List}
 use mathlib.Core.Bool.{Bool, true, false, ◌&&◌, ◌||◌}
 use mathlib.Core.Option.{Option, none, some}
 use Prim.Native.Nat.{ℕ, ◌≤◌, ◌<◌}
-use native.Mathlib.Omega.{arith}
-use types.Run.{OneOf}
-use denote.Enum.Declared.{tag_of}
 use borrow.Author.Tests.{lt-ltb, le-ltb}
 use lib.IntN.{ℤ, pos, nat_abs}
 use lib.ListN.{get_or, take, drop}
@@ -17,8 +13,8 @@ use Rattle.tra4_text.specs.Rules.{patterns_fault}
 use Rattle.table_references.specs.Index.{is_index}
 use Rattle.table_counts.specs.declared.counts.MovementCounts.{MovementCounts}
 use Rattle.table_counts.specs.declared.counts.FigureCounts.{FigureCounts}
-use Rattle.player_spec.specs.Deciding.{flag_of, Line, deciding}
-use Rattle.player_spec.specs.Reasons.{Reason, shown, by_corner, unset, by_line, line_reason, group_reason, corner_first, reason_of}
+use Rattle.player_spec.specs.Deciding.{Line, deciding}
+use Rattle.player_spec.specs.Reasons.{Reason, shown, line_reason, group_reason, first_unowned, corner_first, reason_of}
 use Rattle.refusal.specs.Faults.{is_clear}
 use Rattle.table_movement.specs.Sections.{holds_movement}
 use Rattle.table_figure.specs.Sections.{holds_figure}
@@ -26,61 +22,40 @@ use Rattle.table_columns.specs.Parts.{number_at}
 use Rattle.player_spec.specs.Lookups.{only_if, is_asked, size_fine, corners_fine, lines_fine, face_at, owners_fine, corner_owners, group_named, pattern_rows, patterns_fine, can_show, why_in}
 use Rattle.player_patterns.specs.Internal.Answers.{row_and_flag, decided_in}
 use Rattle.player_spec.specs.Answers.{numbered}
-use Rattle.player_why.specs.contracts.reason.Explained.{the_type}
-use Rattle.player_why.specs.declared.reason.Explained.{Explained}
-use Rattle.player_why.specs.declared.reason.Explained.TheVariants as answers
-use Rattle.player_why.specs.Internal.Rows.{reason_told, row_owned, row_why, line_told, first_reason}
+use Rattle.player_spec.proofs.OnlyIf.{only_some}
+use Rattle.std.specs.Prelude.{Option as Answer, Some, None}
+use Rattle.player_why.specs.declared.reason.Reason.{Reason as Named}
+use Rattle.player_why.specs.Internal.Rows.{reason_told, row_owned, row_why, line_named}
 use Rattle.player_why.specs.Answers.{explained}
 
-pub explained-is : (e : Explained) → explained e ≡ numbered (reason_told e)
-unfolding explained numbered reason_told
-explained-is answers.Refused = refl
-explained-is answers.Shown = refl
-explained-is (answers.Corner corner) = refl
-explained-is answers.Unset = refl
-explained-is (answers.Line row) = refl
-
--- an answer that is not refused has a reason
-pub answered : (e : Explained) → OneOf (1 ∷ 2 ∷ 3 ∷ 4 ∷ []) (tag_of the_type e) → (r : Reason) × (explained e ≡ (0, 0, 0, some r)) × (reason_told e ≡ some r)
-unfolding explained reason_told
-answered answers.Refused h = absurd (⊎_elim (λ e. omega arith) (⊎_elim (λ e. omega arith) (⊎_elim (λ e. omega arith) (λ e. omega arith))) h)
-answered answers.Shown h = (shown, refl, refl)
-answered (answers.Corner corner) h = (by_corner corner, refl, refl)
-answered answers.Unset h = (unset, refl, refl)
-answered (answers.Line row) h = (by_line row, refl, refl)
+pub explained-is : (r : Answer Named) → explained r ≡ numbered (reason_told r)
+unfolding numbered
+explained-is None = refl
+explained-is (Some r) = refl
 
 -- ---- by the line that decides
 
-line_by : (v : Bool) (best : Option Line) → line_told (only_if v (row_and_flag best)) ≡ only_if v (line_reason best)
-unfolding line_told only_if row_and_flag line_reason
-line_by true none = refl
-line_by true (some l) = go (flag_of l.1) refl
-  where
-    go : (b : Bool) → flag_of l.1 ≡ b → line_told (some (some (l.0, flag_of l.1))) ≡ some (line_reason (some l))
-    go true e = rw (e, line_reason)
-    go false e = rw (e, line_reason)
-line_by false best = refl
+line_by : (best : Option Line) → line_named (row_and_flag best) ≡ line_reason best
+unfolding row_and_flag line_reason
+line_by none = refl
+line_by (some l) = refl
 
-pub line-is : (total : ℤ) (groups g at : ℕ) (ps : List Pattern) → line_told (decided_in total groups g at ps) ≡ only_if (is_clear (patterns_fault total ps) && lines_fine groups ps) (line_reason (deciding g at ps))
-unfolding decided_in
-line-is total groups g at ps = line_by (is_clear (patterns_fault total ps) && lines_fine groups ps) (deciding g at ps)
+-- ---- a test that failed
 
--- ---- both
+refused_by : {A : Type 0} (v : Bool) (x : A) → none ≡ only_if v x → v ≡ false
+unfolding only_if
+refused_by true x e = cc
+refused_by false x e = refl
 
-unsettled : (s p : Bool) (r : Reason) → none ≡ only_if (s && false && p) r
+never : {A : Type 0} (v : Bool) (x : A) → none ≡ only_if (v && false) x
+unfolding only_if
+never true x = refl
+never false x = refl
+
+unsettled : {A : Type 0} (s p : Bool) (r : A) → none ≡ only_if (s && false && p) r
 unfolding only_if
 unsettled true p r = refl
 unsettled false p r = refl
-
-joined : (s p : Bool) (c : Option ℕ) (r : Reason) → first_reason (only_if s c) (only_if p r) ≡ only_if (s && true && p) (corner_first c r)
-unfolding only_if first_reason
-joined true true c r = refl
-joined true false c r = refl
-joined false p c r = refl
-
-lone : (s : Bool) (c : Option ℕ) (r : Reason) → first_reason (only_if s c) (some r) ≡ only_if (s && true && true) (corner_first c r)
-unfolding only_if
-lone s c r = joined s true c r
 
 -- ---- by a face's row
 
@@ -97,22 +72,41 @@ module _ (n : FigureCounts) (table row : List ℤ) (ps : List Pattern) (total : 
   abbrev vertices : List ℤ
   vertices = take 4 (drop 2 row)
 
+  -- the corners are sound
+  abbrev cornered : Bool
+  cornered = size_fine size && corners_fine n.points (nat_abs size) vertices && owners_fine n table (nat_abs size) vertices
+
   pub no_group : is_index n.groups group ≡ false → none ≡ answer
   unfolding row_why
-  no_group h =
-      rw h
-      (unsettled (size_fine size && corners_fine n.points (nat_abs size) vertices && owners_fine n table (nat_abs size) vertices)
-      (is_none group || (is_clear (patterns_fault total ps) && lines_fine n.groups ps))
-      (reason_of (corner_owners n table row) (group_named group) ps at))
+  no_group h = rw h (unsettled cornered (is_none group || (is_clear (patterns_fault total ps) && lines_fine n.groups ps)) (reason_of (corner_owners n table row) (group_named group) ps at))
 
-  module _ (known : is_index n.groups group ≡ true) where
-    pub of_polygons : is_none group ≡ true → first_reason (row_owned n table row) (some shown) ≡ answer
-    unfolding row_why row_owned reason_of group_named group_reason
-    of_polygons h = rw (known, h, group_named) (lone _ _ _)
+  pub not_owned : none ≡ row_owned n table row → none ≡ answer
+  unfolding row_why row_owned
+  not_owned e = rw (refused_by cornered (first_unowned 0 (corner_owners n table row)) e) (unfold only_if in refl)
 
-    pub in_group_lem : is_none group ≡ false → first_reason (row_owned n table row) (only_if (is_clear (patterns_fault total ps) && lines_fine n.groups ps) (line_reason (deciding (nat_abs group) at ps))) ≡ answer
-    unfolding row_why row_owned reason_of group_named group_reason
-    in_group_lem h = rw (known, h, group_named) (joined _ _ _ _)
+  -- the lines are looked at where the face is in a group
+  pub no_line : is_none group ≡ false → none ≡ decided_in total n.groups (nat_abs group) at ps → none ≡ answer
+  unfolding row_why decided_in
+  no_line h e =
+      rw (h, refused_by (is_clear (patterns_fault total ps) && lines_fine n.groups ps) (row_and_flag (deciding (nat_abs group) at ps)) e)
+      (never (cornered && is_index n.groups group) (reason_of (corner_owners n table row) (group_named group) ps at))
+
+  module _ (known : is_index n.groups group ≡ true) (corner : Option ℕ) (owned : some corner ≡ row_owned n table row) where
+    told : (cornered ≡ true) × (first_unowned 0 (corner_owners n table row) ≡ corner)
+    unfolding row_owned
+    told = (only_some cornered (first_unowned 0 (corner_owners n table row)) corner).0 (sym owned)
+
+    pub of_polygons : is_none group ≡ true → some (corner_first corner shown) ≡ answer
+    unfolding row_why reason_of group_named group_reason only_if
+    of_polygons h = let o = told in rw (o.0, known, h, group_named, o.1)
+
+    pub in_group_lem : is_none group ≡ false → (line : Option (ℕ × Bool)) → some line ≡ decided_in total n.groups (nat_abs group) at ps → some (corner_first corner (line_named line)) ≡ answer
+    unfolding row_why decided_in reason_of group_named group_reason only_if
+    in_group_lem h line e =
+        let o = told in
+        let best = deciding (nat_abs group) at ps in
+        let q = (only_some (is_clear (patterns_fault total ps) && lines_fine n.groups ps) (row_and_flag best) line).0 (sym e) in
+        rw (o.0, known, h, q.0, group_named, o.1) (ap (λ (r : Reason). some (corner_first corner r)) (ap line_named (sym q.1) ∙ line_by best))
 
 -- ---- by the tables
 

@@ -1,13 +1,16 @@
 -- What the code answers on why a face is shown or hidden.
 use Rattle.std.proofs.Math.Option.{Option, none, some}
-use Rattle.std.specs.Prelude.{ℕ}
+use Rattle.std.specs.Prelude.{ℕ, Option as Answer, Some, None}
 use Rattle.player_spec.specs.Reasons.{Reason, shown, by_corner, unset, by_line}
-use Rattle.player_why.specs.declared.reason.Explained.{Explained}
-use Rattle.player_why.specs.declared.reason.Explained.TheVariants as answers
+use Rattle.player_why.specs.declared.reason.Reason.{Reason as Named}
+use Rattle.player_why.specs.declared.reason.Reason.TheVariants as reasons
 
-unfoldable pub explained : Explained → ℕ × ℕ × ℕ × Option Reason
-explained answers.Refused = (21, 0, 0, none)
-explained answers.Shown = (0, 0, 0, some shown)
-explained (answers.Corner corner) = (0, 0, 0, some (by_corner corner))
-explained answers.Unset = (0, 0, 0, some unset)
-explained (answers.Line row) = (0, 0, 0, some (by_line row))
+abbrev pub reason_named : Named → Reason
+reason_named reasons.Shown = shown
+reason_named (reasons.Corner k) = by_corner k
+reason_named reasons.Unset = unset
+reason_named (reasons.Line row) = by_line row
+
+abbrev pub explained : Answer Named → ℕ × ℕ × ℕ × Option Reason
+explained None = (21, 0, 0, none)
+explained (Some r) = (0, 0, 0, some (reason_named r))

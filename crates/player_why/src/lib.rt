@@ -5,4 +5,4 @@ mod owning;
 mod reason;
 
 pub use explaining::why;
-pub use reason::Explained;
+pub use reason::Reason;

@@ -1,47 +1,44 @@
 // The reason that a face is shown or hidden for, by its corners and by its group's line.
 ghost use Rattle.std.specs.Prelude.{◌≡◌};
-ghost use Rattle.player_patterns.specs.Internal.Answers.{decided};
-ghost use Rattle.player_why.specs.Internal.Rows.{reason_told, corner_told, line_told, first_reason};
+ghost use Rattle.player_patterns.specs.Internal.Answers.{line_told};
+ghost use Rattle.player_spec.specs.Reasons.{corner_first};
+ghost use Rattle.player_why.specs.Answers.{reason_named};
+ghost use Rattle.player_why.specs.Internal.Rows.{corner_told, line_named};
 
-use crate::owning::Owners;
-use player_patterns::Deciding;
+use player_patterns::Line;
 
-// Shown; hidden by the first corner without a bone, since the group has no line by the frame, or by the line in a row; or refusal 21.
-#[derive(Clone, Copy)]
-pub enum Explained {
-    Refused,
+// Shown; hidden by the first corner without a bone, since the group has no line by the frame, or by the line in a row.
+#[derive(Clone, Copy, PartialEq, Eq)]
+pub enum Reason {
     Shown,
-    Corner { corner: usize },
+    Corner(usize),
     Unset,
-    Line { row: usize },
+    Line(usize),
 }
 
 // A group is shown by the flag of its deciding line, and hidden by that line or without one.
-pub(crate) fn by_line(d: Deciding) -> Explained
-    ensures { reason_told result ≡ line_told (decided d) }
+pub(crate) fn by_line(line: Option<Line>) -> Reason
+    ensures { reason_named result ≡ line_named (line_told line) }
 {
-    match d {
-        Deciding::Refused => Explained::Refused,
-        Deciding::Nothing => Explained::Unset,
-        Deciding::Line { row, shown } => {
-            if shown {
-                return Explained::Shown;
+    match line {
+        None => Reason::Unset,
+        Some(l) => {
+            if l.shown {
+                Reason::Shown
+            } else {
+                Reason::Line(l.row)
             }
-            Explained::Line { row }
         }
     }
 }
 
-// Both answered, and a corner without a bone before what the group says.
-pub(crate) fn first_reason(corners: Owners, group: Explained) -> Explained
-    ensures { reason_told result ≡ first_reason (corner_told corners) (reason_told group) }
+// A corner without a bone comes before what the group says.
+#[tactic(auto, unfolding(player_spec::specs::Reasons::corner_first))]
+pub(crate) fn first_reason(corner: Option<usize>, group: Reason) -> Reason
+    ensures { reason_named result ≡ corner_first (corner_told corner) (reason_named group) }
 {
-    if let Explained::Refused = group {
-        return Explained::Refused;
-    }
-    match corners {
-        Owners::Refused => Explained::Refused,
-        Owners::All => group,
-        Owners::Without { corner } => Explained::Corner { corner },
+    match corner {
+        Some(k) => Reason::Corner(k),
+        None => group,
     }
 }

@@ -3,25 +3,24 @@ use mathlib.Core.Path.{◌≡◌, refl, sym, ◌∙◌}
 use mathlib.Core.List.{List, ◌∷◌}
 use mathlib.Core.Bool.{Bool, true, false}
 use lib.Dec.{leb}
-use Prim.Native.Nat.{ℕ, suc, ◌≤◌, ◌<◌}
-use borrow.Author.Tests.{le-leb, lt-leb, leb-true}
+use Prim.Native.Nat.{ℕ, suc, min, ◌≤◌, ◌<◌}
+use native.Mathlib.Omega.{arith}
+use borrow.Author.Tests.{le-leb, lt-leb, leb-true, leb-false}
 use lib.ListN.{length, drop, get_or, drop_of_length-le}
 use lib.Seq.{drop-cons}
 use Rattle.refusal.specs.Faults.{Fault, clear, fault}
 use Rattle.refusal.specs.Internal.Answers.{refusal}
-use Rattle.refusal.specs.declared.checked.Checked.{Checked}
-use Rattle.refusal.specs.declared.checked.Checked.TheVariants.{Clear, Refused}
+use Rattle.std.proofs.Common.{Result, Ok, Err}
+use Rattle.refusal.specs.declared.checked.Refusal.{Refusal}
 use Rattle.refusal.proofs.Faults.{fault-not-clear}
 use Rattle.refusal.specs.Rules.{or_else, too_many}
 
 -- ---- what an answer says of a rule
 
-pub refused_by : {r : Checked} {a : Fault} {k p : ℕ} → refusal r ≡ a → r ≡ Refused k p → a ≡ fault k p
-unfolding refusal
+pub refused_by : {A : Type 0} {r : Result A Refusal} {a : Fault} {e : Refusal} → refusal r ≡ a → r ≡ Err e → a ≡ fault (e.number) e.place
 refused_by e d = sym e ∙ rw d
 
-pub clear_by : {r : Checked} {a : Fault} → refusal r ≡ a → r ≡ Clear → a ≡ clear
-unfolding refusal
+pub clear_by : {A : Type 0} {r : Result A Refusal} {a : Fault} {u : A} → refusal r ≡ a → r ≡ Ok u → a ≡ clear
 clear_by e d = sym e ∙ rw d
 
 -- ---- the first of two
@@ -57,6 +56,13 @@ module _ (i : ℕ) (ns ms : List ℕ) where
   pub mosts_end : i < length ns → length ms ≤ i → too_many i (drop i ns) (drop i ms) ≡ clear
   unfolding too_many
   mosts_end h k = rw (drop-cons ns i 0 h, drop_of_length-le ms k)
+
+  pub lists_end : min (length ns) (length ms) ≤ i → too_many i (drop i ns) (drop i ms) ≡ clear
+  lists_end h = go (leb (length ns) i) refl
+    where
+      go : (v : Bool) → leb (length ns) i ≡ v → too_many i (drop i ns) (drop i ms) ≡ clear
+      go true e = counts_end (leb-true _ _ e)
+      go false e = let l = leb-false _ _ e in mosts_end (omega arith) (omega arith)
 
   pub count_within : i < length ns → i < length ms → get_or ns i 0 ≤ get_or ms i 0 → too_many i (drop i ns) (drop i ms) ≡ too_many (suc i) (drop (suc i) ns) (drop (suc i) ms)
   unfolding too_many

@@ -3,5 +3,5 @@
 mod checked;
 mod limits;
 
-pub use checked::Checked;
+pub use checked::Refusal;
 pub use limits::too_many;

@@ -1,5 +1,5 @@
 // Lists of a table, a line a row.
-ghost use Rattle.std.specs.Prelude.{◌≡◌, min};
+ghost use Rattle.std.specs.Prelude.{◌≡◌};
 ghost use Rattle.report_text.specs.Output.{output, appended};
 ghost use Rattle.report_lists.specs.Lists.{row_list, listed, reached, first_line};
 ghost use Rattle.report_lists.specs.Lists.{shown as shown_as};
@@ -18,16 +18,7 @@ pub struct Progress {
 pub fn shown(n: usize) -> i64
     ensures { result ≡ shown_as n }
 {
-    if n <= 9223372036854775807 {
-        return n as i64;
-    }
-    -1
-}
-
-fn least(a: usize, b: usize) -> usize
-    ensures { result ≡ min a b }
-{
-    if a < b { a } else { b }
+    i64::try_from(n).unwrap_or(-1)
 }
 
 // Puts a line for each of count rows, and goes on in the table after them; rows that the table has not are left out.
@@ -42,9 +33,8 @@ pub fn append_list(
     ensures { reached result buf.new table.now ≡ listed (reached p buf.old table.now) (row_list word.now width count) }
 {
     let mut n = p.filled;
-    let mut at = least(p.at, table.len());
-    let mut left = count;
-    while 0 < left {
+    let mut at = p.at.min(table.len());
+    for row in 0..count {
         if !has_room(table.len(), at, width) {
             return Progress {
                 filled: n,
@@ -54,7 +44,6 @@ pub fn append_list(
         let end = at + width;
         n = append_row(buf, n, word, &table[at..end]);
         at = end;
-        left -= 1;
     }
     Progress { filled: n, at }
 }

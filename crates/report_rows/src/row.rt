@@ -10,13 +10,8 @@ use report_text::{append, append_number, has_room};
 fn width(z: i64) -> usize
     ensures { result ≡ length (numeral z) }
 {
-    let mut k = if z < 0 { 2 } else { 1 };
-    let mut rest = signed::magnitude(z);
-    while 10 <= rest {
-        rest /= 10;
-        k += 1;
-    }
-    k
+    let digits = signed::magnitude(z).max(1).ilog10() as usize + 1;
+    if z < 0 { digits + 1 } else { digits }
 }
 
 // Whether a line fits in size bytes after the first n.
@@ -27,14 +22,12 @@ fn row_fits(size: usize, n: usize, word: &[u8], numbers: &[i64]) -> bool
         return false;
     }
     let mut left = size - n - word.len();
-    let mut i = 0;
-    while i < numbers.len() {
-        let w = width(numbers[i]);
+    for z in numbers {
+        let w = width(*z);
         if left <= w {
             return false;
         }
-        left = left - w - 1;
-        i += 1;
+        left -= w + 1;
     }
     0 < left
 }
@@ -47,11 +40,9 @@ pub fn append_row(buf: &mut [u8], n: usize, word: &[u8], numbers: &[i64]) -> usi
         return n;
     }
     let mut at = append(buf, n, word);
-    let mut i = 0;
-    while i < numbers.len() {
+    for z in numbers {
         at = append(buf, at, b"\t");
-        at = append_number(buf, at, numbers[i]);
-        i += 1;
+        at = append_number(buf, at, *z);
     }
     append(buf, at, b"\n")
 }

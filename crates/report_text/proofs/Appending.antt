@@ -1,23 +1,15 @@
 -- Laws of bytes put into a buffer: whether they fit, and one piece after another.
 use mathlib.Core.Path.{◌≡◌, refl, ap, sym, ◌∙◌}
 use mathlib.Core.List.{List, ◌++◌, append_assoc}
-use mathlib.Core.Bool.{Bool, true, false, not}
-use Prim.Native.Nat.{ℕ, ◌+◌, ◌-◌, ◌≤◌, ◌<◌}
+use mathlib.Core.Bool.{Bool, true, false}
+use Prim.Native.Nat.{ℕ, ◌+◌, ◌≤◌, ◌<◌}
 use native.Mathlib.Nat.{add_assoc}
 use native.Mathlib.Omega.{arith}
-use borrow.Author.Tests.{le-leb, lt-leb, leb-true, leb-false, not-true, not-false}
+use borrow.Author.Tests.{le-leb, lt-leb, leb-true, leb-false}
 use lib.Dec.{leb}
 use lib.ListN.{length, take, drop, length-append, length-drop}
-use lib.Seq.{take_at, drop_at, drop-drop, length-take-le, paste, length-paste, take-length}
+use lib.Seq.{take_at, drop_at, drop-drop, length-take-le}
 use Rattle.report_text.specs.Output.{Output, output, appended}
-
--- room that is left, and room at all
-pub room : (size n k : ℕ) → n ≤ size → leb k (size - n) ≡ leb (n + k) size
-room size n k h = go (leb k (size - n)) refl
-  where
-    go : (v : Bool) → leb k (size - n) ≡ v → leb k (size - n) ≡ leb (n + k) size
-    go true e = e ∙ sym (le-leb (n + k) size (omega (arith, leb-true k (size - n) e)))
-    go false e = e ∙ sym (lt-leb (n + k) size (omega (arith, leb-false k (size - n) e)))
 
 module _ (n : ℕ) (buf bs : List ℕ) where
   -- the buffer with the bytes in it
@@ -45,24 +37,22 @@ module _ (n : ℕ) (buf bs : List ℕ) where
   filled-drop h = drop_at (take n buf ++ bs) _ (n + length bs) (head-length h)
 
 -- what a test for the room of w bytes says
-module _ (n w : ℕ) (buf bs : List ℕ) (v : Bool) (e : w ≡ length bs) (t : v ≡ leb (n + w) (length buf)) where
-  pub no_room : not v ≡ true → output n buf ≡ appended (output n buf) bs
+module _ (n w : ℕ) (buf bs : List ℕ) {v : Bool} (e : w ≡ length bs) (t : v ≡ leb (n + w) (length buf)) where
+  pub no_room : v ≡ false → output n buf ≡ appended (output n buf) bs
   no_room h =
-      let l : length buf < n + w = leb-false _ _ (sym t ∙ not-true v h) in
+      let l : length buf < n + w = leb-false _ _ (sym t ∙ h) in
       sym (kept n buf bs (omega arith))
 
-  pub has_room : not v ≡ false → n + length bs ≤ length buf
+  pub has_room : v ≡ true → n + length bs ≤ length buf
   has_room h =
-      let l : n + w ≤ length buf = leb-true _ _ (sym t ∙ not-false v h) in
+      let l : n + w ≤ length buf = leb-true _ _ (sym t ∙ h) in
       omega arith
 
--- a copy of the first i bytes keeps the buffer's length, and the whole copy is the definition
-module _ (n i : ℕ) (buf bs buf' : List ℕ) (within : i ≤ length bs) (fits : n + length bs ≤ length buf) (copy : buf' ≡ paste buf n bs i) where
-  pub copy_length : length buf' ≡ length buf
-  copy_length = ap length copy ∙ length-paste buf n bs i (omega arith) within
-
-  pub copied : length bs ≤ i → output (n + i) buf' ≡ appended (output n buf) bs
-  copied whole = let e : i ≡ length bs = omega arith in rw (copy, e, take-length bs) (sym (put n buf bs fits))
+-- the bytes copied over the k of the buffer after its first n
+pub copied : (n k : ℕ) (buf bs : List ℕ) → k ≡ length bs → n + length bs ≤ length buf → output (n + length bs) (take n buf ++ (bs ++ drop k (drop n buf))) ≡ appended (output n buf) bs
+copied n k buf bs e fits =
+    let d : drop k (drop n buf) ≡ drop (n + length bs) buf = drop-drop k n buf ∙ ap (λ (m : ℕ). drop (n + m) buf) e in
+    rw (d, ← append_assoc (take n buf) bs (drop (n + length bs) buf)) (sym (put n buf bs fits))
 
 -- two pieces that fit together are one
 filled_twice : (n : ℕ) (buf a b : List ℕ) → n + length (a ++ b) ≤ length buf → filled (n + length a) (filled n buf a) b ≡ filled n buf (a ++ b)

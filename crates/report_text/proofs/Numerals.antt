@@ -2,7 +2,7 @@
 use mathlib.Core.Path.{◌≡◌, refl, ap, sym, ◌∙◌}
 use mathlib.Core.List.{List, [], ◌∷◌, ◌++◌}
 use mathlib.Core.Bool.{Bool, true, false, true≢false}
-use Prim.Native.Nat.{ℕ, zero, suc, ◌+◌, ◌-◌, ◌*◌, ◌/◌, ◌%◌, ◌^◌, ◌≤◌, ◌<◌}
+use Prim.Native.Nat.{ℕ, zero, suc, ◌+◌, ◌-◌, ◌*◌, ◌/◌, ◌%◌, ◌^◌, ◌≤◌, ◌<◌, max}
 use native.Mathlib.Nat.{mod-eq_of_lt, mod-lt, pow-suc, one-le-pow}
 use native.Mathlib.Numerals.{add-one}
 use native.Mathlib.Omega.{arith}
@@ -118,45 +118,25 @@ module _ (z : ℤ) (m k : ℕ) (ds : List ℕ) (h : SFits w64 z) (e : m ≡ nat_
   digit_count : length ds ≡ k
   digit_count = ap length d ∙ digits_count k m
 
-  pub count_most : k ≤ 19
-  count_most = omega (arith, digits-most z h, ap length spelled, digit_count)
-
   pub width-below : lt_z (to_z w64 (of_z w64 z)) (pos 0) ≡ true → k + 1 ≡ length (numeral z)
   width-below t = add-one k ∙ ap suc (sym digit_count) ∙ sym (ap length (text-below t))
 
--- ---- the digits counted one by one
+-- ---- as many digits as the logarithm of a number, or of 1 for 0, says
 
--- any number of steps above n gives n's digits
-steps-same : (s t n : ℕ) → n < s → n < t → digits_in s n ≡ digits_in t n
-steps-same zero t n h k = absurd (omega arith)
-steps-same (suc s) zero n h k = absurd (omega arith)
-steps-same (suc s) (suc t) n h k = go (ltb n 10) refl (steps-same s t (n / 10))
+pub digits-log : (n x r : ℕ) → x ≡ max n 1 → 10 ^ r ≤ x → x < 10 * 10 ^ r → length (digits n) ≡ r + 1
+digits-log n x r e low high = ap length (fewest (suc r) n (omega arith, high_as r high, low_as r low)) ∙ digits_count (suc r) n ∙ sym (add-one r)
   where
-    go : (v : Bool) → ltb n 10 ≡ v → (n / 10 < s → n / 10 < t → digits_in s (n / 10) ≡ digits_in t (n / 10)) → digits_in (suc s) n ≡ digits_in (suc t) n
-    go true e ih = let l : n < 10 = ltb-true n 10 e in digits-one s n l ∙ sym (digits-one t n l)
-    go false e ih =
-        let l : 10 ≤ n = ltb-false n 10 e in
-        digits_more s n l ∙ rw (ih (omega arith) (omega arith)) (sym (digits_more t n l))
+    high_as : (r : ℕ) → x < 10 * 10 ^ r → n < 10 ^ suc r
+    high_as r h = omega (arith, e, pow-suc 10 r)
 
-pub digits_few : (n : ℕ) → n < 10 → length (digits n) ≡ 1
-unfolding digits
-digits_few n h = ap length (digits-one n n h)
+    low_as : (r : ℕ) → 10 ^ r ≤ x → 1 < suc r → 10 ^ (suc r - 1) ≤ n
+    low_as zero h l = absurd (omega arith)
+    low_as (suc r) h l = let d : suc (suc r) - 1 ≡ suc r = omega arith in rw d (omega (arith, e, pow-suc 10 r, one-le-pow r 10 (omega arith)))
 
-pub digits-ten : (n : ℕ) → 10 ≤ n → length (digits n) ≡ length (digits (n / 10)) + 1
-unfolding digits
-digits-ten n h =
-    let e : digits_in n (n / 10) ≡ digits_in (suc (n / 10)) (n / 10) = steps-same n (suc (n / 10)) (n / 10) (omega arith) (omega arith) in
-    ap length (digits_more n n h)
-    ∙ ap (λ (l : List ℕ). length (l ++ ((48 + n % 10) ∷ []))) e
-    ∙ length-append (digits_in (suc (n / 10)) (n / 10)) ((48 + n % 10) ∷ [])
+-- and a sign more below zero
+module _ (z : ℤ) (m : ℕ) (h : SFits w64 z) (e : m ≡ nat_abs (to_z w64 (of_z w64 z))) where
+  pub numeral_below : lt_z (to_z w64 (of_z w64 z)) (pos 0) ≡ true → length (numeral z) ≡ length (digits m) + 1
+  numeral_below t = rw (e, to_z-of_z {w = w64} h) (omega (arith, ap length (numeral-below z (test z true h t))))
 
--- the digits to count, at the first turn
-module _ (z : ℤ) (m : ℕ) (e : m ≡ nat_abs z) where
-  pub count_below : lt_z z (pos 0) ≡ true → length (numeral z) + 1 ≡ 2 + length (digits m)
-  count_below t = let l = ap length (numeral-below z t) in rw e (omega (arith, l))
-
-  pub count_from : lt_z z (pos 0) ≡ false → length (numeral z) + 1 ≡ 1 + length (digits m)
-  count_from t = let l = ap length (numeral-from z t) in rw e (omega (arith, l))
-
-pub from_bits : (z : ℤ) → SFits w64 z → numeral (to_z w64 (of_z w64 z)) ≡ numeral z
-from_bits z h = ap numeral (to_z-of_z {w = w64} h)
+  pub numeral_from : lt_z (to_z w64 (of_z w64 z)) (pos 0) ≡ false → length (numeral z) ≡ length (digits m)
+  numeral_from t = rw (e, to_z-of_z {w = w64} h) (ap length (numeral-from z (test z false h t)))

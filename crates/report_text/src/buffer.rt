@@ -6,10 +6,7 @@ ghost use Rattle.report_text.specs.Output.{output, appended};
 pub fn has_room(size: usize, n: usize, k: usize) -> bool
     ensures { result ≡ leb (n + k) size }
 {
-    if size < n {
-        return false;
-    }
-    k <= size - n
+    n <= size && k <= size - n
 }
 
 // Puts bytes after the first n of buf and answers how many those are then. Bytes that do not all fit change nothing.
@@ -19,10 +16,7 @@ pub fn append(buf: &mut [u8], n: usize, bytes: &[u8]) -> usize
     if !has_room(buf.len(), n, bytes.len()) {
         return n;
     }
-    let mut i = 0;
-    while i < bytes.len() {
-        buf[n + i] = bytes[i];
-        i += 1;
-    }
-    n + i
+    let end = n + bytes.len();
+    buf[n..end].copy_from_slice(bytes);
+    end
 }

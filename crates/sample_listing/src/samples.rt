@@ -5,7 +5,7 @@ ghost use Rattle.report_lists.specs.Lists.{appended_each};
 ghost use Rattle.player_channel.specs.Answers.{sampled};
 ghost use Rattle.sample_listing.specs.Samples.{sample_line, sample_lines, sample_text};
 
-use player_channel::Sampled;
+use player_channel::Sample;
 use player_samples::sample;
 use report_lists::shown;
 use report_rows::append_row;
@@ -18,29 +18,26 @@ fn append_sample(
     bone: usize,
     channel: usize,
     at: usize,
-    answer: Sampled,
+    answer: Option<Sample>,
 ) -> usize
     ensures line { output result buf.new ≡ appended (output n buf.old) (sample_line bone channel at (sampled answer)) }
     ensures most { length (sample_line bone channel at (sampled answer)) ≤ 112 }
 {
-    match answer {
-        Sampled::Refused => append_row(buf, n, b"refused", &[21, 0]),
-        Sampled::Value {
-            numerator,
-            denominator,
-        } => append_row(
-            buf,
-            n,
-            b"sample",
-            &[
-                shown(bone),
-                shown(channel),
-                shown(at),
-                numerator,
-                shown(denominator as usize),
-            ],
-        ),
-    }
+    let Some(sample) = answer else {
+        return append_row(buf, n, b"refused", &[21, 0]);
+    };
+    append_row(
+        buf,
+        n,
+        b"sample",
+        &[
+            shown(bone),
+            shown(channel),
+            shown(at),
+            sample.numerator,
+            shown(sample.denominator as usize),
+        ],
+    )
 }
 
 // Puts a line for each frame from first on and before end at the start of buf. With 112 bytes for each they all fit.
@@ -58,11 +55,9 @@ pub fn list_samples(
     ensures whole { (end - first) * 112 ≤ length buf.old → take result buf.new ≡ sample_text n table.now bone channel first (end - first) }
 {
     let mut filled = 0;
-    let mut at = first;
-    while at < end {
+    for at in first..end {
         let answer = sample(table, n, bone, channel, at);
         filled = append_sample(buf, filled, bone, channel, at, answer);
-        at += 1;
     }
     filled
 }

@@ -10,12 +10,10 @@ const STDOUT_FILENO: i32 = 1;
 // 256 frames at a time, for which 28,672 bytes are enough. What is written to a file no contract can say.
 fn tell_channel(table: &[i64], n: MovementCounts, bone: usize, channel: usize, total: usize) {
     let mut out = [0u8; 28672];
-    let mut at = 0;
-    while at < total {
-        let end = if 256 < total - at { at + 256 } else { total };
+    for at in (0..total).step_by(256) {
+        let end = at + total.saturating_sub(at).min(256);
         let filled = sample_listing::list_samples(&mut out, table, n, bone, channel, at, end);
         io::write_all(STDOUT_FILENO, &out[..filled]);
-        at = end;
     }
 }
 

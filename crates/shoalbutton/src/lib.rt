@@ -15,18 +15,19 @@ pub use pair_movement::load_movement;
 
 // ---- playing, on any tables and counts
 
-pub use player_channel::Sampled;
-pub use player_corners::{Cornered, corner};
+pub use player_channel::Sample;
+pub use player_corners::{FaceCorner, Uv, corner};
 pub use player_label::{label, label_number};
 pub use player_samples::sample;
-pub use player_shown::{Visibility, shown};
-pub use player_why::{Explained, why};
+pub use player_shown::shown;
+pub use player_why::{Reason, why};
 pub use table_counts::{FigureCounts, MovementCounts};
 
 // ---- loading a pair and then playing it: the answers speak of the two texts alone
 
-pub use pair_corners::{PlayedCorner, played_corner};
+pub use pair_corners::played_corner;
 pub use pair_labels::{Refusal, played_label, played_label_number};
-pub use pair_samples::{PlayedSample, played_sample};
-pub use pair_shown::{PlayedShown, played_shown};
-pub use pair_why::{PlayedWhy, played_why};
+pub use pair_played::Played;
+pub use pair_samples::played_sample;
+pub use pair_shown::played_shown;
+pub use pair_why::played_why;

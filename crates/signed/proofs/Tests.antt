@@ -58,3 +58,11 @@ other rest e n = rw (sym e ∙ n)
 pub and3 : (a b c : Bool) → (a && b && c) ≡ (a && (b && c))
 and3 true b c = refl
 and3 false b c = refl
+
+-- ---- a test `0 <= z`
+
+pub natural_from : (z : ℤ) → SFits w64 z → le_z (pos 0) (to_z w64 (of_z w64 z)) ≡ true → z ≡ pos (nat_abs z)
+natural_from z s e = natural z s (not-true _ (sym (most-above (pos 0) (to_z w64 (of_z w64 z))) ∙ e))
+
+pub negative_from : (z : ℤ) → SFits w64 z → le_z (pos 0) (to_z w64 (of_z w64 z)) ≡ false → z ≡ negsuc (mag z)
+negative_from z s e = negative z s (not-false _ (sym (most-above (pos 0) (to_z w64 (of_z w64 z))) ∙ e))

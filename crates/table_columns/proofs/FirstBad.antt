@@ -2,8 +2,9 @@
 use mathlib.Core.Path.{◌≡◌, refl}
 use mathlib.Core.List.{List, ◌∷◌}
 use mathlib.Core.Bool.{Bool, true, false}
-use Prim.Native.Nat.{ℕ, suc, ◌+◌, ◌-◌, ◌≤◌, ◌<◌}
+use Prim.Native.Nat.{ℕ, zero, suc, ◌+◌, ◌-◌, ◌≤◌, ◌<◌}
 use native.Mathlib.Nat.{sub-zero}
+use native.Mathlib.Omega.{arith}
 use lib.ListN.{length, take, drop, length-drop}
 use lib.Seq.{drop-drop}
 use lib.IntN.{ℤ}
@@ -49,3 +50,8 @@ module _ (k w : ℕ) (t : List ℤ → Bool) (table : List ℤ) where
   pub walk_found : (row n base : ℕ) → w ≤ length table - base → t (take w (drop base table)) ≡ false → bad_from row (suc n) base ≡ fault k row
   unfolding bad_from
   walk_found row n base h e = rw (rows_more w n (drop base table) (rw length-drop h), bad_found k t row _ _ e)
+
+  -- no row is left, or none that is whole
+  pub walk_over : (row n base : ℕ) → (0 < n → length table - base < w) → bad_from row n base ≡ clear
+  walk_over row zero base h = walk_done row base
+  walk_over row (suc n) base h = walk_short row (suc n) base (h (omega arith))

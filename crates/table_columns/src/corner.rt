@@ -31,9 +31,5 @@ fn corner(row: &[i64], from: usize, k: usize) -> i64
     if FACE_CORNERS <= k {
         return -1;
     }
-    let i = from + k;
-    if row.len() <= i {
-        return 0;
-    }
-    row[i]
+    row.get(from + k).copied().unwrap_or(0)
 }

@@ -9,8 +9,5 @@ pub fn owner_at(owners: &[i64], v: VertexRow) -> i64
     ensures { result ≡ number_at owners.now (nat_abs v.0) }
 {
     let i = signed::magnitude(v.0) as usize;
-    if owners.len() <= i {
-        return 0;
-    }
-    owners[i]
+    owners.get(i).copied().unwrap_or(0)
 }

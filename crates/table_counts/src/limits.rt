@@ -21,6 +21,21 @@ pub const MOST_KEYS: usize = 4096;
 
 pub const MOST_PATTERNS: usize = 256;
 
+// The most of each list, in the table's order without the owners.
+pub const FIGURE_MOSTS: [usize; 9] = [
+    MOST_TEXTURES,
+    MOST_COLOURS,
+    MOST_MATERIALS,
+    MOST_POINTS,
+    MOST_NORMALS,
+    MOST_BONES,
+    MOST_UVS,
+    MOST_FACES,
+    MOST_GROUPS,
+];
+
+pub const MOVEMENT_MOSTS: [usize; 3] = [MOST_BONES, MOST_KEYS, MOST_PATTERNS];
+
 pub const TEXTURE_WIDTH: usize = 2;
 
 pub const COLOUR_WIDTH: usize = 3;

@@ -3,11 +3,10 @@
 ghost use Rattle.std.specs.Prelude.{◌≡◌};
 ghost use Rattle.table_figure.specs.Sections.{few_in_figure, no_figure_sections, figure_sections, holds_figure, WithinMosts, figure_in};
 
-use refusal::Checked;
+use refusal::too_many;
 use table_counts::{
-    BONE_WIDTH, COLOUR_WIDTH, FACE_WIDTH, FigureCounts, GROUP_WIDTH, MATERIAL_WIDTH, MOST_BONES,
-    MOST_COLOURS, MOST_FACES, MOST_GROUPS, MOST_MATERIALS, MOST_NORMALS, MOST_POINTS,
-    MOST_TEXTURES, MOST_UVS, NORMAL_WIDTH, POINT_WIDTH, TEXTURE_WIDTH, UV_WIDTH,
+    BONE_WIDTH, COLOUR_WIDTH, FACE_WIDTH, FIGURE_MOSTS, FigureCounts, GROUP_WIDTH, MATERIAL_WIDTH,
+    NORMAL_WIDTH, POINT_WIDTH, TEXTURE_WIDTH, UV_WIDTH,
 };
 
 // The numbers in front of the lists.
@@ -41,32 +40,7 @@ pub fn figure_in(table: &[i64], n: FigureCounts) -> FigureSections
 fn few_in_figure(n: FigureCounts) -> bool
     ensures { result ≡ few_in_figure n }
 {
-    let counts = [
-        n.textures,
-        n.colours,
-        n.materials,
-        n.points,
-        n.normals,
-        n.bones,
-        n.uvs,
-        n.faces,
-        n.groups,
-    ];
-    let mosts = [
-        MOST_TEXTURES,
-        MOST_COLOURS,
-        MOST_MATERIALS,
-        MOST_POINTS,
-        MOST_NORMALS,
-        MOST_BONES,
-        MOST_UVS,
-        MOST_FACES,
-        MOST_GROUPS,
-    ];
-    match refusal::too_many(&counts, &mosts) {
-        Checked::Refused { number, place } => false,
-        Checked::Clear => true,
-    }
+    too_many(&n.rows(), &FIGURE_MOSTS).is_ok()
 }
 
 fn no_figure_sections() -> FigureSections

@@ -5,27 +5,12 @@ ghost use Rattle.std.specs.Prelude.{◌≡◌, ◌+◌, ◌*◌, min};
 pub fn advance(i: usize, width: usize, n: usize) -> usize
     ensures { min result n ≡ min (i + width) n }
 {
-    if n <= i {
-        return i;
-    }
-    if n - i < width {
-        return n;
-    }
-    i + width
+    i.saturating_add(width).min(n)
 }
 
 // The index after `count` rows of `width` numbers that begin at index `at`, in a table of n numbers; its end where they do not fit.
 pub fn rows_end(at: usize, count: usize, width: usize, n: usize) -> usize
     ensures { result ≡ min (at + count * width) n }
 {
-    if n <= at {
-        return n;
-    }
-    if width == 0 {
-        return at;
-    }
-    if (n - at) / width < count {
-        return n;
-    }
-    at + count * width
+    at.saturating_add(count.saturating_mul(width)).min(n)
 }

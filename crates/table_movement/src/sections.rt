@@ -3,11 +3,8 @@
 ghost use Rattle.std.specs.Prelude.{◌≡◌, ◌≤◌};
 ghost use Rattle.table_movement.specs.Sections.{few_in_movement, no_movement_sections, movement_sections, holds_movement, movement_in};
 
-use refusal::Checked;
-use table_counts::{
-    KEY_WIDTH, MOST_BONES, MOST_KEYS, MOST_PATTERNS, MOVEMENT_BONE_WIDTH, MovementCounts,
-    PATTERN_WIDTH,
-};
+use refusal::too_many;
+use table_counts::{KEY_WIDTH, MOVEMENT_BONE_WIDTH, MOVEMENT_MOSTS, MovementCounts, PATTERN_WIDTH};
 
 // The numbers in front of the lists.
 const MOVEMENT_FRONT: usize = 3;
@@ -37,12 +34,7 @@ pub fn movement_in(table: &[i64], n: MovementCounts) -> MovementSections
 fn few_in_movement(n: MovementCounts) -> bool
     ensures { result ≡ few_in_movement n }
 {
-    let counts = [n.bones, n.keys, n.patterns];
-    let mosts = [MOST_BONES, MOST_KEYS, MOST_PATTERNS];
-    match refusal::too_many(&counts, &mosts) {
-        Checked::Refused { number, place } => false,
-        Checked::Clear => true,
-    }
+    too_many(&n.rows(), &MOVEMENT_MOSTS).is_ok()
 }
 
 fn no_movement_sections() -> MovementSections

@@ -7,10 +7,7 @@ ghost use Rattle.table_references.specs.Index.{is_index};
 pub fn is_row(n: usize, z: i64) -> bool
     ensures { result ≡ is_row n z }
 {
-    if z < 0 {
-        return false;
-    }
-    (z as usize) < n
+    0 <= z && (z as usize) < n
 }
 
 // No row.
@@ -24,8 +21,5 @@ pub fn is_none(z: i64) -> bool
 pub fn is_index(n: usize, z: i64) -> bool
     ensures { result ≡ is_index n z }
 {
-    if is_none(z) {
-        return true;
-    }
-    is_row(n, z)
+    is_none(z) || is_row(n, z)
 }

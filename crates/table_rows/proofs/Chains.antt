@@ -41,6 +41,23 @@ up_to (suc n) (z ∷ zs) (x ∷ s) h = ap (λ (l : List ℤ). z ∷ l) (up_to n 
 pub middle : (at end : ℕ) (zs t : List ℤ) → at ≤ end → min (at + length zs) (length t) ≤ end → take at t ++ (overlay_at 0 zs (take (end - at) (drop at t)) ++ drop (end - at) (drop at t)) ≡ overlay_at at zs t
 middle at end zs t h e = sym (from_index at zs t ∙ ap (λ (l : List ℤ). take at t ++ l) (up_to (end - at) zs (drop at t) (rw length-drop (omega arith))))
 
+-- the numbers that fit over the numbers of a table, and what follows them
+cut : (zs t : List ℤ) (n : ℕ) → n ≡ min (length zs) (length t) → overlay_at 0 zs t ≡ take n zs ++ drop n t
+unfolding overlay_at overlay
+cut [] t zero h = refl
+cut [] t (suc n) h = absurd (omega arith)
+cut (z ∷ zs) [] zero h = refl
+cut (z ∷ zs) [] (suc n) h = absurd (omega arith)
+cut (z ∷ zs) (x ∷ t) zero h = absurd (omega arith)
+cut (z ∷ zs) (x ∷ t) (suc n) h = ap (λ (l : List ℤ). z ∷ l) (cut zs t n (omega arith))
+
+-- so they are copied over the part of the table from an index on, or from its end on
+pub copied : (at start n : ℕ) (zs t : List ℤ) → start ≡ min at (length t) → n ≡ min (length zs) (length t - start) → take start t ++ (take n zs ++ drop n (drop start t)) ≡ overlay_at at zs t
+copied at start n zs t s e =
+    ap (λ (l : List ℤ). take start t ++ l) (sym (cut zs (drop start t) n (rw length-drop e)))
+    ∙ sym (from_index start zs t)
+    ∙ overlay_at-same start at zs t (omega (arith, s))
+
 -- ---- lists laid from a table's start on
 
 -- what a table holds after lists, and the index after them

@@ -62,10 +62,6 @@ overlay_at-append i [] ys t = rw (overlay_at_none i t, add-zero)
 overlay_at-append i (x ∷ xs) ys t =
     overlay_at-cons i x (xs ++ ys) t ∙ overlay_at-append (suc i) xs ys (set t i x) ∙ rw (overlay_at-cons i x xs t) (ap (λ (n : ℕ). overlay_at n ys (overlay_at (suc i) xs (set t i x))) (omega arith))
 
--- one number more
-pub overlay_at_snoc : (i : ℕ) (zs : List ℤ) (z : ℤ) (t : List ℤ) → overlay_at i (zs ++ (z ∷ [])) t ≡ set (overlay_at i zs t) (i + length zs) z
-overlay_at_snoc i zs z t = overlay_at-append i zs (z ∷ []) t ∙ overlay_at-cons (i + length zs) z [] (overlay_at i zs t) ∙ overlay_at_none (suc (i + length zs)) _
-
 -- past a table's end an index is as good as the end
 pub overlay_at-min : (i : ℕ) (zs t : List ℤ) → overlay_at (min i (length t)) zs t ≡ overlay_at i zs t
 overlay_at-min i zs t = go (leb i (length t)) refl

@@ -6,17 +6,9 @@ ghost use Rattle.table_rows.specs.Internal.Overlay.{overlay_at};
 pub fn store(out: &mut [i64], at: usize, row: &[i64])
     ensures { out.new ≡ overlay_at at row.now out.old }
 {
-    let mut i = at;
-    let mut k = 0;
-    while k < row.len() {
-        if out.len() <= i {
-            return;
-        }
-        let z = row[k];
-        out[i] = z;
-        i += 1;
-        k += 1;
-    }
+    let start = at.min(out.len());
+    let n = row.len().min(out.len() - start);
+    out[start..start + n].copy_from_slice(&row[..n]);
 }
 
 // Lays a list over a table's numbers from index `at` on, and gives the index after it; numbers past the table's end are dropped.
@@ -24,13 +16,6 @@ pub fn put(table: &mut [i64], at: usize, rows: &[i64]) -> usize
     ensures content { table.new ≡ overlay_at at rows.now table.old }
     ensures next { result ≡ min (at + length rows.now) (length table.old) }
 {
-    if table.len() <= at {
-        return table.len();
-    }
-    let mut end = table.len();
-    if rows.len() < end - at {
-        end = at + rows.len();
-    }
-    store(&mut table[at..end], 0, rows);
-    end
+    store(table, at, rows);
+    at.saturating_add(rows.len()).min(table.len())
 }

@@ -15,68 +15,38 @@ pub enum Class {
     Other,
 }
 
+#[tactic(auto, using(std::proofs::lemmas::Bool::Decides::nat_tests), unfolding(crate::specs::Bytes::is_blank))]
 pub fn is_blank(b: u8) -> bool
     ensures { result ≡ is_blank b }
 {
-    if b == 9 {
-        return true;
-    }
-    if b == 10 {
-        return true;
-    }
-    if b == 13 {
-        return true;
-    }
-    b == 32
+    matches!(b, b'\t' | b'\n' | b'\r' | b' ')
 }
 
+#[tactic(auto, using(std::proofs::lemmas::Bool::Decides::nat_tests), unfolding(crate::specs::Bytes::between))]
 pub fn is_between(b: u8, low: u8, high: u8) -> bool
     ensures { result ≡ between low high b }
 {
-    if b < low {
-        return false;
-    }
-    b <= high
+    low <= b && b <= high
 }
 
+#[tactic(auto, using(std::proofs::lemmas::Bool::Decides::nat_tests), unfolding(crate::specs::Bytes::is_letter))]
 pub fn is_letter(b: u8) -> bool
     ensures { result ≡ is_letter b }
 {
-    if !is_between(b, 33, 126) {
-        return false;
-    }
-    if b == 40 {
-        return false;
-    }
-    if b == 41 {
-        return false;
-    }
-    if b == 34 {
-        return false;
-    }
-    b != 59
+    is_between(b, 33, 126) && !matches!(b, b'(' | b')' | b'"' | b';')
 }
 
+#[tactic(auto, using(std::proofs::lemmas::Bool::Decides::nat_tests), unfolding(crate::specs::Bytes::class_of, crate::specs::Bytes::is_blank, crate::specs::Internal::Answers::class_named))]
 pub fn class_of(b: u8) -> Class
     ensures { class_named result ≡ class_of b }
 {
-    if is_blank(b) {
-        return Class::Blank;
+    match b {
+        b'(' => Class::Opener,
+        b')' => Class::Closer,
+        b'"' => Class::Quote,
+        b';' => Class::Semicolon,
+        _ if is_blank(b) => Class::Blank,
+        _ if is_letter(b) => Class::Letter,
+        _ => Class::Other,
     }
-    if b == 40 {
-        return Class::Opener;
-    }
-    if b == 41 {
-        return Class::Closer;
-    }
-    if b == 34 {
-        return Class::Quote;
-    }
-    if b == 59 {
-        return Class::Semicolon;
-    }
-    if is_letter(b) {
-        return Class::Letter;
-    }
-    Class::Other
 }

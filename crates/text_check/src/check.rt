@@ -4,7 +4,7 @@ ghost use Rattle.text_check.specs.Faults.{text_fault, fault_in, outside, string,
 ghost use Rattle.refusal.specs.Internal.Answers.{refusal};
 ghost use Rattle.text_check.specs.Internal.Answers.{scanned, Ahead, format_named};
 
-use refusal::Checked;
+use refusal::Refusal;
 use text_bytes::{Class, class_of, is_between, is_blank};
 use text_parts::{part, same};
 use text_runs::{Run, run_end};
@@ -16,20 +16,20 @@ pub enum Format {
 }
 
 // The first fault 1 to 4 of a text of a format.
-pub fn check_text(text: &[u8], format: Format) -> Checked
+pub fn check_text(text: &[u8], format: Format) -> Result<(), Refusal>
     ensures { refusal result ≡ text_fault (format_named format) text.now }
 {
     if 65536 < text.len() {
-        return Checked::Refused {
+        return Err(Refusal {
             number: 1,
             place: 0,
-        };
+        });
     }
     if !is_marked(text, format) {
-        return Checked::Refused {
+        return Err(Refusal {
             number: 2,
             place: 0,
-        };
+        });
     }
     first_fault(text)
 }
@@ -47,74 +47,56 @@ fn is_marked(text: &[u8], format: Format) -> bool
 fn has_mark(text: &[u8], mark: &[u8]) -> bool
     ensures { result ≡ begins mark.now text.now }
 {
-    if !same(part(text, 0, 4), mark) {
-        return false;
-    }
-    if text.len() <= 4 {
-        return true;
-    }
-    is_blank(text[4])
+    same(part(text, 0, 4), mark) && (text.len() <= 4 || is_blank(text[4]))
 }
 
-// The first fault 3 or 4.
-fn first_fault(text: &[u8]) -> Checked
+// The first fault 3 or 4. A string or a comment is passed over at once, so the offset does not go up by one.
+fn first_fault(text: &[u8]) -> Result<(), Refusal>
     ensures { refusal result ≡ fault_in outside 0 text.now }
 {
     let mut i = 0;
     while i < text.len() {
         match class_of(text[i]) {
-            Class::Quote => match string_end(text, i) {
-                Scan::Ended(next) => i = next,
-                Scan::Faulty { number, place } => return Checked::Refused { number, place },
-            },
+            Class::Quote => i = string_end(text, i)?,
             Class::Semicolon => i = run_end(text, i + 1, Run::Line),
             Class::Other => {
-                return Checked::Refused {
+                return Err(Refusal {
                     number: 3,
                     place: i,
-                };
+                });
             }
             Class::Blank | Class::Opener | Class::Closer | Class::Letter => i += 1,
         }
     }
-    Checked::Clear
+    Ok(())
 }
 
-// What a string is: the offset after its closing quote, or its fault.
-#[derive(Clone, Copy)]
-enum Scan {
-    Ended(usize),
-    Faulty { number: u8, place: usize },
-}
-
-// The string whose opening quote stands at `quote`.
-fn string_end(text: &[u8], quote: usize) -> Scan
+// The offset after the closing quote of the string whose opening quote stands at `quote`, or the string's fault.
+fn string_end(text: &[u8], quote: usize) -> Result<usize, Refusal>
     requires { quote < length text.now }
     ensures meaning { scanned text.now result ≡ fault_in (string quote 0) (suc quote) (drop (suc quote) text.now) }
     ensures progress { Ahead quote (length text.now) result }
 {
-    let mut i = quote + 1;
-    while i < text.len() {
+    for i in quote + 1..text.len() {
         let b = text[i];
         if b == 34 {
-            return Scan::Ended(i + 1);
+            return Ok(i + 1);
         }
         if 256 <= i - quote {
-            return Scan::Faulty {
+            return Err(Refusal {
                 number: 4,
                 place: quote,
-            };
+            });
         }
         if !is_between(b, 32, 126) {
-            return Scan::Faulty {
+            return Err(Refusal {
                 number: 3,
                 place: i,
-            };
+            });
         }
-        i += 1;
     }
-    Scan::Faulty {
+    Err(Refusal {
         number: 4,
         place: quote,
-    }
+    })
 }

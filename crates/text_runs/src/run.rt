@@ -15,6 +15,7 @@ pub enum Run {
     Word,
 }
 
+#[tactic(auto, unfolding(crate::specs::Internal::Answers::test_named, text_bytes::specs::Bytes::in_line, text_bytes::specs::Bytes::in_string, text_bytes::specs::Bytes::in_word, text_bytes::specs::Bytes::is_digit))]
 pub(crate) fn belongs(kind: Run, b: u8) -> bool
     ensures { result ≡ test_named kind b }
 {
@@ -31,12 +32,10 @@ pub(crate) fn belongs(kind: Run, b: u8) -> bool
 pub fn run_end(text: &[u8], from: usize, kind: Run) -> usize
     ensures { result ≡ from + length (run (test_named kind) (drop from text.now)) }
 {
-    let mut i = from;
-    while i < text.len() {
+    for i in from..text.len() {
         if !belongs(kind, text[i]) {
             return i;
         }
-        i += 1;
     }
-    i
+    from.max(text.len())
 }

@@ -8,7 +8,7 @@ use text_bytes::{Class, class_of};
 use text_parts::{part, same};
 use text_runs::{Run, run_end};
 
-#[derive(Clone, Copy)]
+#[derive(Clone, Copy, PartialEq, Eq)]
 pub enum Kind {
     Opening,
     Closing,
@@ -26,15 +26,14 @@ pub struct Span {
     pub length: usize,
 }
 
-// The first token at or after an offset; past the last token, one of kind `Ending` at the text's length.
+// The first token at or after an offset, where a comment is passed over at once, so that the offset does not go up by one; past the last token, one of kind `Ending` at the text's length.
 pub fn next(text: &[u8], at: usize) -> Span
     ensures { Next text.now at result }
 {
     let mut i = at;
     while i < text.len() {
         match class_of(text[i]) {
-            Class::Blank => i += 1,
-            Class::Other => i += 1,
+            Class::Blank | Class::Other => i += 1,
             Class::Semicolon => i = run_end(text, i + 1, Run::Line),
             Class::Opener => {
                 return Span {
@@ -68,14 +67,7 @@ pub fn next(text: &[u8], at: usize) -> Span
 pub fn is_keyword(text: &[u8], t: Span, keyword: &[u8]) -> bool
     ensures { result ≡ is_keyword keyword.now (lexeme_of text.now t).token }
 {
-    let kind = t.kind;
-    match kind {
-        Kind::Plain => same(part(text, t.start, t.end), keyword),
-        Kind::Opening => false,
-        Kind::Closing => false,
-        Kind::Quoted => false,
-        Kind::Ending => false,
-    }
+    t.kind == Kind::Plain && same(part(text, t.start, t.end), keyword)
 }
 
 // The string whose opening quote stands at `at`.

@@ -3,6 +3,7 @@ use mathlib.Core.Path.{◌≡◌, refl, ap, sym, ◌∙◌}
 use mathlib.Core.List.{List, [], ◌∷◌, ◌++◌}
 use mathlib.Core.Bool.{Bool, true, false}
 use mathlib.Core.Option.{none, some}
+use Rattle.std.proofs.Common.{Option as Count, Some, None, unwrap_or}
 use Prim.Native.Nat.{ℕ, ◌+◌, ◌*◌, ◌≤◌, ◌<◌}
 use native.Mathlib.Omega.{arith}
 use borrow.Author.Tests.{leb-true, leb-false}
@@ -25,7 +26,7 @@ use Rattle.tra4_text.specs.Rules.{all_keys, channels_of, key_rows, counts_of, mo
 use Rattle.tra4_text.specs.Layout.{name_numbers, bone_rows, layout_of}
 use Rattle.tra4_bones.specs.Internal.Into.{bone_step}
 use Rattle.tra4_bone.specs.Internal.Into.{Kept, kept}
-use Rattle.tra4_parse.specs.declared.shape.Parsed.{Parsed}
+use Rattle.tra4_parse.specs.declared.shape.Shape.{Shape}
 use Rattle.tra4_parse.specs.Internal.Parse.{MovementValue, movement_value}
 use Rattle.tra4_rules.specs.Internal.Order.{tables_fault}
 use Rattle.tra4_rules.proofs.Laid.{Tenfold, in_tables, keys-beyond, tables_over, tables_within, tables_laid}
@@ -33,7 +34,7 @@ use Rattle.tra4.specs.Internal.Parse.{value_of}
 use Rattle.tra4.specs.declared.setting.MovementAnswer.{MovementAnswer}
 use Rattle.tra4.specs.Answers.{refused_with, answer_of}
 use Rattle.tra4.specs.Internal.Answers.{Answered, total_of, counts_answer, down_answer, down_table, parts_of, Fits}
-use Rattle.tra4.specs.Internal.Checks.{key_count, rules_fault, parsed_as, Held}
+use Rattle.tra4.specs.Internal.Checks.{rules_fault, parsed_as, Held}
 use Rattle.tra4_text.proofs.Names.{movement-placed}
 use Rattle.tra4_text.proofs.Whole.{WholeBone, WholeMovement, movement-whole}
 use Rattle.tra4_text.proofs.Layouts.{all_wide, rows_wide, rows_count, layout_length}
@@ -43,15 +44,15 @@ use Rattle.table_counts.specs.Counts.{movement_mosts, movement_lists}
 
 -- ---- what is kept of bones
 
-kept_some : (over : Bool) (rows : List ℤ) (n : ℕ) (keys : List ℤ) (x : List ℤ × ℕ × List ℤ) → kept over rows n keys ≡ some x → (over ≡ false) × (x ≡ (rows, n, keys))
+kept_some : (o : Count ℕ) (rows keys : List ℤ) (x : List ℤ × ℕ × List ℤ) → kept o rows keys ≡ some x → (o ≡ Some (unwrap_or o 0)) × (x ≡ (rows, unwrap_or o 0, keys))
 unfolding kept
-kept_some true rows n keys x e = let z : ◌≡◌ {A = ℕ} 0 1 = cc in absurd (omega (arith, z))
-kept_some false rows n keys x e = (refl, cc)
+kept_some None rows keys x e = let z : ◌≡◌ {A = ℕ} 0 1 = cc in absurd (omega (arith, z))
+kept_some (Some n) rows keys x e = (refl, cc)
 
-kept_none : (over : Bool) (rows : List ℤ) (n : ℕ) (keys : List ℤ) → kept over rows n keys ≡ none → over ≡ true
+kept_none : (o : Count ℕ) (rows keys : List ℤ) → kept o rows keys ≡ none → o ≡ None
 unfolding kept
-kept_none true rows n keys e = refl
-kept_none false rows n keys e = let z : ◌≡◌ {A = ℕ} 0 1 = cc in absurd (omega (arith, z))
+kept_none None rows keys e = refl
+kept_none (Some n) rows keys e = let z : ◌≡◌ {A = ℕ} 0 1 = cc in absurd (omega (arith, z))
 
 tenfold : (bs : List Bone) → Every WholeBone bs → Tenfold bs
 tenfold [] h = tt
@@ -78,15 +79,18 @@ held_rules m bs ks ps rb rk rp e f h t w v = rw (e, f, h) (tables_laid m rb rk r
 same_parts : (t t' : ℤ) (a a' s s' : ℕ) (b b' k k' g g' : List ℤ) → t ≡ t' → a ≡ a' → s ≡ s' → b ≡ b' → k ≡ k' → g ≡ g' → (t ∷ pos a ∷ pos s ∷ []) ++ b ++ k ++ g ≡ (t' ∷ pos a' ∷ pos s' ∷ []) ++ b' ++ k' ++ g'
 same_parts t t' a a' s s' b b' k k' g g' et ea es eb ek eg = rw (et, ea, es, eb, ek, eg)
 
-count_few : (over : Bool) (n k : ℕ) → over ≡ false → k ≡ n → key_count over n ≡ k
-unfolding key_count
-count_few over n k e f = rw (e, f)
+count_few : (o : Count ℕ) (k : ℕ) → o ≡ Some (unwrap_or o 0) → k ≡ unwrap_or o 0 → unwrap_or o 4097 ≡ k
+count_few None k e f = let z : ◌≡◌ {A = ℕ} 0 1 = cc in absurd (omega (arith, z))
+count_few (Some n) k e f = sym f
 
-count_over : (over : Bool) (n : ℕ) → over ≡ true → key_count over n ≡ 4097
-unfolding key_count
-count_over over n e = rw e
+count_over : (o : Count ℕ) → o ≡ None → unwrap_or o 4097 ≡ 4097
+count_over o e = rw e
 
-module _ {p : Parsed} {b' k' g' : List ℤ} (h : Held p b' k' g') where
+module _ {p : Shape} {b' k' g' : List ℤ} (h : Held p b' k' g') where
+  -- how many keys were kept
+  abbrev m : ℕ
+  m = unwrap_or p.keys 0
+
   abbrev read : Movement
   read = h.read
 
@@ -113,7 +117,7 @@ module _ {p : Parsed} {b' k' g' : List ℤ} (h : Held p b' k' g') where
   unfolding parsed_as value_of movement_value
   name-is = ap (λ (v : MovementValue). v.name) h.kept_as
 
-  bones_are : fold bone_step (0, some (b, 0, k)) bones ≡ (p.bones, kept p.over b' p.keys k')
+  bones_are : fold bone_step (0, some (b, 0, k)) bones ≡ (p.bones, kept p.keys b' k')
   unfolding parsed_as value_of movement_value
   bones_are = ap (λ (v : MovementValue). v.bones) h.kept_as
 
@@ -123,7 +127,7 @@ module _ {p : Parsed} {b' k' g' : List ℤ} (h : Held p b' k' g') where
 
   -- not too many keys: the tables begin with the rows
   module _ (few : length (key_rows read) ≤ 4096) where
-    unfolded : (length bones ≡ p.bones) × (kept p.over b' p.keys k' ≡ some (overlay_at 0 (flat (bone_rows 0 bones)) b, length (key_rows read), overlay_at 0 (flat (key_rows read)) k))
+    unfolded : (length bones ≡ p.bones) × (kept p.keys b' k' ≡ some (overlay_at 0 (flat (bone_rows 0 bones)) b, length (key_rows read), overlay_at 0 (flat (key_rows read)) k))
     unfolding key_rows
     unfolded =
         let q = sym (fold-bones 0 0 b k bones whole.bones (omega (arith, few))) ∙ bones_are in
@@ -131,22 +135,22 @@ module _ {p : Parsed} {b' k' g' : List ℤ} (h : Held p b' k' g') where
         let j : 0 + length (all_keys (channels_of bones)) ≡ length (all_keys (channels_of bones)) = omega arith in
         (sym i ∙ ap (λ (x : ℕ × Kept). x.0) q, sym (rw j at (ap (λ (x : ℕ × Kept). x.1) q)))
 
-    not-over : p.over ≡ false
-    not-over = (kept_some p.over b' p.keys k' _ unfolded.1).0
+    not-over : p.keys ≡ Some m
+    not-over = (kept_some p.keys b' k' _ unfolded.1).0
 
-    tables : ◌≡◌ {A = List ℤ × ℕ × List ℤ} (overlay_at 0 (flat (bone_rows 0 bones)) b, length (key_rows read), overlay_at 0 (flat (key_rows read)) k) (b', p.keys, k')
-    tables = (kept_some p.over b' p.keys k' _ unfolded.1).1
+    tables : ◌≡◌ {A = List ℤ × ℕ × List ℤ} (overlay_at 0 (flat (bone_rows 0 bones)) b, length (key_rows read), overlay_at 0 (flat (key_rows read)) k) (b', m, k')
+    tables = (kept_some p.keys b' k' _ unfolded.1).1
 
     bones-held : (length (bone_rows 0 bones) ≡ p.bones) × (overlay_at 0 (flat (bone_rows 0 bones)) b ≡ b')
     bones-held = (rows_count 0 bones ∙ unfolded.0, ap (λ (x : List ℤ × ℕ × List ℤ). x.0) tables)
 
-    keys-held : (length (key_rows read) ≡ p.keys) × (overlay_at 0 (flat (key_rows read)) k ≡ k')
+    keys-held : (length (key_rows read) ≡ m) × (overlay_at 0 (flat (key_rows read)) k ≡ k')
     keys-held = (ap (λ (x : List ℤ × ℕ × List ℤ). x.1) tables, ap (λ (x : List ℤ × ℕ × List ℤ). x.2) tables)
 
     -- the rules over the tables are the movement's
     rules_few : rules_fault p b' k' g' ≡ movement_fault read
     unfolding rules_fault
-    rules_few = same_tables read.total_frames p.total (length bones) p.bones (length (key_rows read)) (key_count p.over p.keys) (length read.patterns) p.patterns b' k' g' (sym frames_are) (sym unfolded.0) (count_few p.over p.keys (length (key_rows read)) not-over keys-held.0) (sym patterns_are.0) ∙ tables_within read b' k' g' laid_rules
+    rules_few = same_tables read.total_frames p.total (length bones) p.bones (length (key_rows read)) (unwrap_or p.keys 4097) (length read.patterns) p.patterns b' k' g' (sym frames_are) (sym unfolded.0) (count_few p.keys (length (key_rows read)) not-over keys-held.0) (sym patterns_are.0) ∙ tables_within read b' k' g' laid_rules
       where
         laid_rules : too_many 0 (counts_of read) movement_mosts ≡ clear → in_tables read b' k' g' ≡ movement_fault read
         laid_rules o =
@@ -165,9 +169,9 @@ module _ {p : Parsed} {b' k' g' : List ℤ} (h : Held p b' k' g') where
   rules_over many =
       let q = sym (fold_over 0 0 b k bones (omega arith) (omega (arith, many))) ∙ bones_are in
       let i : 0 + length bones ≡ length bones = omega arith in
-      let o = kept_none p.over b' p.keys k' (sym (ap (λ (x : ℕ × Kept). x.1) q)) in
+      let o = kept_none p.keys b' k' (sym (ap (λ (x : ℕ × Kept). x.1) q)) in
       let c : length bones ≡ p.bones = sym i ∙ ap (λ (x : ℕ × Kept). x.0) q in
-      same_tables p.total p.total (length bones) p.bones 4097 (key_count p.over p.keys) p.patterns p.patterns b' k' g' refl (sym c) (count_over p.over p.keys o) refl
+      same_tables p.total p.total (length bones) p.bones 4097 (unwrap_or p.keys 4097) p.patterns p.patterns b' k' g' refl (sym c) (count_over p.keys o) refl
       ∙ tables_over read (keys-beyond (length bones) (length (key_rows read)) (length read.patterns) many) p.total (length bones) 4097 p.patterns b' k' g' (keys-beyond (length bones) 4097 p.patterns (omega arith))
 
   rules : rules_fault p b' k' g' ≡ movement_fault read
@@ -209,8 +213,8 @@ module _ {p : Parsed} {b' k' g' : List ℤ} (h : Held p b' k' g') where
     bones-part : take (p.bones * 22) b' ≡ flat (bone_rows 0 bones)
     bones-part = part-is 22 128 p.bones (bone_rows 0 bones) b b' (rows_wide 0 bones whole.bones) rows_few (omega (arith, h.bones_most)) (bones-held within.1)
 
-    keys-part : take (p.keys * 2) k' ≡ flat (key_rows read)
-    keys-part = part-is 2 4096 p.keys (key_rows read) k k' keys_two within.1 (omega (arith, h.keys_most)) (keys-held within.1)
+    keys-part : take (m * 2) k' ≡ flat (key_rows read)
+    keys-part = part-is 2 4096 m (key_rows read) k k' keys_two within.1 (omega (arith, h.keys_most)) (keys-held within.1)
 
     patterns-part : take (p.patterns * 3) g' ≡ flat read.patterns
     patterns-part = part-is 3 256 p.patterns read.patterns g g' whole.patterns within.2 (omega (arith, h.patterns_most)) patterns_are
@@ -238,7 +242,7 @@ module _ {p : Parsed} {b' k' g' : List ℤ} (h : Held p b' k' g') where
           size = rw (← size) (omega (arith, n.1, h.short));
           total = omega (arith, within.0, within.1, within.2, (unfolded within.1).0, (keys-held within.1).0, patterns_are.0);
           bones = room-is 22 128 p.bones (bone_rows 0 bones) b b' (rows_wide 0 bones whole.bones) rows_few (omega (arith, h.bones_most)) (bones-held within.1);
-          keys = room-is 2 4096 p.keys (key_rows read) k k' keys_two within.1 (omega (arith, h.keys_most)) (keys-held within.1);
+          keys = room-is 2 4096 m (key_rows read) k k' keys_two within.1 (omega (arith, h.keys_most)) (keys-held within.1);
           patterns = room-is 3 256 p.patterns read.patterns g g' whole.patterns within.2 (omega (arith, h.patterns_most)) patterns_are;
         }
 

@@ -8,15 +8,15 @@ use lib.ListN.{length}
 use Rattle.refusal.specs.Outcomes.{rejected, ruled}
 use Rattle.text_numerals.specs.Numbers.{INT}
 use Rattle.text_tokens.specs.Tokens.{Lexeme, lex, lex_at}
-use Rattle.parse_cursor.specs.declared.cursor.Cursor.{Cursor}
+use Rattle.std.proofs.Common.{Ok}
 use Rattle.parse_spec.specs.Readers.{Name, absent, Got, got, refused, Reader, after, ◌>>=◌, ◌>>◌, pure, head, opened, closed, string, number, optional, trailing, many, close_bracket, text_end}
 use Rattle.parse_spec.specs.Internal.Places.{place_of, optional_name}
-use Rattle.parse_cursor.specs.Internal.Cursors.{reads}
+use Rattle.parse_cursor.specs.Internal.Cursors.{from, reads}
 use Rattle.table_rows.specs.Internal.Overlay.{overlay_at}
 use Rattle.table_rows.specs.Flat.{flat}
 use Rattle.parse_rows.specs.Internal.Folds.{fold}
-use Rattle.parse_cursor.proofs.Steps.{from_on, from_off}
-use Rattle.parse_spec.proofs.Many.{not-got, got-value}
+use Rattle.parse_cursor.proofs.Behind.{behind_off}
+use Rattle.parse_spec.proofs.Many.{got-value}
 use Rattle.parse_spec.proofs.Given.{before}
 use Rattle.parse_spec.proofs.Sequences.{into_then, into_bind}
 use Rattle.parse_text.specs.Texts.{shaped}
@@ -28,7 +28,7 @@ use Rattle.tra4_text.specs.Layout.{layout_of}
 use Rattle.tra4_text.specs.Rules.{movement_fault}
 use Rattle.tra4_bones.specs.Internal.Into.{bone_step, bones_into}
 use Rattle.tra4_bone.specs.Internal.Into.{Kept}
-use Rattle.tra4_parse.specs.declared.shape.Parsed.{Parsed}
+use Rattle.tra4_parse.specs.declared.shape.Shape.{Shape}
 use Rattle.tra4_patterns.specs.Internal.Patterns.{patterns_into}
 use Rattle.tra4_parse.specs.Internal.Parse.{MovementValue, movement_value, movement_into}
 use Rattle.tra4.specs.declared.setting.MovementAnswer.{MovementAnswer}
@@ -88,25 +88,19 @@ module _ (rows keys lines : List ℤ) where
 -- ---- what a parsed text says of the grammar's movement
 
 -- what was held, of the text's own movement
-pub record HeldOf (text : List ℕ) (p : Parsed) (b k g : List ℤ) : Type 0 where
+pub record HeldOf (text : List ℕ) (p : Shape) (b k g : List ℤ) : Type 0 where
   pub held : Held p b k g
   pub same : ruled held.read (movement_fault held.read) ≡ shaped movement_fault (movement (lex text))
 
-module _ (text : List ℕ) (rows keys lines : List ℤ) (p : Parsed) (b k g : List ℤ) (e : reads text p.cursor (parsed_as p b k g) ≡ movement_into rows keys lines (lex text)) where
-  abbrev d : Cursor
-  d = p.cursor
-
-  abbrev x : MovementValue
-  x = parsed_as p b k g
-
-  same-movement : reads text d x ≡ after (movement (lex text)) (λ m. pure (value_of rows keys lines m))
+module _ (text : List ℕ) (rows keys lines : List ℤ) where
+  same-movement : {g : Got MovementValue} → g ≡ movement_into rows keys lines (lex text) → g ≡ after (movement (lex text)) (λ m. pure (value_of rows keys lines m))
   unfolding ◌>>=◌
-  same-movement = e ∙ sym (movement-same rows keys lines (lex text))
+  same-movement e = e ∙ sym (movement-same rows keys lines (lex text))
 
-  pub shape-held : d.refusal ≡ 0 → length text ≤ 65536 → length rows ≡ 2816 → length keys ≡ 8192 → length lines ≡ 768 → HeldOf text p b k g
-  unfolding reads pure shaped
-  shape-held z s r o n =
-      let f = before (movement (lex text)) (λ m. pure (value_of rows keys lines m)) x (lex_at text d.at) (sym same-movement ∙ from_on text d (pure x) z) in
+  pub shape-held : (p : Shape) (b k g : List ℤ) (at : ℕ) → reads text (Ok at) (parsed_as p b k g) ≡ movement_into rows keys lines (lex text) → length text ≤ 65536 → length rows ≡ 2816 → length keys ≡ 8192 → length lines ≡ 768 → HeldOf text p b k g
+  unfolding from pure shaped
+  shape-held p b k g at e s r o n =
+      let f = before (movement (lex text)) (λ m. pure (value_of rows keys lines m)) (parsed_as p b k g) (lex_at text at) (sym (same-movement e)) in
       record {
         held =
             record {
@@ -126,14 +120,9 @@ module _ (text : List ℕ) (rows keys lines : List ℤ) (p : Parsed) (b k g : Li
         same = ap (shaped movement_fault) (sym f.first);
       }
 
-  pub shape-refused : (d.refusal ≡ 0 → ⊥) → shaped movement_fault (movement (lex text)) ≡ rejected d.refusal d.at
-  unfolding reads after pure
-  shape-refused z = shape-rejected movement_fault (go (movement (lex text)) (sym same-movement ∙ from_off text d (pure x) z))
-    where
-      go : (r : Got Movement) → after r (λ m. pure (value_of rows keys lines m)) ≡ refused d.refusal d.at → r ≡ refused d.refusal d.at
-      go (got m l) h = absurd (not-got d.refusal d.at (value_of rows keys lines m) l (sym h))
-      go (refused n i) h = let q : n ≡ d.refusal = cc in let w : i ≡ d.at = cc in rw (q, w)
+  pub shape-refused : {n q : ℕ} → refused n q ≡ movement_into rows keys lines (lex text) → shaped movement_fault (movement (lex text)) ≡ rejected n q
+  shape-refused e = shape-rejected movement_fault (behind_off (value_of rows keys lines) (movement (lex text)) (sym (same-movement e)))
 
 -- what answers the rows answers the text's movement
-pub held_answered : {text : List ℕ} {p : Parsed} {b k g : List ℤ} {table exit : List ℤ} {r : MovementAnswer} → HeldOf text p b k g → RowsAnswered p b k g table exit r → Answered (shaped movement_fault (movement (lex text))) table exit r
+pub held_answered : {text : List ℕ} {p : Shape} {b k g : List ℤ} {table exit : List ℤ} {r : MovementAnswer} → HeldOf text p b k g → RowsAnswered p b k g table exit r → Answered (shaped movement_fault (movement (lex text))) table exit r
 held_answered h a = same_answer answer_of layout_of h.same (a.outcome h.held)

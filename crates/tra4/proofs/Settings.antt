@@ -18,7 +18,7 @@ use Rattle.parse_text.proofs.Outcomes.{fitted-room, fitted_short, laid-rejected,
 use Rattle.tra4_text.specs.Movement.{Movement}
 use Rattle.tra4_text.specs.Layout.{layout_of}
 use Rattle.tra4_text.specs.Answer.{movement_outcome, movement_answer, movement_table}
-use Rattle.tra4_parse.specs.declared.shape.Parsed.{Parsed}
+use Rattle.tra4_parse.specs.declared.shape.Shape.{Shape}
 use Rattle.tra4.specs.declared.setting.MovementAnswer.{MovementAnswer}
 use Rattle.tra4.specs.Answers.{refused_with, answer_of}
 use Rattle.tra4.specs.Internal.Answers.{Answered, total_of, counts_answer, down_answer, down_table}
@@ -29,7 +29,7 @@ part_length n l h = rw (length-take n l) (omega arith)
 
 -- ---- by the counts
 
-module _ (p : Parsed) where
+module _ (p : Shape) where
   pub short-answer : (room : ℕ) → room < total_of p → down_answer p room ≡ refused_with 17 (total_of p)
   unfolding down_answer
   short-answer room h = rw (lt-leb (total_of p) room h, down_answer)
@@ -60,7 +60,7 @@ outcome_answered text e a = answer-parts answer_of layout_of e a
 
 -- ---- a movement that is taken
 
-module _ (m : Movement) (p : Parsed) (t : total_of p ≡ length (layout_of m)) where
+module _ (m : Movement) (p : Shape) (t : total_of p ≡ length (layout_of m)) where
   pub answer-is : counts_answer p ≡ answer_of (accepted m) → (room : ℕ) → down_answer p room ≡ answer_of (fitted layout_of room (accepted m))
   unfolding down_answer answer_of
   answer-is e room = go (leb (length (layout_of m)) room) refl

@@ -4,9 +4,10 @@ ghost use Rattle.table_rows.specs.Internal.Overlay.{overlay_at};
 ghost use Rattle.tra4.specs.Answers.{refused_with};
 ghost use Rattle.tra4.specs.Internal.Answers.{Fits, down_answer, down_table, parts_of};
 
+use refusal::Refusal;
 use table_counts::{KEY_WIDTH, MOVEMENT_BONE_WIDTH, MovementCounts, PATTERN_WIDTH, no_movement};
 use table_rows::put;
-use tra4_parse::Parsed;
+use tra4_parse::Shape;
 
 // A refusal's number, place and file; or the total and how many rows each list has. All else is 0.
 #[derive(Clone, Copy)]
@@ -18,12 +19,12 @@ pub struct MovementAnswer {
     pub counts: MovementCounts,
 }
 
-pub(crate) fn refused(number: u8, place: usize) -> MovementAnswer
-    ensures { result ≡ refused_with number place }
+pub(crate) fn refused(e: Refusal) -> MovementAnswer
+    ensures { result ≡ refused_with e.number e.place }
 {
     MovementAnswer {
-        refusal: number as usize,
-        place,
+        refusal: e.number as usize,
+        place: e.place,
         file: 1,
         total: 0,
         counts: no_movement(),
@@ -42,7 +43,7 @@ fn put_part(table: &mut [i64], at: usize, rows: &[i64], size: usize) -> usize
 // Lays the lists without gaps, each list's part of its table; or refuses a table that is too short (17).
 pub(crate) fn set_down(
     table: &mut [i64],
-    p: Parsed,
+    p: Shape,
     bone_rows: &[i64],
     key_rows: &[i64],
     pattern_rows: &[i64],
@@ -52,11 +53,15 @@ pub(crate) fn set_down(
     ensures content { table.new ≡ down_table p (parts_of p bone_rows.now key_rows.now pattern_rows.now) table.old }
 {
     let b = p.bones * MOVEMENT_BONE_WIDTH;
-    let k = p.keys * KEY_WIDTH;
+    let keys = p.keys.unwrap_or(0);
+    let k = keys * KEY_WIDTH;
     let g = p.patterns * PATTERN_WIDTH;
     let total = 3 + b + k + g;
     if table.len() < total {
-        return refused(17, total);
+        return refused(Refusal {
+            number: 17,
+            place: total,
+        });
     }
     let frames = p.total;
     let place = p.place;
@@ -67,7 +72,7 @@ pub(crate) fn set_down(
     put_part(table, keyed, pattern_rows, g);
     let counts = MovementCounts {
         bones: p.bones,
-        keys: p.keys,
+        keys,
         patterns: p.patterns,
     };
     MovementAnswer {

@@ -14,10 +14,8 @@ pub(crate) fn lay_keys(ranges: &mut [i64], keys: &[i64], table: &mut [i64], row:
     ensures content { table.new ≡ overlay_at (row * 2) (gathered ranges.old keys.now) table.old }
 {
     let mut next = row;
-    let mut k: usize = 0;
-    while k < 10 {
+    for k in 0..10 {
         next = lay_range(ranges, k * 2, keys, table, next);
-        k += 1;
     }
 }
 

@@ -1,4 +1,4 @@
-#![tactic(auto)]
+#![tactic(auto, unfolding(parse_cursor::specs::Internal::Cursors::from))]
 // One bone of a movement: its row, and its keys laid by channel number.
 mod bone;
 mod laying;

@@ -11,12 +11,12 @@ use lib.ListN.{length}
 use Rattle.text_bytes.specs.Bytes.{bytes}
 use Rattle.text_numerals.specs.Numbers.{FLOAT}
 use Rattle.text_tokens.specs.Tokens.{Lexeme}
-use Rattle.parse_cursor.specs.declared.cursor.Cursor.{Cursor}
-use Rattle.parse_spec.specs.Readers.{Got, got, Reader, after, ◌>>=◌, ◌>>◌, pure, opened, opened_of, absent}
-use Rattle.parse_cursor.specs.Internal.Cursors.{from, reads}
+use Rattle.std.proofs.Common.{Option as Count, Some, None}
+use Rattle.parse_spec.specs.Readers.{Got, got, refused, Reader, after, ◌>>=◌, ◌>>◌, pure, opened, opened_of, absent}
+use Rattle.parse_cursor.specs.Internal.Cursors.{Cursor, from, reads}
 use Rattle.parse_rows.specs.Internal.Folds.{fold, stepped}
 use Rattle.parse_spec.specs.Fields.{kind}
-use Rattle.parse_cursor.proofs.Steps.{join, seq, from-same}
+use Rattle.parse_cursor.proofs.Steps.{join, seq, from-same, onto_then, halt}
 use Rattle.parse_spec.proofs.Binds.{after-after, after_same}
 use Rattle.table_rows.proofs.Tables.{overlay_at-same}
 use Rattle.parse_spec.proofs.Many.{Keeps, takes_keeps, pure_keeps, bind_keeps, closed_keeps, string_takes, optional_keeps, many⁺_takes, row_of_takes}
@@ -41,31 +41,34 @@ bone_keeps = bind_keeps (optional_keeps "name" absent (closed_keeps (takes_keeps
 -- ---- steps
 
 -- an index that is as good as another
-pub kept_same : (i j : ℕ) (over : Bool) (rows : List ℤ) (n : ℕ) (keys : List ℤ) (b : Bone) → min i (length rows) ≡ min j (length rows) → bone_kept i (kept over rows n keys) b ≡ bone_kept j (kept over rows n keys) b
+pub kept_same : (i j : ℕ) (o : Count ℕ) (rows keys : List ℤ) (b : Bone) → min i (length rows) ≡ min j (length rows) → bone_kept i (kept o rows keys) b ≡ bone_kept j (kept o rows keys) b
 unfolding kept bone_kept
-kept_same i j true rows n keys b h = refl
-kept_same i j false rows n keys b h = go (leb (n + key_count b) 4096) refl
+kept_same i j None rows keys b h = refl
+kept_same i j (Some n) rows keys b h = go (leb (n + key_count b) 4096) refl
   where
     go : (v : Bool) → leb (n + key_count b) 4096 ≡ v → bone_kept i (some (rows, n, keys)) b ≡ bone_kept j (some (rows, n, keys)) b
     go true e = rw (e, bone_kept) (rw (overlay_at-same i j (bone_row n b) rows h))
     go false e = rw (e, bone_kept)
 
-module _ (text : List ℕ) (c r : Cursor) (row to : ℕ) (over : Bool) (rows : List ℤ) (n : ℕ) (keys : List ℤ) (x : Kept) where
+module _ (text : List ℕ) (c : Cursor) (row to : ℕ) (o : Count ℕ) (rows keys : List ℤ) (m : min to (length rows) ≡ min (row * 22) (length rows)) where
   numbered : Kept → Reader (ℕ × Kept)
   numbered y = pure (row + 1, y)
 
-  numbered-same : min to (length rows) ≡ min (row * 22) (length rows) → (ms : List Lexeme) → (bone_into to (kept over rows n keys) >>= numbered) ms ≡ stepped bone_step bone (row, kept over rows n keys) ms
+  numbered-same : (ms : List Lexeme) → (bone_into to (kept o rows keys) >>= numbered) ms ≡ stepped bone_step bone (row, kept o rows keys) ms
   unfolding numbered bone_into stepped bone_step ◌>>=◌ pure after
-  numbered-same m ms = after-after (bone ms) _ _ ∙ after_same (bone ms) _ _ (λ b l. ap (λ (y : Kept). got (row + 1, y) l) (kept_same to (row * 22) over rows n keys b m))
+  numbered-same ms = after-after (bone ms) _ _ ∙ after_same (bone ms) _ _ (λ b l. ap (λ (y : Kept). got (row + 1, y) l) (kept_same to (row * 22) o rows keys b m))
 
-  pub next_step : min to (length rows) ≡ min (row * 22) (length rows) → reads text r x ≡ from text c (bone_into to (kept over rows n keys)) → reads text r (row + 1, x) ≡ from text c (stepped bone_step bone (row, kept over rows n keys))
-  unfolding numbered reads
-  next_step m p = join text c r r x (row + 1, x) (bone_into to (kept over rows n keys)) numbered p refl ∙ from-same text c _ _ (numbered-same m)
+  pub next_step : (r : Cursor) (x : Kept) → reads text r x ≡ from text c (bone_into to (kept o rows keys)) → reads text r (row + 1, x) ≡ from text c (stepped bone_step bone (row, kept o rows keys))
+  unfolding numbered
+  next_step r x p = join text c r x (bone_into to (kept o rows keys)) numbered p refl ∙ from-same text c _ _ numbered-same
+
+  pub next_off : {n q : ℕ} → from text c (bone_into to (kept o rows keys)) ≡ refused n q → from text c (stepped bone_step bone (row, kept o rows keys)) ≡ refused n q
+  next_off h = sym (from-same text c _ _ numbered-same) ∙ halt text c (bone_into to (kept o rows keys)) h numbered
 
 -- the first bone, and those after it
 module _ (rows keys : List ℤ) where
   abbrev none_yet : ℕ × Kept
-  none_yet = (0, kept false rows 0 keys)
+  none_yet = (0, kept (Some 0) rows keys)
 
   first_then : (ms : List Lexeme) → (opened_of (bytes "bone") >> stepped bone_step bone none_yet >>= λ x. more_into x) ms ≡ bones_into rows keys ms
   unfolding bones_into repeated⁺ opened stepped more_into kept fold ◌>>=◌ ◌>>◌ pure after
@@ -74,9 +77,15 @@ module _ (rows keys : List ℤ) where
       ∙ after_same (opened_of (bytes "bone") ms) _ _ (λ _ l. after-after (bone l) _ _ ∙ after_same (bone l) _ _ (λ b k. sym (after-after (repeated "bone" bone k) _ _)) ∙ sym (after-after (bone l) _ _))
       ∙ sym (ap (λ (g : Got (List Bone)). after g (λ bs. pure (fold bone_step none_yet bs))) (after-after (opened_of (bytes "bone") ms) _ _) ∙ after-after (opened_of (bytes "bone") ms) _ _)
 
-  module _ (text : List ℕ) (c d e r : Cursor) (s t : ℕ × Kept) where
-    pub bones-from : reads text d tt ≡ from text c (opened_of (bytes "bone")) → reads text e s ≡ from text d (stepped bone_step bone none_yet) → reads text r t ≡ from text e (more_into s) → reads text r t ≡ from text c (bones_into rows keys)
-    bones-from p q u =
-        join text c e r s t (opened_of (bytes "bone") >> stepped bone_step bone none_yet) (λ x. more_into x)
-        (seq text c d e tt s (opened_of (bytes "bone")) (stepped bone_step bone none_yet) p q) u
+  module _ (text : List ℕ) (c d : Cursor) (p : reads text d tt ≡ from text c (opened_of (bytes "bone"))) where
+    pub bones-from : (e : Cursor) (s : ℕ × Kept) {g : Got (ℕ × Kept)} → reads text e s ≡ from text d (stepped bone_step bone none_yet) → g ≡ from text e (more_into s) → g ≡ from text c (bones_into rows keys)
+    bones-from e s q u =
+        join text c e s (opened_of (bytes "bone") >> stepped bone_step bone none_yet) (λ x. more_into x)
+        (seq text c d tt (opened_of (bytes "bone")) (stepped bone_step bone none_yet) p q) u
         ∙ from-same text c _ _ first_then
+
+    -- no first bone
+    pub bones-off : {n q : ℕ} → from text d (stepped bone_step bone none_yet) ≡ refused n q → from text c (bones_into rows keys) ≡ refused n q
+    bones-off h =
+        sym (from-same text c _ _ first_then)
+        ∙ halt text c (opened_of (bytes "bone") >> stepped bone_step bone none_yet) (onto_then text c d tt (opened_of (bytes "bone")) (stepped bone_step bone none_yet) p ∙ h) (λ x. more_into x)

@@ -8,15 +8,15 @@ use native.Mathlib.Omega.{arith}
 use lib.ListN.{length}
 use Rattle.text_bytes.specs.Bytes.{bytes}
 use Rattle.text_tokens.specs.Tokens.{Lexeme, lex_at}
-use Rattle.parse_cursor.specs.declared.cursor.Cursor.{Cursor}
-use Rattle.parse_spec.specs.Readers.{Got, got, Reader, after, ◌>>=◌, ◌>>◌, pure, token_of, rest, starts}
+use Rattle.std.proofs.Common.{Ok}
+use Rattle.parse_spec.specs.Readers.{got, refused, Reader, after, ◌>>=◌, pure, token_of, rest, starts}
 use Rattle.text_kinds.specs.Kinds.{is_opening}
-use Rattle.parse_cursor.specs.Internal.Cursors.{from, reads}
+use Rattle.parse_cursor.specs.Internal.Cursors.{Cursor, from, reads}
 use Rattle.parse_spec.specs.Internal.Branches.{start_of}
 use Rattle.parse_rows.specs.Internal.Folds.{fold, stepped}
-use Rattle.parse_cursor.proofs.Steps.{from_on, reads_on, from-same, from-bind, after-reads, passed}
+use Rattle.parse_cursor.proofs.Steps.{from-same, onto, halt}
 use Rattle.parse_spec.proofs.Binds.{after-after, after_same}
-use Rattle.parse_cursor.proofs.Counts.{alive, short}
+use Rattle.parse_cursor.proofs.Counts.{short}
 use Rattle.parse_spec.proofs.Many.{Keeps, rest-short, got-rest, pure_keeps, bind_keeps}
 use Rattle.parse_cursor.proofs.Branches.{pick, chosen_yes, chosen_no}
 use Rattle.tra4_text.specs.Grammar.{repeated}
@@ -48,29 +48,31 @@ module _ {A S : Type 0} (k : String) (step : S → A → S) (r : Reader A) (t : 
           ∙ sym (after-after (r (rest (rest ms))) _ _))
       go false e = rw (e, start_of, repeated_end k r ms e)
 
+  -- refused before it is known whether a chunk stands
+  pub repeats_off : (text : List ℕ) (c : Cursor) (s : S) {n q : ℕ} → from text c (start_of (bytes k)) ≡ refused n q → from text c (rest_of s) ≡ refused n q
+  repeats_off text c s h = from-same text c _ _ (repeated_pick s) ∙ halt text c (start_of (bytes k)) h _
+
   module _ (text : List ℕ) (c d : Cursor) (v : Bool) (p : reads text d v ≡ from text c (start_of (bytes k))) (s : S) where
     pub repeats_end : v ≡ false → from text c (rest_of s) ≡ reads text d s
-    unfolding reads
     repeats_end e = from-same text c _ _ (repeated_pick s) ∙ chosen_no text c d (start_of (bytes k)) v p (stepped step r s >>= λ y. rest_of y) (pure s) e
 
-    module _ (e : Cursor) (x : S) (q : reads text e x ≡ from text d (stepped step r s)) where
-      pub repeats_more : v ≡ true → from text c (rest_of s) ≡ from text e (rest_of x)
-      repeats_more o =
-          from-same text c _ _ (repeated_pick s)
-          ∙ chosen_yes text c d (start_of (bytes k)) v p (stepped step r s >>= λ y. rest_of y) (pure s) o
-          ∙ from-bind text d (λ y. rest_of y) (stepped step r s)
-          ∙ ap (λ (g : Got S). after g (λ y. rest_of y)) (sym q)
-          ∙ after-reads text e (λ y. rest_of y) x
+    module _ (o : v ≡ true) where
+      repeats_into : from text c (rest_of s) ≡ from text d (stepped step r s >>= λ y. rest_of y)
+      repeats_into = from-same text c _ _ (repeated_pick s) ∙ chosen_yes text c d (start_of (bytes k)) v p (stepped step r s >>= λ y. rest_of y) (pure s) o
 
-    -- refused where a chunk begins
-    pub repeats_refused : (any : S) → v ≡ true → (d.refusal ≡ 0 → ⊥) → from text c (rest_of s) ≡ reads text d any
-    repeats_refused any o z = repeats_more d any (passed text d any (stepped step r s) z) o ∙ sym (passed text d any (rest_of any) z)
+      pub repeats_more : (e : Cursor) (x : S) → reads text e x ≡ from text d (stepped step r s) → from text c (rest_of s) ≡ from text e (rest_of x)
+      repeats_more e x q = repeats_into ∙ onto text d e x (stepped step r s) (λ y. rest_of y) q
 
-    pub start_falls : v ≡ true → d.refusal ≡ 0 → length (lex_at text d.at) < length (lex_at text c.at)
-    start_falls o z = start_less (bytes k) (lex_at text c.at) (lex_at text d.at) (sym (from_on text c (start_of (bytes k)) (alive text c d (start_of (bytes k)) v p z)) ∙ sym p ∙ reads_on text d v z ∙ ap (λ (b : Bool). got b (lex_at text d.at)) o)
+      -- refused in a chunk
+      pub repeats_stop : {n q : ℕ} → from text d (stepped step r s) ≡ refused n q → from text c (rest_of s) ≡ refused n q
+      repeats_stop h = repeats_into ∙ halt text d (stepped step r s) h (λ y. rest_of y)
+
+  module _ (text : List ℕ) (at to : ℕ) (v : Bool) (p : reads text (Ok to) v ≡ from text (Ok at) (start_of (bytes k))) (o : v ≡ true) where
+    pub start_falls : length (lex_at text to) < length (lex_at text at)
+    unfolding from pure
+    start_falls = start_less (bytes k) (lex_at text at) (lex_at text to) (sym p ∙ ap (λ (b : Bool). got b (lex_at text to)) o)
 
     -- fewer tokens are left
-    pub repeats_fall : v ≡ true → (e : Cursor) (x : S) → reads text e x ≡ from text d (stepped step r s) → e.refusal ≡ 0 → length (lex_at text e.at) < length (lex_at text c.at)
+    pub repeats_fall : (s x : S) (end : ℕ) → reads text (Ok end) x ≡ from text (Ok to) (stepped step r s) → length (lex_at text end) < length (lex_at text at)
     unfolding stepped
-    repeats_fall o e x q z =
-        omega (arith, start_falls o (alive text d e (stepped step r s) x q z), short text d e (stepped step r s) x (bind_keeps t (λ a. pure_keeps (step s a))) q z)
+    repeats_fall s x end q = omega (arith, start_falls, short text to end (stepped step r s) x (bind_keeps t (λ a. pure_keeps (step s a))) q)

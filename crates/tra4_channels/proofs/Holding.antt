@@ -126,3 +126,17 @@ module _ (fs : List (Option Channel)) (ranges keys : List ℤ) (n : ℕ) (over :
 
   pub held_more : (keys' : List ℤ) (m : ℕ) → overlay_at (n * 2) (flat c) keys ≡ keys' → length c ≡ m → Pairs c → over ≡ false → m ≤ 4096 - n → Held (set fs k (some c)) (set (set ranges (k * 2) (pos n)) (k * 2 + 1) (pos m)) keys' (n + m) over
   held_more keys' m t q w e f = rw (e, ← t, ← q) (all_held w e (omega arith))
+
+-- how many there are does not matter where there are too many
+pub uncounted : {fs : List (Option Channel)} {ranges keys : List ℤ} {n : ℕ} → Held fs ranges keys n true → Held fs ranges keys 0 true
+uncounted h =
+    record {
+      ten = h.ten;
+      width = h.width;
+      room = h.room;
+      most = omega arith;
+      counted = λ e. absurd (false≢true (sym e));
+      many = h.many;
+      stored = λ e. absurd (false≢true (sym e));
+      zeros = h.zeros;
+    }

@@ -10,20 +10,21 @@ use lib.ListN.{length, get_or, set, replicate, get_or-replicate}
 use Rattle.text_bytes.specs.Bytes.{bytes, in_word}
 use Rattle.text_runs.specs.Runs.{same}
 use Rattle.text_tokens.specs.Tokens.{lex_at}
-use Rattle.parse_cursor.specs.declared.cursor.Cursor.{Cursor}
+use Rattle.std.proofs.Common.{Option as Count, Some, None, Ok, Err, unwrap_or}
+use Rattle.refusal.specs.declared.checked.Refusal.{Refusal}
 use Rattle.parse_cursor.specs.Internal.Cursors.{reads, from}
+use Rattle.parse_spec.specs.Readers.{refused}
 use Rattle.parse_spec.specs.Fields.{kind, is_some, fields_in, fields, unread}
 use Rattle.parse_spec.specs.Internal.Fields.{needed_of}
-use Rattle.parse_cursor.proofs.Steps.{from_on}
 use Rattle.parse_spec.proofs.FieldFlags.{flags_length}
 use Rattle.parse_words.specs.Internal.Words.{words, onto, keys_of, apart, differs}
-use Rattle.parse_chunks.specs.Internal.Heads.{head_in, Reached}
-use Rattle.parse_chunks.proofs.Turns.{Listed, Midway, turn_ends, turn_holds, turn_left, turn_unread, turn_on}
+use Rattle.parse_chunks.specs.Internal.Heads.{head_in, ReachedAt}
+use Rattle.parse_chunks.proofs.Turns.{Listed, Midway, turn_off, turn_ends, turn_row, turn_left, turn_unread, turn_stop, turn_on}
 use Rattle.tra4_text.specs.Movement.{Channel}
 use Rattle.tra4_text.specs.Grammar.{channel, channel_names, channel_kinds, keys_in}
 use Rattle.tra4_text.specs.Rules.{all_keys}
 use Rattle.table_rows.specs.Flat.{flat}
-use Rattle.tra4_channels.specs.Internal.Held.{keys_read, Stored, Held, KeysRead}
+use Rattle.tra4_channels.specs.Internal.Held.{keys_read, Stored, Held, HeldBy, KeysRead}
 
 -- the keywords as one text, no two of them the same, and none must stand
 abbrev list : List ℕ
@@ -76,40 +77,44 @@ held_none ranges keys z r =
 
 -- ---- between two chunks
 
-abbrev pub Between : List ℕ → ℕ → ℕ → Cursor → List Bool → List ℤ → List ℤ → ℕ → Bool → Type 0
-Between text at left d seen ranges keys n over = Midway text channel_kinds (fields channel_kinds (lex_at text at)) left d seen (λ fs. Held fs ranges keys n over)
+abbrev pub Between : List ℕ → ℕ → ℕ → ℕ → List Bool → List ℤ → List ℤ → Count ℕ → Type 0
+Between text at left d seen ranges keys o = Midway text channel_kinds (fields channel_kinds (lex_at text at)) left d seen (λ fs. HeldBy fs ranges keys o)
 
-pub between_start : (text : List ℕ) (at : ℕ) (seen : List Bool) (ranges keys : List ℤ) → seen ≡ replicate 10 false → ranges ≡ replicate 20 (pos 0) → length keys ≡ 8192 → Between text at 10 (record { refusal = 0; at = at }) seen ranges keys 0 false
-unfolding fields channel_kinds channel_names
+pub between_start : (text : List ℕ) (at : ℕ) (seen : List Bool) (ranges keys : List ℤ) → seen ≡ replicate 10 false → ranges ≡ replicate 20 (pos 0) → length keys ≡ 8192 → Between text at 10 at seen ranges keys (Some 0)
+unfolding fields channel_kinds channel_names from
 between_start text at seen ranges keys e w r =
     record {
       fs = replicate 10 none;
       size = refl;
       flags = none_seen ∙ sym e;
-      holds = λ _. held_none ranges keys w r;
-      on = ap (λ (gs : List (Option Channel)). fields_in 10 channel_kinds gs (lex_at text at)) unread-is ∙ sym (from_on text (record { refusal = 0; at = at }) (fields_in 10 channel_kinds (replicate 10 none)) refl);
+      holds = held_none ranges keys w r;
+      on = ap (λ (gs : List (Option Channel)). fields_in 10 channel_kinds gs (lex_at text at)) unread-is;
     }
 
 -- a chunk of a channel: after its head, its keys
-module _ (text : List ℕ) (at left : ℕ) (d : Cursor) (seen : List Bool) (ranges keys : List ℤ) (n : ℕ) (over : Bool) (m : Between text at left d seen ranges keys n over) (c : Cursor) (k : ℕ) (h : reads text c k ≡ from text d (head_in (words list) needed seen left)) where
-  wide : length seen ≡ 10
-  wide = ap length (sym m.flags) ∙ flags_length m.fs ∙ m.size ∙ channel_count
+module _ (text : List ℕ) (at left d : ℕ) (seen : List Bool) (ranges keys : List ℤ) (o : Count ℕ) (m : Between text at left d seen ranges keys o) where
+  pub channels_off : {n p : ℕ} → from text (Ok d) (head_in (words list) needed seen left) ≡ refused n p → fields channel_kinds (lex_at text at) ≡ refused n p
+  channels_off h = turn_off channel-listed m h
 
-  pub channels_end : 10 ≤ k → Reached text c (fields channel_kinds (lex_at text at)) (λ gs. Held gs ranges keys n over)
-  channels_end e = turn_ends channel-listed m c k h (rw wide e)
+  module _ (c : ℕ) (x : Count ℕ) (h : reads text (Ok c) x ≡ from text (Ok d) (head_in (words list) needed seen left)) where
+    wide : length seen ≡ 10
+    wide = ap length (sym m.flags) ∙ flags_length m.fs ∙ m.size ∙ channel_count
 
-  module _ (e : k < 10) (q : (c.refusal ≡ 0 → ⊥) → k ≡ length seen) where
-    below : k < length seen
-    below = rw wide e
+    pub channels_end : x ≡ None → ReachedAt text c (fields channel_kinds (lex_at text at)) (λ gs. HeldBy gs ranges keys o)
+    channels_end e = turn_ends channel-listed m c x h e
 
-    pub channel-left : left ≡ 0 → ⊥
-    channel-left = turn_left channel-listed m c k h below q
+    module _ (k : ℕ) (e : x ≡ Some k) where
+      pub channel-left : left ≡ 0 → ⊥
+      channel-left = turn_left channel-listed m c x h k e
 
-    -- what reading its keys asks
-    pub channel-sizes : (k < 10) × (length ranges ≡ 20) × (length keys ≡ 8192) × (n ≤ 4096)
-    channel-sizes = let g = turn_holds channel-listed m c k h below q in (e, g.width, g.room, g.most)
+      -- what reading its keys asks
+      pub channel-sizes : (k < 10) × (length ranges ≡ 20) × (length keys ≡ 8192) × (unwrap_or o 0 ≤ 4096)
+      channel-sizes = let g = m.holds in (rw wide at (turn_row channel-listed m c x h k e), g.width, g.room, g.most)
 
-    pub channel_on : (r : Cursor) (s : List ℤ × List ℤ × ℕ × Bool) → KeysRead text c k (ranges, keys, n, over) r s → (seen' : List Bool) → seen' ≡ set seen k true → Between text at (left - 1) r seen' s.0 s.1 s.2 s.3
-    channel_on r s y seen' f =
-        let z = y m.fs (turn_unread channel-listed m c k h below q) (turn_holds channel-listed m c k h below q) in
-        turn_on channel-listed m c k h below r z.value z.read seen' f (λ fs. Held fs s.0 s.1 s.2 s.3) z.kept
+      pub channel_stop : (f : Refusal) (t : List ℤ × List ℤ) → KeysRead text c k (ranges, keys, o) (Err f) t → fields channel_kinds (lex_at text at) ≡ refused f.number f.place
+      channel_stop f t y = turn_stop channel-listed m c x h k e (y m.fs (turn_unread channel-listed m c x h k e) m.holds)
+
+      pub channel_on : (q : Count ℕ) (r : ℕ) (ranges' keys' : List ℤ) → KeysRead text c k (ranges, keys, o) (Ok (q, r)) (ranges', keys') → (seen' : List Bool) → seen' ≡ set seen k true → Between text at (left - 1) r seen' ranges' keys' q
+      channel_on q r ranges' keys' y seen' f =
+          let z = y m.fs (turn_unread channel-listed m c x h k e) m.holds in
+          turn_on channel-listed m c x h k e r z.value z.read seen' f (λ fs. HeldBy fs ranges' keys' q) z.kept

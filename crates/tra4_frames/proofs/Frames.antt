@@ -3,11 +3,9 @@ use mathlib.Core.Path.{◌≡◌, refl}
 use mathlib.Core.List.{List}
 use mathlib.Core.Bool.{Bool, true, false, ◌&&◌}
 use mathlib.Core.Option.{Option, none, some}
-use Prim.Native.Nat.{ℕ, suc, ◌+◌, ◌-◌, ◌≤◌, ◌<◌}
-use native.Mathlib.Nat.{add-zero}
+use Prim.Native.Nat.{ℕ, zero, suc, ◌+◌, ◌-◌, ◌≤◌, ◌<◌}
+use native.Mathlib.Nat.{add-zero, sub-zero}
 use native.Mathlib.Omega.{arith}
-use borrow.Author.Tests.{eq-eqb, ne_eqb}
-use lib.Dec.{eqb}
 use lib.ListN.{length, take, drop, get_or, length-drop}
 use lib.Seq.{drop-drop, get_or-take, get_or-drop}
 use lib.IntN.{ℤ, pos}
@@ -16,14 +14,8 @@ use Rattle.tra4_text.specs.Movement.{frame_of}
 use Rattle.tra4_text.specs.Rules.{is_frame, rises, key_fine, channel_fault}
 use Rattle.table_columns.specs.Parts.{rows_of}
 use Rattle.table_columns.proofs.Rows.{rows_more, rows_short, row-part, part-rest}
-use Rattle.tra4_frames.specs.Internal.Frames.{before_of}
 
 -- ---- one frame
-
--- the frame before a key that is not the first
-pub before_later : (row at : ℕ) (b : ℤ) → row ≤ at → before_of (eqb (suc at) row) b ≡ some b
-unfolding before_of
-before_later row at b h = rw (ne_eqb (suc at) row (λ e. omega arith))
 
 pub row_frame : (table : List ℤ) (w base : ℕ) → 1 ≤ w → frame_of (take w (drop base table)) ≡ get_or table base (pos 0)
 unfolding frame_of
@@ -35,17 +27,19 @@ module _ (total : ℤ) (table : List ℤ) where
   unfoldable pub channel_from : Option ℤ → ℕ → ℕ → ℕ → Fault
   channel_from before row k base = channel_fault total before row (rows_of 2 k (drop base table))
 
-  pub walk_start : (row k : ℕ) (b : ℤ) → channel_fault total none row (rows_of 2 k table) ≡ channel_from (before_of (eqb row row) b) row k 0
-  unfolding channel_from before_of
-  walk_start row k b = rw (eq-eqb row row refl)
-
-  pub walk_done : (before : Option ℤ) (row base : ℕ) → channel_from before row 0 base ≡ clear
-  unfolding channel_from rows_of channel_fault
-  walk_done before row base = refl
+  pub walk_start : (row k : ℕ) → channel_fault total none row (rows_of 2 k table) ≡ channel_from none (row + 0) (k - 0) 0
+  unfolding channel_from
+  walk_start row k = rw (add-zero row, sub-zero k)
 
   pub walk_short : (before : Option ℤ) (row k base : ℕ) → length table - base < 2 → channel_from before row k base ≡ clear
   unfolding channel_from channel_fault
   walk_short before row k base h = rw (rows_short 2 k (drop base table) (rw length-drop h))
+
+  -- no row is left, or none that is whole
+  pub walk_over : (before : Option ℤ) (row k base : ℕ) → (0 < k → length table - base < 2) → channel_from before row k base ≡ clear
+  unfolding channel_from rows_of channel_fault
+  walk_over before row zero base h = refl
+  walk_over before row (suc k) base h = walk_short before row (suc k) base (h (omega arith))
 
   module _ (before : Option ℤ) (row k base : ℕ) (h : 2 ≤ length table - base) where
     abbrev frame : ℤ

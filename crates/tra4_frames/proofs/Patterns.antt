@@ -2,9 +2,9 @@
 use mathlib.Core.Path.{◌≡◌, refl, ap, sym, ◌∙◌}
 use mathlib.Core.List.{List, [], ◌∷◌}
 use mathlib.Core.Bool.{Bool, true, false, not, ◌&&◌, ◌||◌}
-use Prim.Native.Nat.{ℕ, zero, suc, ◌+◌, ◌-◌, ◌≤◌, ◌<◌}
+use Prim.Native.Nat.{ℕ, zero, suc, ◌+◌, ◌-◌, ◌/◌, min, ◌≤◌, ◌<◌}
 use native.Mathlib.Omega.{arith}
-use lib.ListN.{length, take, drop, get_or}
+use lib.ListN.{length, take, drop, get_or, length-drop}
 use lib.IntN.{ℤ, pos}
 use Rattle.refusal.specs.Faults.{clear, fault}
 use Rattle.refusal.specs.FirstBad.{all, first_bad}
@@ -18,16 +18,22 @@ use Rattle.table_columns.proofs.Parts.{three-at}
 use Rattle.table_columns.proofs.Rows.{rows_more, rows_short}
 use Rattle.tra4_frames.proofs.Frames.{row_frame}
 
+-- ---- the lines that are whole
+
+pub whole_lines : (n m : ℕ) (t : List ℤ) → m ≡ min n (length t / 3) → rows_of 3 n t ≡ rows_of 3 m t
+whole_lines zero zero t e = refl
+whole_lines zero (suc m) t e = absurd (omega arith)
+whole_lines (suc n) zero t e = rows_short 3 (suc n) t (omega arith) ∙ sym (unfold rows_of in refl)
+whole_lines (suc n) (suc m) t e =
+    let h : 3 ≤ length t = omega arith in
+    rows_more 3 n t h ∙ ap (λ (l : List (List ℤ)). take 3 t ∷ l) (whole_lines n m (drop 3 t) (rw length-drop (omega arith))) ∙ sym (rows_more 3 m t h)
+
 -- ---- all lines
 
 module _ (total : ℤ) (t : List ℤ) where
-  pub no_line : (n : ℕ) → n ≡ 0 → clear ≡ patterns_fault total (rows_of 3 n t)
+  pub no_line : (n : ℕ) → n ≡ 0 → first_bad 16 (pattern_fine total) 0 (rows_of 3 n t) ≡ patterns_fault total (rows_of 3 n t)
   unfolding patterns_fault start_fault or_else first_bad rows_of
   no_line n e = rw e
-
-  pub short-line : (n : ℕ) → length t < 3 → clear ≡ patterns_fault total (rows_of 3 n t)
-  unfolding patterns_fault start_fault or_else first_bad
-  short-line n h = rw (rows_short 3 n t h)
 
   module _ (h : 3 ≤ length t) where
     pub no_start : (n : ℕ) → 0 < n → has_start (rows_of 3 n t) ≡ false → fault 16 0 ≡ patterns_fault total (rows_of 3 n t)

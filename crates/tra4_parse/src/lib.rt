@@ -1,5 +1,5 @@
-#![tactic(auto)]
+#![tactic(auto, unfolding(parse_cursor::specs::Internal::Cursors::from))]
 // Reads the shape of a movement's text into tables.
 mod shape;
 
-pub use shape::{Parsed, parse};
+pub use shape::{Shape, parse};

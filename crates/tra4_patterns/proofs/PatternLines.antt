@@ -9,18 +9,17 @@ use lib.ListN.{length}
 use Rattle.text_bytes.specs.Bytes.{bytes, in_word}
 use Rattle.text_numerals.specs.Numbers.{INT}
 use Rattle.text_tokens.specs.Tokens.{Lexeme}
-use Rattle.parse_cursor.specs.declared.cursor.Cursor.{Cursor}
-use Rattle.parse_spec.specs.Readers.{Got, got, Reader, after, ◌>>=◌, ◌>>◌, pure, open_bracket, close_bracket, word_of, opened_of, opened, closed, numbers, trailing, many}
+use Rattle.parse_spec.specs.Readers.{Got, got, refused, Reader, after, ◌>>=◌, ◌>>◌, pure, open_bracket, close_bracket, word_of, opened_of, opened, closed, numbers, trailing, many}
 use Rattle.parse_words.specs.Internal.Words.{words, onto, word_in}
 use Rattle.parse_spec.specs.Internal.Branches.{last_of}
-use Rattle.parse_cursor.specs.Internal.Cursors.{from, reads}
+use Rattle.parse_cursor.specs.Internal.Cursors.{Cursor, from, reads}
 use Rattle.table_rows.specs.Internal.Overlay.{overlay_at}
 use Rattle.parse_rows.specs.Internal.Into.{numbers_into}
 use Rattle.table_rows.specs.Flat.{flat}
 use Rattle.parse_rows.specs.Internal.Folds.{fold, folded, row_step}
-use Rattle.parse_cursor.proofs.Steps.{join, seq, from-same}
+use Rattle.parse_cursor.proofs.Steps.{join, seq, from-same, onto as past, onto_then, halt}
 use Rattle.parse_spec.proofs.Binds.{after-after, after_same, after_when, then_assoc}
-use Rattle.parse_cursor.proofs.Branches.{trailing_yes, trailing_no, trailing-map}
+use Rattle.parse_cursor.proofs.Branches.{trailing_yes, trailing_no, trailing_off, trailing-map}
 use Rattle.parse_words.proofs.Vocabulary.{word_list, one_word}
 use Rattle.table_rows.proofs.Tables.{overlay_at-append, overlay_at-same}
 use Rattle.parse_rows.proofs.Folds.{fold-rows}
@@ -83,15 +82,24 @@ module _ (at : ℕ) (out : List ℤ) where
       ∙ after_same (word_in (bytes "false true") 2 m) _ _ (λ z n. after-after (close_bracket n) _ _ ∙ after_same (close_bracket n) _ _ (λ _ o. ap (λ (t : List ℤ). got t o) (row-steps zs (free (numbers_give INT 2) l zs m e).0 z))))
       ∙ sym (after-after (numbers INT 2 l) _ _))
 
-  module _ (text : List ℕ) (c d e f r : Cursor) (t t' : List ℤ) (z : ℤ) (i : ℕ) where
-    pub pattern-read : reads text d tt ≡ from text c (word_of (bytes "kgf")) → reads text e t ≡ from text d (numbers_into INT 2 at out) → reads text f z ≡ from text e (word_in (bytes "false true") 2) → min i (length t) ≡ min (at + 2) (length t) → t' ≡ overlay_at i (z ∷ []) t → reads text r tt ≡ from text f close_bracket → reads text r t' ≡ from text c (pattern_into at out)
-    unfolding flag_then flag-last reads
-    pattern-read p q u h o v =
-        seq text c d r tt t' (word_of (bytes "kgf")) (numbers_into INT 2 at out >>= λ x. flag_then x) p
-        (join text d e r t t' (numbers_into INT 2 at out) (λ x. flag_then x) q
-        (join text e f r z t' (word_in (bytes "false true") 2) (λ x. flag-last t x) u
-        (seq text f r r tt t' close_bracket (pure (overlay_at (at + 2) (z ∷ []) t)) v (ap (λ (x : List ℤ). from text r (pure x)) (o ∙ overlay_at-same i (at + 2) (z ∷ []) t h)))))
+  module _ (text : List ℕ) (c d e : Cursor) (t : List ℤ) (p : reads text d tt ≡ from text c (word_of (bytes "kgf"))) (q : reads text e t ≡ from text d (numbers_into INT 2 at out)) where
+    pub pattern-read : (f r : Cursor) (t' : List ℤ) (z : ℤ) (i : ℕ) → reads text f z ≡ from text e (word_in (bytes "false true") 2) → min i (length t) ≡ min (at + 2) (length t) → t' ≡ overlay_at i (z ∷ []) t → reads text r tt ≡ from text f close_bracket → reads text r t' ≡ from text c (pattern_into at out)
+    unfolding flag_then flag-last
+    pattern-read f r t' z i u h o v =
+        seq text c d tt (word_of (bytes "kgf")) (numbers_into INT 2 at out >>= λ x. flag_then x) p
+        (join text d e t (numbers_into INT 2 at out) (λ x. flag_then x) q
+        (join text e f z (word_in (bytes "false true") 2) (λ x. flag-last t x) u
+        (seq text f r tt close_bracket (pure (overlay_at (at + 2) (z ∷ []) t)) v (ap (λ (x : List ℤ). from text r (pure x)) (o ∙ overlay_at-same i (at + 2) (z ∷ []) t h)))))
         ∙ sym (from-same text c _ _ pattern-steps)
+
+    -- no flag
+    pub pattern_off : {n m : ℕ} → from text e (word_in (bytes "false true") 2) ≡ refused n m → from text c (pattern_into at out) ≡ refused n m
+    unfolding flag_then
+    pattern_off h =
+        from-same text c _ _ pattern-steps
+        ∙ onto_then text c d tt (word_of (bytes "kgf")) (numbers_into INT 2 at out >>= λ x. flag_then x) p
+        ∙ past text d e t (numbers_into INT 2 at out) (λ x. flag_then x) q
+        ∙ halt text e (word_in (bytes "false true") 2) h (λ x. flag-last t x)
 
 -- ---- all of them
 
@@ -110,8 +118,11 @@ module _ (table : List ℤ) where
       ∙ after_when (trailing "DynamicPolygons" [] (many pattern) ms) _ _ (λ ps l e. ap (λ (v : ℕ × List ℤ). got v l) (fold_lines ps (free (trailing-gives "DynamicPolygons" [] tt (many-gives pattern_wide)) ms ps l e)))
 
   module _ (text : List ℕ) (c d : Cursor) (v : Bool) (p : reads text d v ≡ from text c (last_of (bytes "DynamicPolygons"))) where
-    pub patterns_some : v ≡ true → (r : Cursor) (s : ℕ × List ℤ) → reads text r s ≡ from text d (folded (row_step 3) pattern (0, table)) → reads text r s ≡ from text c (patterns_into table)
-    patterns_some h r s q = trailing_yes "DynamicPolygons" (0, table) (folded (row_step 3) pattern (0, table)) text c d v p h r s q ∙ from-same text c _ _ patterns-fold
+    pub patterns_some : v ≡ true → {g : Got (ℕ × List ℤ)} → g ≡ from text d (folded (row_step 3) pattern (0, table)) → g ≡ from text c (patterns_into table)
+    patterns_some h q = trailing_yes "DynamicPolygons" (0, table) (folded (row_step 3) pattern (0, table)) text c d v p h q ∙ from-same text c _ _ patterns-fold
 
     pub patterns_none : v ≡ false → ◌≡◌ {A = Got (ℕ × List ℤ)} (reads text d (0, table)) (from text c (patterns_into table))
     patterns_none h = trailing_no "DynamicPolygons" (0, table) (folded (row_step 3) pattern (0, table)) text c d v p h ∙ from-same text c _ _ patterns-fold
+
+  pub patterns_off : (text : List ℕ) (c : Cursor) {n p : ℕ} → from text c (last_of (bytes "DynamicPolygons")) ≡ refused n p → from text c (patterns_into table) ≡ refused n p
+  patterns_off text c h = sym (from-same text c _ _ patterns-fold) ∙ trailing_off "DynamicPolygons" (0, table) (folded (row_step 3) pattern (0, table)) text c h

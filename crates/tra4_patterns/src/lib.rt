@@ -1,4 +1,4 @@
-#![tactic(auto)]
+#![tactic(auto, unfolding(parse_cursor::specs::Internal::Cursors::from))]
 // The pattern lines of a movement.
 mod pattern;
 

@@ -1,9 +1,9 @@
--- Rules 8 and 14 by their steps.
-use mathlib.Core.Path.{◌≡◌, refl}
-use mathlib.Core.List.{List, [], ◌∷◌}
+-- Rule 8 at a list beyond its most, and rule 14 by its tests.
+use mathlib.Core.Path.{◌≡◌}
+use mathlib.Core.List.{List, ◌∷◌}
 use mathlib.Core.Bool.{true, false}
-use Prim.Native.Nat.{ℕ, suc, ◌≤◌, ◌<◌}
-use borrow.Author.Tests.{le-leb, lt-leb}
+use Prim.Native.Nat.{ℕ, ◌<◌}
+use borrow.Author.Tests.{lt-leb}
 use lib.IntN.{ℤ, pos}
 use lib.Signed.{lt_z}
 use Rattle.refusal.specs.Faults.{clear, fault}
@@ -11,18 +11,9 @@ use Rattle.refusal.specs.Rules.{too_many}
 use Rattle.tra4_text.specs.Rules.{total_fault}
 use Rattle.signed.proofs.Tests.{most-above}
 
-module _ (i n m : ℕ) (ns ms : List ℕ) where
-  pub count_within : n ≤ m → too_many i (n ∷ ns) (m ∷ ms) ≡ too_many (suc i) ns ms
-  unfolding too_many
-  count_within h = rw (le-leb n m h, too_many)
-
-  pub count_beyond : m < n → too_many i (n ∷ ns) (m ∷ ms) ≡ fault 8 i
-  unfolding too_many
-  count_beyond h = rw (lt-leb n m h, too_many)
-
-pub counts_end : (i : ℕ) (ms : List ℕ) → too_many i [] ms ≡ clear
+pub count_beyond : (i n m : ℕ) (ns ms : List ℕ) → m < n → too_many i (n ∷ ns) (m ∷ ms) ≡ fault 8 i
 unfolding too_many
-counts_end i ms = refl
+count_beyond i n m ns ms h = rw (lt-leb n m h, too_many)
 
 module _ (z : ℤ) where
   pub total_low : lt_z z (pos 1) ≡ true → total_fault z ≡ fault 14 0

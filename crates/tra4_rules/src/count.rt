@@ -5,49 +5,28 @@ ghost use Rattle.refusal.specs.Rules.{too_many};
 ghost use Rattle.tra4_text.specs.Rules.{total_fault};
 ghost use Rattle.table_counts.specs.Counts.{movement_mosts};
 
-use refusal::Checked;
+use refusal::Refusal;
 use table_counts::{MOST_BONES, MOST_KEYS, MOST_PATTERNS};
 
 // The first list with more rows than it may have.
-pub(crate) fn counts_fault(bones: usize, keys: usize, patterns: usize) -> Checked
+pub(crate) fn counts_fault(bones: usize, keys: usize, patterns: usize) -> Result<(), Refusal>
     ensures { refusal result ≡ too_many 0 (bones ∷ keys ∷ patterns ∷ []) movement_mosts }
 {
-    if MOST_BONES < bones {
-        return Checked::Refused {
-            number: 8,
-            place: 0,
-        };
-    }
-    if MOST_KEYS < keys {
-        return Checked::Refused {
-            number: 8,
-            place: 1,
-        };
-    }
-    if MOST_PATTERNS < patterns {
-        return Checked::Refused {
-            number: 8,
-            place: 2,
-        };
-    }
-    Checked::Clear
+    refusal::too_many(
+        &[bones, keys, patterns],
+        &[MOST_BONES, MOST_KEYS, MOST_PATTERNS],
+    )
 }
 
 // Whether the total is 1 to 32,767.
-pub(crate) fn total_fault(total: i64) -> Checked
+pub(crate) fn total_fault(total: i64) -> Result<(), Refusal>
     ensures { refusal result ≡ total_fault total }
 {
-    if total < 1 {
-        return Checked::Refused {
+    if total < 1 || 32767 < total {
+        return Err(Refusal {
             number: 14,
             place: 0,
-        };
+        });
     }
-    if 32767 < total {
-        return Checked::Refused {
-            number: 14,
-            place: 0,
-        };
-    }
-    Checked::Clear
+    Ok(())
 }

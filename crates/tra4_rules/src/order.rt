@@ -4,7 +4,7 @@ ghost use Rattle.refusal.specs.Internal.Answers.{refusal};
 ghost use Rattle.tra4_rules.specs.Internal.Order.{tables_fault};
 
 use crate::count::{counts_fault, total_fault};
-use refusal::Checked;
+use refusal::Refusal;
 use tra4_frames::patterns_fault;
 use tra4_keys::keys_fault;
 
@@ -17,17 +17,11 @@ pub fn first_fault(
     bones: &[i64],
     keys: &[i64],
     patterns: &[i64],
-) -> Checked
+) -> Result<(), Refusal>
     ensures { refusal result ≡ tables_fault total bone_count key_count pattern_count bones.now keys.now patterns.now }
 {
-    match counts_fault(bone_count, key_count, pattern_count) {
-        Checked::Refused { number, place } => Checked::Refused { number, place },
-        Checked::Clear => match total_fault(total) {
-            Checked::Refused { number, place } => Checked::Refused { number, place },
-            Checked::Clear => match keys_fault(total, bones, bone_count, keys) {
-                Checked::Refused { number, place } => Checked::Refused { number, place },
-                Checked::Clear => patterns_fault(total, patterns, pattern_count),
-            },
-        },
-    }
+    counts_fault(bone_count, key_count, pattern_count)?;
+    total_fault(total)?;
+    keys_fault(total, bones, bone_count, keys)?;
+    patterns_fault(total, patterns, pattern_count)
 }

@@ -6,8 +6,5 @@ ghost use Rattle.tra4_text.specs.Rules.{is_frame};
 pub fn is_frame(total: i64, frame: i64) -> bool
     ensures { result ≡ is_frame total frame }
 {
-    if frame < 0 {
-        return false;
-    }
-    frame < total
+    0 <= frame && frame < total
 }

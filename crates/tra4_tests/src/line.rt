@@ -8,8 +8,5 @@ use crate::frame::is_frame;
 pub fn pattern_fits(total: i64, frame: i64, group: i64) -> bool
     ensures { (flag : ℤ) → result ≡ pattern_fine total (frame ∷ group ∷ flag ∷ []) }
 {
-    if !is_frame(total, frame) {
-        return false;
-    }
-    0 <= group
+    is_frame(total, frame) && 0 <= group
 }

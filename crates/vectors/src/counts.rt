@@ -8,44 +8,51 @@ use table_counts::{FigureCounts, MovementCounts};
 pub(crate) fn lent_size(args: &[u8], at: usize) -> usize
     ensures { result ≤ 11779 }
 {
-    let first = next_number(args, at);
-    let size = first.size;
-    if 11779 < size { 11779 } else { size }
+    next_number(args, at).size.min(11779)
 }
 
-// Nine counts after the size.
+// So many counts after the size.
+fn counts<const N: usize>(args: &[u8], from: usize) -> [usize; N] {
+    let mut found = [0usize; N];
+    let mut at = next_number(args, from).at;
+    for count in &mut found {
+        let n = next_number(args, at);
+        *count = n.size;
+        at = n.at;
+    }
+    found
+}
+
 pub(crate) fn figure_counts(args: &[u8], at: usize) -> FigureCounts {
-    let size = next_number(args, at);
-    let textures = next_number(args, size.at);
-    let colours = next_number(args, textures.at);
-    let materials = next_number(args, colours.at);
-    let points = next_number(args, materials.at);
-    let normals = next_number(args, points.at);
-    let bones = next_number(args, normals.at);
-    let uvs = next_number(args, bones.at);
-    let faces = next_number(args, uvs.at);
-    let groups = next_number(args, faces.at);
+    let [
+        textures,
+        colours,
+        materials,
+        points,
+        normals,
+        bones,
+        uvs,
+        faces,
+        groups,
+    ] = counts::<9>(args, at);
     FigureCounts {
-        textures: textures.size,
-        colours: colours.size,
-        materials: materials.size,
-        points: points.size,
-        normals: normals.size,
-        bones: bones.size,
-        uvs: uvs.size,
-        faces: faces.size,
-        groups: groups.size,
+        textures,
+        colours,
+        materials,
+        points,
+        normals,
+        bones,
+        uvs,
+        faces,
+        groups,
     }
 }
 
 pub(crate) fn movement_counts(args: &[u8], at: usize) -> MovementCounts {
-    let size = next_number(args, at);
-    let bones = next_number(args, size.at);
-    let keys = next_number(args, bones.at);
-    let patterns = next_number(args, keys.at);
+    let [bones, keys, patterns] = counts::<3>(args, at);
     MovementCounts {
-        bones: bones.size,
-        keys: keys.size,
-        patterns: patterns.size,
+        bones,
+        keys,
+        patterns,
     }
 }

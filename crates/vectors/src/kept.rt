@@ -1,5 +1,5 @@
 // What is kept for the questions after it.
-use crate::kind::{BACK, COPIES, FIGURE_COUNTS, FIGURE_TABLE, FRONT, MOVEMENT_TABLE, PAD};
+use crate::kind::Kind;
 use crate::record::numbers;
 
 // Where the ARGS of the last record of a kind begin, or where the input ends: those of `front`, `copies`, `back`, `pad`,
@@ -25,28 +25,28 @@ pub(crate) fn nothing(size: usize) -> Kept {
     }
 }
 
-// Keeps a record.
+// Keeps a record, or says that it is a question.
 pub(crate) fn keep(
-    kind: usize,
+    kind: Kind,
     input: &[u8],
     from: usize,
-    before: Kept,
+    k: &mut Kept,
     figure: &mut [i64; 11779],
     moves: &mut [i64; 11779],
-) -> Kept {
-    let mut k = before;
+) -> bool {
     match kind {
-        FRONT => {
+        Kind::Front => {
             k.front = from;
             k.copies = input.len();
         }
-        BACK => k.back = from,
-        PAD => k.pad = from,
-        COPIES => k.copies = from,
-        FIGURE_TABLE => numbers(input, from, figure),
-        FIGURE_COUNTS => k.figure = from,
-        MOVEMENT_TABLE => numbers(input, from, moves),
-        _ => k.movement = from,
+        Kind::Back => k.back = from,
+        Kind::Pad => k.pad = from,
+        Kind::Copies => k.copies = from,
+        Kind::FigureTable => numbers(input, from, figure),
+        Kind::FigureCounts => k.figure = from,
+        Kind::MovementTable => numbers(input, from, moves),
+        Kind::MovementCounts => k.movement = from,
+        _ => return false,
     }
-    k
+    true
 }

@@ -1,44 +1,67 @@
-// The kinds of records: those that are kept, questions on texts, and questions on tables. Each is the row of its word.
+// The kinds of records: those that are kept, questions on texts, and questions on tables.
 use text_tokens::Span;
 
-pub(crate) const FRONT: usize = 0;
+#[derive(Clone, Copy, PartialEq, Eq)]
+pub(crate) enum Kind {
+    Front,
+    Back,
+    Pad,
+    Copies,
+    FigureTable,
+    FigureCounts,
+    MovementTable,
+    MovementCounts,
+    Bac,
+    Tra,
+    Int,
+    Float,
+    Tokens,
+    Figure,
+    Movement,
+    Sample,
+    Corner,
+    Shown,
+    Why,
+    Unknown,
+}
 
-pub(crate) const BACK: usize = 1;
+impl Kind {
+    pub(crate) fn asks_tables(self) -> bool {
+        matches!(
+            self,
+            Kind::Sample | Kind::Corner | Kind::Shown | Kind::Why | Kind::Unknown
+        )
+    }
+}
 
-pub(crate) const PAD: usize = 2;
+// In the order of the words of `kind_of`.
+const KINDS: [Kind; 19] = [
+    Kind::Front,
+    Kind::Back,
+    Kind::Pad,
+    Kind::Copies,
+    Kind::FigureTable,
+    Kind::FigureCounts,
+    Kind::MovementTable,
+    Kind::MovementCounts,
+    Kind::Bac,
+    Kind::Tra,
+    Kind::Int,
+    Kind::Float,
+    Kind::Tokens,
+    Kind::Figure,
+    Kind::Movement,
+    Kind::Sample,
+    Kind::Corner,
+    Kind::Shown,
+    Kind::Why,
+];
 
-pub(crate) const COPIES: usize = 3;
-
-pub(crate) const FIGURE_TABLE: usize = 4;
-
-pub(crate) const FIGURE_COUNTS: usize = 5;
-
-pub(crate) const MOVEMENT_TABLE: usize = 6;
-
-pub(crate) const BAC: usize = 8;
-
-pub(crate) const TRA: usize = 9;
-
-pub(crate) const INT: usize = 10;
-
-pub(crate) const TOKENS: usize = 12;
-
-pub(crate) const FIGURE: usize = 13;
-
-pub(crate) const MOVEMENT: usize = 14;
-
-pub(crate) const SAMPLE: usize = 15;
-
-pub(crate) const CORNER: usize = 16;
-
-pub(crate) const SHOWN: usize = 17;
-
-pub(crate) const WHY: usize = 18;
-
-pub(crate) fn kind_of(input: &[u8], word: Span) -> usize {
-    parse_words::word_index(
+pub(crate) fn kind_of(input: &[u8], word: Span) -> Kind {
+    let row = parse_words::word_index(
         input,
         word,
         b"front back pad copies figure_table figure_counts movement_table movement_counts bac tra int float tokens figure movement sample corner shown why",
-    )
+    );
+    KINDS.get(row).copied().unwrap_or(Kind::Unknown)
 }

@@ -9,10 +9,11 @@ mod record;
 mod texts;
 
 use kept::{Kept, keep};
-use kind::{BAC, FIGURE, MOVEMENT, SAMPLE, TOKENS, kind_of};
+use kind::{Kind, kind_of};
 use record::text_of;
+use text_check::Format;
 use text_runs::Run;
-use texts::{append_line, line_of, tell_figure, tell_movement, tell_tokens};
+use texts::{tell_checked, tell_figure, tell_movement, tell_number, tell_tokens};
 
 const STDIN_FILENO: i32 = 0;
 
@@ -20,7 +21,7 @@ const STDOUT_FILENO: i32 = 1;
 
 // Puts the answer to a question at the start of out, and tells its length.
 fn answer(
-    kind: usize,
+    kind: Kind,
     input: &[u8],
     args: &[u8],
     k: Kept,
@@ -28,16 +29,19 @@ fn answer(
     moves: &mut [i64; 11779],
     out: &mut [u8; 4096],
 ) -> usize {
-    if SAMPLE <= kind {
+    if kind.asks_tables() {
         return play::ask(kind, input, args, k, figure, moves, out);
     }
     let t = text_of(input, args, k);
     let text = text_parts::part(&t.bytes, 0, t.size);
     match kind {
-        TOKENS => tell_tokens(text, out),
-        FIGURE => tell_figure(text, input, k.figure, figure, out),
-        MOVEMENT => tell_movement(text, input, k.movement, moves, out),
-        _ => append_line(out, 0, line_of(kind, text)),
+        Kind::Bac => tell_checked(text_check::check_text(text, Format::Bac), out),
+        Kind::Tra => tell_checked(text_check::check_text(text, Format::Tra), out),
+        Kind::Int => tell_number(text_numbers::int(text), out),
+        Kind::Float => tell_number(text_numbers::float(text), out),
+        Kind::Tokens => tell_tokens(text, out),
+        Kind::Figure => tell_figure(text, input, k.figure, figure, out),
+        _ => tell_movement(text, input, k.movement, moves, out),
     }
 }
 
@@ -50,18 +54,18 @@ fn run_record(
     input: &[u8],
     at: usize,
     end: usize,
-    k: Kept,
+    k: &mut Kept,
     figure: &mut [i64; 11779],
     moves: &mut [i64; 11779],
-) -> Kept {
+) {
     let word = text_tokens::next(input, at);
     if end <= word.start {
-        return k;
+        return;
     }
     let label = text_tokens::next(input, word.end);
     let kind = kind_of(input, word);
-    if kind < BAC {
-        return keep(kind, input, label.end, k, figure, moves);
+    if keep(kind, input, label.end, k, figure, moves) {
+        return;
     }
     io::write_all(
         STDOUT_FILENO,
@@ -70,9 +74,8 @@ fn run_record(
     io::write_all(STDOUT_FILENO, b"\t");
     let mut out = [0u8; 4096];
     let args = text_parts::part(input, label.end, end);
-    let size = answer(kind, input, args, k, figure, moves, &mut out);
+    let size = answer(kind, input, args, *k, figure, moves, &mut out);
     put(&out, size);
-    k
 }
 
 fn run(input: &mut [u8; 131072]) {
@@ -84,7 +87,7 @@ fn run(input: &mut [u8; 131072]) {
     let mut at = 0;
     loop {
         let end = text_runs::run_end(records, at, Run::Line);
-        k = run_record(records, at, end, k, &mut figure, &mut moves);
+        run_record(records, at, end, &mut k, &mut figure, &mut moves);
         if records.len() <= end {
             return;
         }

@@ -6,10 +6,7 @@ use text_runs::Run;
 
 // The byte at an offset, or past the end 0.
 fn byte(bytes: &[u8], at: usize) -> u8 {
-    if bytes.len() <= at {
-        return 0;
-    }
-    bytes[at]
+    bytes.get(at).copied().unwrap_or(0)
 }
 
 // The value of a digit, to base 16; of another byte, 0.
@@ -17,8 +14,8 @@ fn digit(b: u8) -> u8
     ensures { result < 16 }
 {
     match b {
-        48..=57 => b - 48,
-        97..=102 => b - 87,
+        b'0'..=b'9' => b - b'0',
+        b'a'..=b'f' => b - b'a' + 10,
         _ => 0,
     }
 }
@@ -29,6 +26,7 @@ fn append_text(buf: &mut [u8; 65600], n: usize, input: &[u8], at: usize) -> usiz
     let bytes = text_parts::part(input, at, text_runs::run_end(input, at, Run::Line));
     let mut filled = n;
     let mut i = 1;
+    // (a `for` cannot pass over the two digits)
     while i < bytes.len() {
         if 65600 <= filled {
             return filled;
@@ -46,7 +44,7 @@ fn append_text(buf: &mut [u8; 65600], n: usize, input: &[u8], at: usize) -> usiz
     filled
 }
 
-// A text, and after it spaces.
+// A text, and after it spaces. (No heap is used here, so its size stands beside it.)
 #[derive(Clone, Copy)]
 pub(crate) struct Text {
     pub bytes: [u8; 65600],
@@ -58,20 +56,15 @@ pub(crate) fn text_of(input: &[u8], args: &[u8], k: Kept) -> Text {
     let mut bytes = [32u8; 65600];
     let mut filled = append_text(&mut bytes, 0, input, k.front);
     let copies = next_number(input, k.copies);
-    let mut i = 0;
-    while i < copies.size {
+    for _ in 0..copies.size {
         filled = append_text(&mut bytes, filled, input, copies.at);
-        i += 1;
     }
     filled = append_text(&mut bytes, filled, args, 0);
     filled = append_text(&mut bytes, filled, input, k.back);
     let least = next_number(input, k.pad);
-    if filled < least.size {
-        filled = least.size;
-    }
     Text {
         bytes,
-        size: filled,
+        size: filled.max(least.size),
     }
 }
 
@@ -95,21 +88,12 @@ pub(crate) fn next_number(args: &[u8], at: usize) -> Number {
         };
     }
     let mut size: usize = 0;
-    let mut i = t.start;
-    while i < t.end {
-        size = (size * 10 + digit(byte(args, i)) as usize) % 1000000000000000000;
-        i += 1;
+    for b in text_parts::part(args, t.start, t.end) {
+        size = (size * 10 + digit(*b) as usize) % 1000000000000000000;
     }
     let value = size as i64;
-    if first == b'-' {
-        return Number {
-            value: 0 - value,
-            size,
-            at: t.end,
-        };
-    }
     Number {
-        value,
+        value: if first == b'-' { 0 - value } else { value },
         size,
         at: t.end,
     }
@@ -118,12 +102,9 @@ pub(crate) fn next_number(args: &[u8], at: usize) -> Number {
 // Fills a table with the numbers that a record writes, and with zeros where there are no more.
 pub(crate) fn numbers(args: &[u8], from: usize, table: &mut [i64; 11779]) {
     let mut at = from;
-    let mut i = 0;
-    while i < 11779 {
+    for z in table {
         let n = next_number(args, at);
-        let z = n.value;
-        table[i] = z;
+        *z = n.value;
         at = n.at;
-        i += 1;
     }
 }

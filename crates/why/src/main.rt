@@ -1,7 +1,6 @@
 #![tactic(auto)]
 // Loads the pair on standard input and prints why each face is shown or hidden at each frame, or why the pair is refused. The pair
 // is eight decimal digits giving the figure's length, a line feed, the figure, and then the movement.
-use pair_head::Division;
 use table_counts::{FigureCounts, MovementCounts};
 
 const STDIN_FILENO: i32 = 0;
@@ -18,12 +17,10 @@ fn tell_face(
     total: usize,
 ) {
     let mut out = [0u8; 18944];
-    let mut at = 0;
-    while at < total {
-        let end = if 256 < total - at { at + 256 } else { total };
+    for at in (0..total).step_by(256) {
+        let end = at + total.saturating_sub(at).min(256);
         let filled = why_listing::list_why(&mut out, table, n, moves, m, face, at, end);
         io::write_all(STDOUT_FILENO, &out[..filled]);
-        at = end;
     }
 }
 
@@ -55,8 +52,8 @@ fn tell_pair(figure: &[u8], movement: &[u8]) {
 
 fn tell_text(text: &[u8], more: usize) {
     match pair_head::divide(text, more) {
-        Division::Refused(number) => tell_refusal(number, 0, 0),
-        Division::Figure(end) => tell_pair(
+        Err(e) => tell_refusal(usize::from(e.number), 0, 0),
+        Ok(end) => tell_pair(
             text_parts::part(text, 9, end),
             text_parts::part(text, end, text.len()),
         ),

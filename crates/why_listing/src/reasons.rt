@@ -1,11 +1,11 @@
 // Why faces are shown or hidden, as text.
-ghost use Rattle.std.specs.Prelude.{◌≡◌, ◌-◌, ◌*◌, ◌≤◌, length, take};
+ghost use Rattle.std.specs.Prelude.{◌≡◌, ◌-◌, ◌*◌, ◌≤◌, length, take, Some};
 ghost use Rattle.report_text.specs.Output.{output, appended};
 ghost use Rattle.report_lists.specs.Lists.{appended_each, text_of};
 ghost use Rattle.player_why.specs.Answers.{explained};
 ghost use Rattle.why_listing.specs.Reasons.{head_parts, reason_line, why_parts, why_lines, why_text};
 
-use player_why::{Explained, why};
+use player_why::{Reason, why};
 use report_lists::shown;
 use report_rows::append_row;
 use report_text::{append, append_number};
@@ -22,29 +22,30 @@ fn append_head(buf: &mut [u8], n: usize, face: usize, at: usize) -> usize
     append_number(buf, second, shown(at))
 }
 
-// Puts the rest of the line, or a refusal's, after the first n bytes of buf.
-fn append_reason(buf: &mut [u8], n: usize, answer: Explained) -> usize
-    ensures { output result buf.new ≡ appended (output n buf.old) (reason_line (explained answer)) }
+// Puts the rest of the line after the first n bytes of buf.
+fn append_reason(buf: &mut [u8], n: usize, reason: Reason) -> usize
+    ensures { output result buf.new ≡ appended (output n buf.old) (reason_line (explained (Some reason))) }
 {
-    match answer {
-        Explained::Refused => append_row(buf, n, b"refused", &[21, 0]),
-        Explained::Shown => append(buf, n, b"\tshown\n"),
-        Explained::Corner { corner } => append_row(buf, n, b"\tcorner", &[shown(corner)]),
-        Explained::Unset => append(buf, n, b"\tunset\n"),
-        Explained::Line { row } => append_row(buf, n, b"\tline", &[shown(row)]),
+    match reason {
+        Reason::Shown => append(buf, n, b"\tshown\n"),
+        Reason::Corner(corner) => append_row(buf, n, b"\tcorner", &[shown(corner)]),
+        Reason::Unset => append(buf, n, b"\tunset\n"),
+        Reason::Line(row) => append_row(buf, n, b"\tline", &[shown(row)]),
     }
 }
 
 // Puts a line of face, frame and reason, or a refusal's, after the first n bytes of buf.
-pub fn append_why(buf: &mut [u8], n: usize, face: usize, at: usize, answer: Explained) -> usize
+pub fn append_why(buf: &mut [u8], n: usize, face: usize, at: usize, answer: Option<Reason>) -> usize
     ensures parts { output result buf.new ≡ appended_each (output n buf.old) (why_parts face at (explained answer)) }
     ensures most { length (text_of (why_parts face at (explained answer))) ≤ 74 }
 {
-    if let Explained::Refused = answer {
-        return append_reason(buf, n, answer);
+    match answer {
+        None => append_row(buf, n, b"refused", &[21, 0]),
+        Some(reason) => {
+            let head = append_head(buf, n, face, at);
+            append_reason(buf, head, reason)
+        }
     }
-    let head = append_head(buf, n, face, at);
-    append_reason(buf, head, answer)
 }
 
 // Puts a line for each frame from first on and before end at the start of buf. With 74 bytes for each they all fit.
@@ -63,11 +64,9 @@ pub fn list_why(
     ensures whole { (end - first) * 74 ≤ length buf.old → take result buf.new ≡ why_text n table.now m moves.now face first (end - first) }
 {
     let mut filled = 0;
-    let mut at = first;
-    while at < end {
+    for at in first..end {
         let answer = why(table, n, moves, m, face, at);
         filled = append_why(buf, filled, face, at, answer);
-        at += 1;
     }
     filled
 }

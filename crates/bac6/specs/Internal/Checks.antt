@@ -13,7 +13,7 @@ use Rattle.bac6_check.specs.Internal.Rows.{rows_fault}
 
 -- the first fault of the rules
 unfoldable pub rules_fault : Parsed → List ℤ → Fault
-rules_fault p rows = rows_fault p.counts (fault_of p.faulty p.fault) rows
+rules_fault p rows = rows_fault p.counts (fault_of p.fault) rows
 
 -- a figure that a text says, and what parsing kept of it over tables for the most rows of each list, with no vertex claimed
 pub record Held (p : Parsed) (rows owners names : List ℤ) : Type 0 where

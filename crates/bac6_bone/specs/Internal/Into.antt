@@ -1,9 +1,7 @@
 -- A bone read, and what the code keeps of it: its row and the claims of its entries.
-use Rattle.std.specs.Prelude.{◌≡◌, List, [], ◌∷◌, ◌++◌, Bool, ℕ, zero, suc, ◌+◌, ℤ, pos, get_or, set}
+use Rattle.std.specs.Prelude.{List, [], ◌∷◌, ◌++◌, Bool, ℕ, zero, suc, ℤ, pos, get_or, set}
 use Rattle.std.proofs.Math.Option.{Option, none, some}
-use Rattle.parse_cursor.specs.declared.cursor.Cursor.{Cursor}
-use Rattle.parse_spec.specs.Readers.{Got, Reader, ◌>>=◌, ◌>>◌, pure, keyword}
-use Rattle.parse_chunks.specs.Internal.Heads.{Reached}
+use Rattle.parse_spec.specs.Readers.{Reader, ◌>>=◌, ◌>>◌, pure, keyword}
 use Rattle.table_rows.specs.Internal.Overlay.{overlay_at}
 use Rattle.parse_spec.specs.Fields.{fields}
 use Rattle.bac6_text.specs.Figure.{Bone}
@@ -11,9 +9,9 @@ use Rattle.bac6_text.specs.Grammar.{BoneField, name_in, flag_in, numbers_in, bon
 use Rattle.bac6_text.specs.Layout.{name_numbers, bone_row}
 use Rattle.bac6_owners.specs.Internal.Claims.{claimed}
 
--- where a reader leaves a cursor: the value that it read, and what the code keeps of that where the cursor has not refused
-abbrev pub Yields : {A S : Type 0} → List ℕ → Cursor → Got A → (A → S) → S → Type 0
-Yields text r g f s = Reached text r g (λ a. f a ≡ s)
+-- what a reader gives, as the code keeps it
+abbrev pub kept : {A S : Type 0} → Reader A → (A → S) → Reader S
+kept r f = r >>= λ a. pure (f a)
 
 -- three numbers, each 0 where it has not been read
 unfoldable pub three : List ℤ → List ℤ

@@ -1,8 +1,6 @@
 -- Rule 10 over a table of bones: its flags, and the parents that its rows are given.
-use Rattle.std.specs.Prelude.{◌≡◌, List, [], ◌∷◌, map, true, false, ℕ, suc, ◌+◌, ◌-◌, ◌*◌, ◌≤◌, ◌<◌, length, drop, get_or, set, ℤ, pos}
+use Rattle.std.specs.Prelude.{◌≡◌, List, [], ◌∷◌, map, true, false, ℕ, suc, ◌+◌, ◌-◌, ◌*◌, ◌≤◌, ◌<◌, length, drop, get_or, set, ℤ, pos, Option, Some, None}
 use Rattle.bac6_text.specs.Rules.{Flags, Placed, placed, short, is_set, joined, bone_list, parents_in}
-use Rattle.bac6_bone_rules.specs.declared.bone.Walk.{Walk}
-use Rattle.bac6_bone_rules.specs.declared.bone.Walk.TheVariants.{At, Short}
 use Rattle.table_columns.specs.Parts.{rows_of}
 
 -- a row's child flag and brother flag
@@ -28,14 +26,14 @@ one_bone n parent row (f ∷ flags) =
 
 -- what a walk over bones from a row on answers and leaves, of n rows, where `p` is what they are placed as:
 -- the next row, and the parents set; or that the rows run out, with some parents set
-unfoldable pub Walked : ℕ → ℕ → List ℤ → List ℤ → Placed → Walk → Type 0
-Walked n row entry exit p (At next) =
+unfoldable pub Walked : ℕ → ℕ → List ℤ → List ℤ → Placed → Option ℕ → Type 0
+Walked n row entry exit p (Some next) =
     (p ≡ placed (parents_in p) next (drop next (flags_in n entry)))
     × (exit ≡ parents_from row (parents_in p) entry)
     × (next ≡ row + length (parents_in p))
     × (row < next)
     × (next ≤ n)
-Walked n row entry exit p Short = (p ≡ short) × ((ps : List ℤ) × (exit ≡ parents_from row ps entry) × (length ps ≤ n - row))
+Walked n row entry exit p None = (p ≡ short) × ((ps : List ℤ) × (exit ≡ parents_from row ps entry) × (length ps ≤ n - row))
 
 -- the table after all bones are placed: where the rows run out, some of their parents are set, and nothing else is altered
 unfoldable pub Settled : ℕ → List ℤ → List ℤ → Placed → Type 0

@@ -1,6 +1,6 @@
 -- Readers of bones, and what the code keeps of what they read: rows of a table, and the claims of vertex entries.
-use Rattle.std.specs.Prelude.{List, map, Bool, true, false, ℕ, ◌+◌, ◌*◌, ℤ, pos, length}
-use Rattle.parse_spec.specs.Readers.{Reader, ◌>>=◌, ◌>>◌, pure, many⁺}
+use Rattle.std.specs.Prelude.{List, map, Option, Some, None, ℕ, ◌+◌, ◌*◌, ℤ, pos, length}
+use Rattle.parse_spec.specs.Readers.{Reader, ◌>>=◌, pure, many⁺}
 use Rattle.table_rows.specs.Internal.Overlay.{overlay_at}
 use Rattle.bac6_text.specs.Figure.{Bone}
 use Rattle.bac6_text.specs.Grammar.{bone}
@@ -10,9 +10,9 @@ use Rattle.refusal.specs.Faults.{Fault, clear, fault}
 use Rattle.bac6_owners.specs.Internal.Claims.{claimed_bone, claimed_bones}
 
 -- the first fault of rule 11, as the code holds it
-unfoldable pub fault_of : Bool → ℕ → Fault
-fault_of false row = clear
-fault_of true row = fault 11 row
+unfoldable pub fault_of : Option ℕ → Fault
+fault_of None = clear
+fault_of (Some row) = fault 11 row
 
 -- a bone more: how many there are, their rows in a table, and their claims
 unfoldable pub bone_step : ℕ → ℕ × List ℤ × (Fault × List ℤ) → Bone → ℕ × List ℤ × (Fault × List ℤ)

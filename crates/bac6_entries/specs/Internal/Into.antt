@@ -1,7 +1,7 @@
 -- The entries of a bone, as the code keeps them: the claims after each.
 use Rattle.std.specs.Prelude.{List, Bool, ℕ, ℤ}
 use Rattle.text_numerals.specs.Numbers.{INT}
-use Rattle.parse_spec.specs.Readers.{Reader, ◌>>=◌, ◌>>◌, pure, number, many}
+use Rattle.parse_spec.specs.Readers.{Reader, ◌>>=◌, pure, number, many}
 use Rattle.bac6_text.specs.Grammar.{bone}
 use Rattle.bac6_owners.specs.Internal.Claims.{claimed}
 

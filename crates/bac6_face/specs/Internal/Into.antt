@@ -4,7 +4,7 @@ use Rattle.text_numerals.specs.Numbers.{INT}
 use Rattle.parse_spec.specs.Readers.{Reader, ◌>>=◌, ◌>>◌, pure, open_bracket, close_bracket, keyword, closed, number, numbers, one_of, row_of}
 use Rattle.table_rows.specs.Internal.Overlay.{overlay_at}
 use Rattle.bac6_text.specs.Figure.{Face}
-use Rattle.bac6_text.specs.Grammar.{face, face_by}
+use Rattle.bac6_text.specs.Grammar.{face_by}
 use Rattle.bac6_text.specs.Layout.{face_row}
 
 -- a face after its first i3 or i4, by that word's bytes

@@ -6,6 +6,10 @@ use Rattle.table_rows.specs.Flat.{flat}
 use Rattle.table_rows.specs.Internal.Overlay.{overlay_at}
 use Rattle.bac6_text.specs.Grammar.{or_zero, material_kinds, material}
 
+-- the chunks of a material up to its ), as its row
+unfoldable pub material_row : Reader (List ℤ)
+material_row = fields material_kinds >>= λ fs. pure (map or_zero fs)
+
 -- what stands in a material after its (
 unfoldable pub material_tail : Reader (List ℤ)
 material_tail = keyword "material" >> fields material_kinds >>= λ fs. pure (map or_zero fs)

@@ -6,4 +6,4 @@ use Rattle.bac6_shape.specs.Internal.Parse.{Kept}
 
 unfoldable pub kept_by : Parsed → List ℤ → List ℤ → List ℤ → Kept
 kept_by p rows owners names =
-    record { name = (p.place, p.length); counts = p.counts; claims = (fault_of p.faulty p.fault, owners); rows = rows; names = names }
+    record { name = (p.place, p.length); counts = p.counts; claims = (fault_of p.fault, owners); rows = rows; names = names }

@@ -1,9 +1,8 @@
--- What the enum of the code means.
+-- What the answer of the code means.
 use Rattle.std.proofs.Math.Option.{Option, none, some}
-use Rattle.std.specs.Prelude.{ℕ}
-use Rattle.player_names.specs.declared.names.Found.{Found}
-use Rattle.player_names.specs.declared.names.Found.TheVariants as names
+use Rattle.std.specs.Prelude.{ℕ, Option as Answer, Some, None}
+use Rattle.player_names.specs.declared.names.NameSpan.{NameSpan}
 
-unfoldable pub found : Found → Option (ℕ × ℕ)
-found names.Refused = none
-found (names.At start end) = some (start, end)
+abbrev pub found : Answer NameSpan → Option (ℕ × ℕ)
+found None = none
+found (Some s) = some (s.start, s.end)

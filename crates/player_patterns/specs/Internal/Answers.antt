@@ -1,19 +1,22 @@
 -- What the code answers on the pattern line that decides of a group at a frame.
-use Rattle.std.specs.Prelude.{List, Bool, ◌&&◌, ℕ, ℤ}
+use Rattle.std.specs.Prelude.{List, Bool, ◌&&◌, ℕ, ℤ, Option as Answer, Some, None}
 use Rattle.std.proofs.Math.Option.{Option, none, some}
 use Rattle.refusal.specs.Faults.{is_clear}
 use Rattle.tra4_text.specs.Movement.{Pattern}
 use Rattle.tra4_text.specs.Rules.{patterns_fault}
 use Rattle.player_spec.specs.Deciding.{Line, flag_of, deciding}
 use Rattle.player_spec.specs.Lookups.{only_if, lines_fine}
-use Rattle.player_patterns.specs.declared.deciding.Deciding.{Deciding}
-use Rattle.player_patterns.specs.declared.deciding.Deciding.TheVariants as answers
+use Rattle.player_patterns.specs.declared.deciding.Line.{Line as Answered}
 
--- none where it refuses; else the row and the flag, if there is a line
-unfoldable pub decided : Deciding → Option (Option (ℕ × Bool))
-decided answers.Refused = none
-decided answers.Nothing = some none
-decided (answers.Line row shown) = some (some (row, shown))
+-- a line's row and flag, if there is a line
+abbrev pub line_told : Answer Answered → Option (ℕ × Bool)
+line_told None = none
+line_told (Some l) = some (l.row, l.shown)
+
+-- none where it refuses
+abbrev pub decided : Answer (Answer Answered) → Option (Option (ℕ × Bool))
+decided None = none
+decided (Some l) = some (line_told l)
 
 unfoldable pub row_and_flag : Option Line → Option (ℕ × Bool)
 row_and_flag none = none

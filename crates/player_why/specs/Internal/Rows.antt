@@ -1,5 +1,5 @@
 -- Why a face is shown or hidden, by its row, in a table that holds what its counts say.
-use Rattle.std.specs.Prelude.{List, map, Bool, true, false, ◌&&◌, ◌||◌, ℕ, ℤ, nat_abs, take}
+use Rattle.std.specs.Prelude.{List, map, Bool, true, false, ◌&&◌, ◌||◌, ℕ, ℤ, nat_abs, take, Option as Answer, Some, None}
 use Rattle.std.proofs.Math.Option.{Option, none, some}
 use Rattle.table_references.specs.References.{is_none}
 use Rattle.tra4_text.specs.Movement.{Pattern}
@@ -7,13 +7,11 @@ use Rattle.tra4_text.specs.Rules.{patterns_fault}
 use Rattle.table_references.specs.Index.{is_index}
 use Rattle.table_counts.specs.declared.counts.FigureCounts.{FigureCounts}
 use Rattle.refusal.specs.Faults.{is_clear}
-use Rattle.player_spec.specs.Reasons.{Reason, shown, by_corner, unset, by_line, first_unowned, corner_first, reason_of}
+use Rattle.player_spec.specs.Reasons.{Reason, shown, unset, by_line, first_unowned, reason_of}
 use Rattle.player_spec.specs.Lookups.{only_if, size_fine, corners_fine, lines_fine, owner_at, owners_fine, corner_owners, group_named}
 use Rattle.table_columns.specs.Columns.{face_size, face_vertices, face_group}
-use Rattle.player_why.specs.declared.reason.Explained.{Explained}
-use Rattle.player_why.specs.declared.reason.Explained.TheVariants as reasons
-use Rattle.player_why.specs.declared.owning.Owners.{Owners}
-use Rattle.player_why.specs.declared.owning.Owners.TheVariants as corners
+use Rattle.player_why.specs.declared.reason.Reason.{Reason as Named}
+use Rattle.player_why.specs.Answers.{reason_named}
 
 module _ (n : FigureCounts) (table : List ℤ) where
   -- the first corner without a bone: the size and the vertices are sound, and so many corners are used
@@ -39,27 +37,20 @@ module _ (n : FigureCounts) (table : List ℤ) where
       (reason_of (corner_owners n table row) (group_named (face_group row)) patterns at)
 
 -- what the code answers, without number, place and file
-unfoldable pub reason_told : Explained → Option Reason
-reason_told reasons.Refused = none
-reason_told reasons.Shown = some shown
-reason_told (reasons.Corner corner) = some (by_corner corner)
-reason_told reasons.Unset = some unset
-reason_told (reasons.Line row) = some (by_line row)
+abbrev pub reason_told : Answer Named → Option Reason
+reason_told None = none
+reason_told (Some r) = some (reason_named r)
 
 -- what the code says of the corners' owners
-unfoldable pub corner_told : Owners → Option (Option ℕ)
-corner_told corners.Refused = none
-corner_told corners.All = some none
-corner_told (corners.Without corner) = some (some corner)
+abbrev pub corner_told : Answer ℕ → Option ℕ
+corner_told None = none
+corner_told (Some k) = some k
 
--- by the row and the flag of the line that decides
-unfoldable pub line_told : Option (Option (ℕ × Bool)) → Option Reason
-line_told none = none
-line_told (some none) = some unset
-line_told (some (some line)) = elim line.1 [ true ↦ some shown | false ↦ some (by_line line.0) ]
+abbrev pub corners_told : Answer (Answer ℕ) → Option (Option ℕ)
+corners_told None = none
+corners_told (Some corner) = some (corner_told corner)
 
--- both answered, and corners first
-unfoldable pub first_reason : Option (Option ℕ) → Option Reason → Option Reason
-first_reason none r = none
-first_reason (some c) none = none
-first_reason (some c) (some r) = some (corner_first c r)
+-- by the row and the flag of the line that decides, if there is one
+abbrev pub line_named : Option (ℕ × Bool) → Reason
+line_named none = unset
+line_named (some line) = elim line.1 [ true ↦ shown | false ↦ by_line line.0 ]

@@ -1,9 +1,9 @@
 -- 01's number and place of what a check answers.
-use Rattle.refusal.specs.declared.checked.Checked.{Checked}
-use Rattle.refusal.specs.declared.checked.Checked.TheVariants.{Clear, Refused}
+use Rattle.std.specs.Prelude.{Result, Ok, Err}
+use Rattle.refusal.specs.declared.checked.Refusal.{Refusal}
 use Rattle.refusal.specs.Faults.{Fault, clear, fault}
 
 -- 01's number and place, or none
-unfoldable pub refusal : Checked → Fault
-refusal Clear = clear
-refusal (Refused n o) = fault n o
+abbrev pub refusal : {A : Type 0} → Result A Refusal → Fault
+refusal (Ok a) = clear
+refusal (Err e) = fault e.number e.place

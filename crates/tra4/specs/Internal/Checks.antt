@@ -1,31 +1,26 @@
 -- The rules over what was parsed, and what is known of it.
-use Rattle.std.specs.Prelude.{◌≡◌, List, Bool, true, false, ℕ, ◌≤◌, ℤ, length}
+use Rattle.std.specs.Prelude.{◌≡◌, List, ℕ, ◌≤◌, ℤ, length, unwrap_or}
 use Rattle.refusal.specs.Faults.{Fault}
 use Rattle.text_tokens.specs.Tokens.{Lexeme, lex}
 use Rattle.parse_spec.specs.Readers.{got}
 use Rattle.tra4_text.specs.Movement.{Movement}
 use Rattle.tra4_text.specs.Grammar.{movement}
 use Rattle.tra4_bone.specs.Internal.Into.{kept}
-use Rattle.tra4_parse.specs.declared.shape.Parsed.{Parsed}
+use Rattle.tra4_parse.specs.declared.shape.Shape.{Shape}
 use Rattle.tra4_parse.specs.Internal.Parse.{MovementValue, movement_value}
 use Rattle.tra4_rules.specs.Internal.Order.{tables_fault}
 use Rattle.tra4.specs.Internal.Parse.{value_of}
 
--- more keys than the most, where how many is not known
-unfoldable pub key_count : Bool → ℕ → ℕ
-key_count true n = 4097
-key_count false n = n
-
--- the first fault of the rules
-unfoldable pub rules_fault : Parsed → List ℤ → List ℤ → List ℤ → Fault
-rules_fault p b k g = tables_fault p.total p.bones (key_count p.over p.keys) p.patterns b k g
+-- the first fault of the rules; where there are too many keys, how many is not known, and one more than the most stands for it
+unfoldable pub rules_fault : Shape → List ℤ → List ℤ → List ℤ → Fault
+rules_fault p b k g = tables_fault p.total p.bones (unwrap_or p.keys 4097) p.patterns b k g
 
 -- what parsing answers, with the tables that it leaves
-unfoldable pub parsed_as : Parsed → List ℤ → List ℤ → List ℤ → MovementValue
-parsed_as p b k g = movement_value p.total (p.place, p.length) (p.bones, kept p.over b p.keys k) (p.patterns, g)
+unfoldable pub parsed_as : Shape → List ℤ → List ℤ → List ℤ → MovementValue
+parsed_as p b k g = movement_value p.total (p.place, p.length) (p.bones, kept p.keys b k) (p.patterns, g)
 
 -- a movement that a text says, and what parsing kept of it over tables for the most rows of each list
-pub record Held (p : Parsed) (b k g : List ℤ) : Type 0 where
+pub record Held (p : Shape) (b k g : List ℤ) : Type 0 where
   pub text : List ℕ
   pub short : length text ≤ 65536
   pub read : Movement

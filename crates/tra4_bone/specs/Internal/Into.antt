@@ -1,5 +1,6 @@
 -- What the code keeps of bones: their rows, how many keys they have, and those by bone and channel number.
-use Rattle.std.specs.Prelude.{List, ◌∷◌, Bool, true, false, ℕ, ◌+◌, ◌*◌, leb, ℤ, pos, length}
+use Rattle.std.specs.Prelude.{List, ◌∷◌, true, false, ℕ, ◌+◌, ◌*◌, leb, ℤ, pos, length}
+use Rattle.std.specs.Prelude.{Option as Count, Some, None}
 use Rattle.std.proofs.Math.Option.{Option, none, some}
 use Rattle.parse_spec.specs.Readers.{Reader, ◌>>=◌, pure}
 use Rattle.table_rows.specs.Internal.Overlay.{overlay_at}
@@ -14,9 +15,9 @@ abbrev pub Kept : Type 0
 Kept = Option (List ℤ × ℕ × List ℤ)
 
 -- the same as the code holds it
-unfoldable pub kept : Bool → List ℤ → ℕ → List ℤ → Kept
-kept true rows n keys = none
-kept false rows n keys = some (rows, n, keys)
+unfoldable pub kept : Count ℕ → List ℤ → List ℤ → Kept
+kept None rows keys = none
+kept (Some n) rows keys = some (rows, n, keys)
 
 unfoldable pub key_count : Bone → ℕ
 key_count b = length (all_keys b.channels)

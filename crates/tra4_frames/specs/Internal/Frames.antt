@@ -1,8 +1,8 @@
 -- The frame before a key, as the code keeps it.
-use Rattle.std.specs.Prelude.{Bool, true, false, ℤ}
-use Rattle.std.proofs.Math.Option.{Option, none, some}
+use Rattle.std.specs.Prelude.{Option, Some, None, ℤ}
+use Rattle.std.proofs.Math.Option as of_specs
 
 -- none before the first
-unfoldable pub before_of : Bool → ℤ → Option ℤ
-before_of true f = none
-before_of false f = some f
+unfoldable pub before_of : Option ℤ → of_specs.Option ℤ
+before_of None = of_specs.none
+before_of (Some f) = of_specs.some f

@@ -1,10 +1,9 @@
 -- Rule 15 over tables: the key counts of the bone rows cut the key rows into channels.
-use Rattle.std.specs.Prelude.{◌≡◌, List, [], ◌∷◌, ◌++◌, ℕ, ◌*◌, ◌≤◌, length, take, drop, ℤ, pos, negsuc}
+use Rattle.std.specs.Prelude.{◌≡◌, List, [], ◌∷◌, ◌++◌, ℕ, ◌*◌, ◌≤◌, length, take, drop, ℤ, pos, negsuc, Result, Ok, Err}
 use Rattle.refusal.specs.Faults.{Fault, fault}
 use Rattle.tra4_text.specs.Movement.{Key, Channel}
 use Rattle.tra4_text.specs.Rules.{keys_fault}
-use Rattle.tra4_keys.specs.declared.key.Walk.{Walk}
-use Rattle.tra4_keys.specs.declared.key.Walk.TheVariants.{At, Refused}
+use Rattle.refusal.specs.declared.checked.Refusal.{Refusal}
 use Rattle.tra4_keys.specs.Internal.Rows.{whole_rows}
 use Rattle.table_columns.specs.Parts.{rows_of}
 
@@ -44,6 +43,6 @@ unfoldable pub keys_from : ℤ → List ℤ → ℕ → List ℕ → Fault
 keys_from total keys row counts = keys_fault total row (cut counts (drop row (whole_rows 2 keys)))
 
 -- what a walk over some channels from a key row on answers, whatever channels follow: the row to go on from, or the fault
-unfoldable pub Walked : ℤ → List ℤ → ℕ → List ℕ → Walk → Type 0
-Walked total keys row counts (At next) = (next * 2 ≤ length keys) × ((more : List ℕ) → keys_from total keys row (counts ++ more) ≡ keys_from total keys next more)
-Walked total keys row counts (Refused k p) = (more : List ℕ) → keys_from total keys row (counts ++ more) ≡ fault k p
+unfoldable pub Walked : ℤ → List ℤ → ℕ → List ℕ → Result ℕ Refusal → Type 0
+Walked total keys row counts (Ok next) = (next * 2 ≤ length keys) × ((more : List ℕ) → keys_from total keys row (counts ++ more) ≡ keys_from total keys next more)
+Walked total keys row counts (Err e) = (more : List ℕ) → keys_from total keys row (counts ++ more) ≡ fault e.number e.place

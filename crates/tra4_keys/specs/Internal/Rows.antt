@@ -1,5 +1,5 @@
 -- A table's rows.
-use Rattle.std.specs.Prelude.{List, [], ◌∷◌, true, false, ℕ, zero, suc, leb, length, take, drop, ℤ}
+use Rattle.std.specs.Prelude.{List, ℕ, length, ℤ}
 use Rattle.table_columns.specs.Parts.{rows_of}
 
 -- every whole row of a width, of one number or more

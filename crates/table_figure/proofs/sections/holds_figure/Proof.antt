@@ -1,5 +1,4 @@
 -- `holds_figure` says whether the sections end.
-use mathlib.Core.Path.{sym, ◌∙◌}
 use Rattle.table_figure.proofs.Mosts.{figure-ended}
 use borrow.Author.Rules.{rules}
 use Rattle.table_figure.proofs.sections.holds_figure.Statement.{statement}

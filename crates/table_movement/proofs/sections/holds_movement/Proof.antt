@@ -1,5 +1,4 @@
 -- `holds_movement` says whether the sections end.
-use mathlib.Core.Path.{sym, ◌∙◌}
 use Rattle.table_movement.proofs.Mosts.{movement-ended}
 use borrow.Author.Rules.{rules}
 use Rattle.table_movement.proofs.sections.holds_movement.Statement.{statement}

@@ -1,7 +1,6 @@
 -- `movement_in` is the definition: past both tests the sections are those of the counts.
 use mathlib.Core.Path.{◌≡◌, refl, ap, sym, ◌∙◌}
-use mathlib.Core.Bool.{true, false}
-use Prim.Native.Nat.{ℕ}
+use mathlib.Core.Bool.{true}
 use native.Mathlib.Omega.{arith}
 use borrow.Author.Tests.{not-true, not-false}
 use Rattle.table_movement.specs.declared.sections.MovementSections.{MovementSections}

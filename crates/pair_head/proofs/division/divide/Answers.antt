@@ -1,0 +1,16 @@
+-- `divide` by what is read of the first nine bytes.
+use Rattle.std.proofs.Common.{sym, ◌∙◌}
+use Rattle.pair_head.specs.Answers.{division_named}
+use Rattle.pair_head.proofs.Divisions.{too_short, by_length, by_none}
+use Rattle.pair_head.proofs.division.divide.Goals as goal
+
+pub returns-then-text-lt9 : goal.returns-then-text-lt9
+unfolding division_named
+returns-then-text-lt9 c = sym (too_short c.args.text.now c.args.more c.if-text-lt9.true)
+
+pub returns-in_default : goal.returns-in_default
+unfolding division_named
+returns-in_default c = sym (by_none c.args.text.now c.args.more c.parse_head.result c.parse_head.ensures c.in_default.is)
+
+pub returns : goal.returns
+returns c = c.divide_at.ensures ∙ sym (by_length c.args.text.now c.args.more c.parse_head.result c.parse_head.ensures c.in-Some.length c.in-Some.is)
