@@ -16,6 +16,8 @@ pub fn put(table: &mut [i64], at: usize, rows: &[i64]) -> usize
     ensures content { table.new ≡ overlay_at at rows.now table.old }
     ensures next { result ≡ min (at + length rows.now) (length table.old) }
 {
-    store(table, at, rows);
-    at.saturating_add(rows.len()).min(table.len())
+    let start = at.min(table.len());
+    let end = at.saturating_add(rows.len()).min(table.len());
+    store(&mut table[start..end], 0, rows);
+    end
 }
