@@ -2,11 +2,14 @@
 ghost use Rattle.std.specs.Prelude.{◌≡◌, ◌≤◌, length};
 ghost use Rattle.refusal.specs.Internal.Answers.{refusal};
 ghost use Rattle.refusal.specs.FirstBad.{first_bad};
+ghost use Rattle.table_references.specs.References.{is_row, is_none};
 ghost use Rattle.table_columns.specs.Parts.{rows_of};
 ghost use Rattle.bac6_face_rules.specs.Internal.Rows.{face_row_fine, corners_known};
 
 use refusal::Refusal;
-use table_columns::{FACE_CORNERS, FACE_MATERIAL, FACE_SIZE, face_uv, face_vertex};
+use table_columns::{
+    FACE_CORNERS, FACE_MATERIAL, FACE_SIZE, UvRow, VertexRow, face_uv, face_vertex,
+};
 use table_counts::FACE_WIDTH;
 use table_references::{is_none, is_row};
 
@@ -48,13 +51,30 @@ fn are_corners(f: &[i64], used: usize, points: usize, uvs: usize) -> bool
     let mut rows = true;
     let mut none = true;
     for k in 0..used {
-        let v = face_vertex(f, k).0;
-        if !is_row(points, v) {
+        if !is_vertex(face_vertex(f, k), points) {
             return false;
         }
-        let u = face_uv(f, k).0;
-        rows = rows && is_row(uvs, u);
-        none = none && is_none(u);
+        let u = face_uv(f, k);
+        rows = rows && is_uv(u, uvs);
+        none = none && is_no_uv(u);
     }
     none || rows
+}
+
+fn is_vertex(v: VertexRow, points: usize) -> bool
+    ensures { result ≡ is_row points v.0 }
+{
+    is_row(points, v.0)
+}
+
+fn is_uv(u: UvRow, uvs: usize) -> bool
+    ensures { result ≡ is_row uvs u.0 }
+{
+    is_row(uvs, u.0)
+}
+
+fn is_no_uv(u: UvRow) -> bool
+    ensures { result ≡ is_none u.0 }
+{
+    is_none(u.0)
 }

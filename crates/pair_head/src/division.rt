@@ -1,5 +1,5 @@
 // The head of a pair, and where its figure ends.
-ghost use Rattle.std.specs.Prelude.{◌≡◌};
+ghost use Rattle.std.specs.Prelude.{◌≡◌, IfErr};
 ghost use Rattle.pair_head.specs.Division.{head_of, divided_at, divided};
 ghost use Rattle.pair_head.specs.Answers.{length_named, division_named};
 
@@ -37,7 +37,8 @@ pub fn parse_head(bytes: &[u8]) -> Option<usize>
 
 // Where a figure of so many bytes ends, where left bytes after the head are at hand and more follow.
 fn divide_at(left: usize, more: usize, length: usize) -> Result<usize, Refusal>
-    ensures { division_named result ≡ divided_at left more length }
+    ensures answer { division_named result ≡ divided_at left more length }
+    ensures place { IfErr result (λ e. e.place ≡ 0) }
 {
     if length <= 65536 {
         return if length <= left {
@@ -54,7 +55,8 @@ fn divide_at(left: usize, more: usize, length: usize) -> Result<usize, Refusal>
 
 // Where the figure ends in an input of which a text is at hand and more bytes follow.
 pub fn divide(text: &[u8], more: usize) -> Result<usize, Refusal>
-    ensures { division_named result ≡ divided text.now more }
+    ensures answer { division_named result ≡ divided text.now more }
+    ensures place { IfErr result (λ e. e.place ≡ 0) }
 {
     if text.len() < 9 {
         return Err(SHORT);

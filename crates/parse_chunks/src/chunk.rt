@@ -28,10 +28,13 @@ fn next_keyword(text: &[u8], at: usize, list: &[u8], seen: &mut [bool]) -> Parse
     ensures seen_after { seen.new ≡ marked seen.old result }
 {
     let t = text_tokens::next(text, at);
-    let k = word_index(text, t, list);
-    if text_kinds::is_plain(t.kind) && k < seen.len() && !seen[k] {
-        seen[k] = true;
-        return Ok((Some(k), t.end));
+    // (first, so that the list is not walked for another token)
+    if text_kinds::is_plain(t.kind) {
+        let k = word_index(text, t, list);
+        if k < seen.len() && !seen[k] {
+            seen[k] = true;
+            return Ok((Some(k), t.end));
+        }
     }
     Err(Refusal {
         number: 5,

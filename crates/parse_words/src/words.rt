@@ -34,9 +34,12 @@ pub fn one_of(text: &[u8], c: Cursor, list: &[u8], count: u8) -> Parsed<i64>
     ensures { parsed text.now result (λ z. z) ≡ from text.now c (word_in list.now count) }
 {
     let t = text_tokens::next(text, c?);
-    let row = word_index(text, t, list);
-    if is_plain(t.kind) && row < count as usize {
-        return Ok((row as i64, t.end));
+    // (first, so that the list is not walked for another token)
+    if is_plain(t.kind) {
+        let row = word_index(text, t, list);
+        if row < count as usize {
+            return Ok((row as i64, t.end));
+        }
     }
     Err(Refusal {
         number: 5,

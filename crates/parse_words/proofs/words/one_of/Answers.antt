@@ -7,7 +7,6 @@ use Rattle.text_tokens.specs.Internal.Answers.{lexeme_of}
 use Rattle.signed.proofs.Signed.{bits_pos}
 use Rattle.parse_words.proofs.Vocabulary.{among-other, among_past, among_yes, word_took, word_balked}
 use Rattle.parse_words.proofs.words.one_of.Goals as goal
-use Rattle.parse_words.proofs.words.one_of.Goals.{else-is_plain-via-then-is_plain+else-row-count, else-is_plain-via-else-is_plain}
 
 pub returns-then-row-count : goal.returns-then-row-count
 unfolding lexeme_of lexeme
@@ -16,12 +15,11 @@ returns-then-row-count c =
     rw (bits_pos _ small, c.in_ok-c.was, c.word_index-row.ensures)
     (word_took _ _ _ c.next-t.ensures _ _ (among_yes _ _ _ (sym (c.is_plain.ensures _) ∙ c.if-is_plain.true) (rw (← c.word_index-row.ensures) c.if-row-count.true)))
 
-pub returns : goal.returns
+pub returns-else-row-count : goal.returns-else-row-count
 unfolding lexeme_of lexeme
-returns c =
-    rw c.in_ok-c.was
-    (word_balked _ _ _ c.next-t.ensures _ _
-    (elim c.else-is_plain.branch [
-      | else-is_plain-via-then-is_plain+else-row-count w ↦ among_past _ _ _ (sym (c.is_plain.ensures _) ∙ w.if-is_plain.true) (rw (← c.word_index-row.ensures) w.if-row-count.false)
-      | else-is_plain-via-else-is_plain w ↦ among-other _ _ _ (sym (c.is_plain.ensures _) ∙ w.if-is_plain.false)
-    ]))
+returns-else-row-count c =
+    rw c.in_ok-c.was (word_balked _ _ _ c.next-t.ensures _ _ (among_past _ _ _ (sym (c.is_plain.ensures _) ∙ c.if-is_plain.true) (rw (← c.word_index-row.ensures) c.if-row-count.false)))
+
+pub returns-else-is_plain : goal.returns-else-is_plain
+unfolding lexeme_of lexeme
+returns-else-is_plain c = rw c.in_ok-c.was (word_balked _ _ _ c.next-t.ensures _ _ (among-other _ _ _ (sym (c.is_plain.ensures _) ∙ c.if-is_plain.false)))
