@@ -54,7 +54,7 @@ fn row_corner(f: &Figure, row: &[i64], k: usize) -> Option<FaceCorner>
     })
 }
 
-// A corner of a face, in any table with any counts.
+// A corner of a face, in any table with any counts. None is refusal 21.
 pub fn corner(table: &[i64], n: FigureCounts, face: usize, k: usize) -> Option<FaceCorner>
     ensures { cornered result ≡ numbered (corner_in n table.now face k) }
 {

@@ -21,6 +21,7 @@ pub(crate) struct Point {
     pub owner: i64,
 }
 
+// A texture coordinate.
 #[derive(Clone, Copy, PartialEq, Eq)]
 pub struct Uv {
     pub u: i64,

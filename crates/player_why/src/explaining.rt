@@ -33,7 +33,7 @@ fn row_why(f: &Figure, row: &[i64], patterns: &[i64], total: i64, at: usize) -> 
     Some(first_reason(corner, by_line(line)))
 }
 
-// Why a face is shown or hidden at a frame, in any tables with any counts.
+// Why a face is shown or hidden at a frame, in any tables with any counts. None is refusal 21.
 pub fn why(
     table: &[i64],
     n: FigureCounts,

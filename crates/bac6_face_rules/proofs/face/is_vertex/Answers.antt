@@ -1,7 +1,8 @@
 -- `is_vertex` is the test of the number that it holds.
+use Rattle.std.proofs.Common.{rules}
 use Rattle.table_references.specs.References.{is_row}
 use Rattle.signed.proofs.Tests.{tested}
 use Rattle.bac6_face_rules.proofs.face.is_vertex.Goals as goal
 
 pub returns : goal.returns
-returns c = tested (is_row c.args.points) c.args.v.0 (record { sfits = c.struct_told-1.given.0.1 }) c.is_row.ensures
+returns c = tested (is_row c.args.points) c.args.v.0 (search rules) c.is_row.ensures
