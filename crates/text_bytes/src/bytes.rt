@@ -36,7 +36,7 @@ pub fn is_letter(b: u8) -> bool
     is_between(b, 33, 126) && !matches!(b, b'(' | b')' | b'"' | b';')
 }
 
-#[tactic(auto, using(std::proofs::lemmas::Bool::Decides::nat_tests), unfolding(crate::specs::Bytes::class_of, crate::specs::Bytes::is_blank, crate::specs::Internal::Answers::class_named))]
+#[tactic(auto, using(std::proofs::lemmas::Bool::Decides::nat_tests), unfolding(crate::specs::Bytes::class_of, crate::specs::Bytes::is_blank, crate::specs::Bytes::is_letter, crate::specs::Internal::Answers::class_named))]
 pub fn class_of(b: u8) -> Class
     ensures { class_named result ≡ class_of b }
 {
@@ -46,7 +46,7 @@ pub fn class_of(b: u8) -> Class
         b'"' => Class::Quote,
         b';' => Class::Semicolon,
         _ if is_blank(b) => Class::Blank,
-        _ if is_letter(b) => Class::Letter,
+        _ if is_between(b, 33, 126) => Class::Letter,
         _ => Class::Other,
     }
 }
